@@ -1,0 +1,3 @@
+pub mod Counts
+pub mod Poll
+pub mod Want
