@@ -1,0 +1,2 @@
+pub mod Shutdown
+pub mod Wire
