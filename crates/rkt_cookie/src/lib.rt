@@ -1,0 +1,10 @@
+//! Cookies: what a cookie is, the text that it is sent as, and how such a text is read.
+#![tactic(auto)]
+
+mod builder;
+mod cookie;
+mod same_site;
+
+pub use builder::CookieBuilder;
+pub use cookie::Cookie;
+pub use same_site::SameSite;
