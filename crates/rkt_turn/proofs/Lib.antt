@@ -1,1 +1,3 @@
-pub mod WireSteps
+pub mod Counts
+pub mod TurnsKept
+pub mod WireKept

@@ -2,10 +2,22 @@
 //! that one pass has at a time.
 #![tactic(auto)]
 
+mod booked;
 mod glance;
+mod known;
+mod lends;
+mod pass;
 mod reason;
+mod steps;
+mod turn;
+mod turnstile;
 mod wire;
 
+pub use booked::Booked;
 pub use glance::{Glance, WireRule};
+pub use known::{Known, Returned, TurnRule};
+pub use pass::{Pass, PassOf};
 pub use reason::Reason;
+pub use turn::Turn;
+pub use turnstile::Turnstile;
 pub use wire::{Shutdown, TripWire, Wire};

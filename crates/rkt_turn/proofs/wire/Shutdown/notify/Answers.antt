@@ -1,5 +1,5 @@
 use Rattle.std.proofs.Common.{rules}
-use Rattle.rkt_turn.proofs.WireSteps.{trips}
+use Rattle.rkt_turn.proofs.WireKept.{trips}
 use Rattle.rkt_turn.proofs.wire.Shutdown.notify.Goals as goal
 
 pub compare_exchange-found-requires : goal.compare_exchange-found-requires

@@ -1,5 +1,5 @@
 use Rattle.std.proofs.Common.{rules, ap}
-use Rattle.rkt_turn.proofs.WireSteps.{twins, settles}
+use Rattle.rkt_turn.proofs.WireKept.{twins, settles}
 use Rattle.rkt_turn.proofs.wire.Shutdown.rejoin.Goals as goal
 
 pub join_seat-requires : goal.join_seat-requires

@@ -1,5 +1,5 @@
 use Rattle.std.proofs.Common.{rules}
-use Rattle.rkt_turn.proofs.WireSteps.{looks}
+use Rattle.rkt_turn.proofs.WireKept.{looks}
 use Rattle.rkt_turn.proofs.wire.Shutdown.tripped.Goals as goal
 
 pub load-self-inside-requires : goal.load-self-inside-requires

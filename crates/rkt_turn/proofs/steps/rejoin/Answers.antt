@@ -1,0 +1,11 @@
+use Rattle.std.proofs.Common.{rules, ap, ◌∙◌}
+use Rattle.rkt_turn.proofs.TurnsKept.{joins, settles}
+use Rattle.rkt_turn.proofs.steps.rejoin.Goals as goal
+
+pub join_seat-requires : goal.join_seat-requires
+join_seat-requires g c = let b = g.S.Booked in let ready = c.requires.ready in let other = c.requires.other in
+    (search rules, search rules, search rules, search rules, joins b.name b.entries b.legal b.keeps b.number _ _ _ _ _ ready.0 ready.1 ready.2 other.0 other.1)
+
+pub load-requires : goal.load-requires
+load-requires g c = let b = g.S.Booked in let ready = c.requires.ready in let now = c.join_seat.ensures.2 in
+    (search rules, search rules, settles b.name b.entries b.legal b.keeps b.number _ _ _ _ (ap (λ m. m.0.spent) now ∙ ready.0) (ap (λ m. m.0.turn) now ∙ ready.2))

@@ -1,0 +1,89 @@
+-- What a pass knows, and how a call changes it.
+use Rattle.std.specs.Prelude.{◌≡◌, ℕ, ◌+◌, ◌≤◌, ◌==◌, if◌then◌else◌, false, true, cond, List, [], ◌∷◌, ◌++◌, drop, length, Some, None}
+use Rattle.atomic_table.specs.declared.shared.Seat.{Seat}
+use Rattle.rkt_turn.specs.declared.known.Known.{Known}
+use Rattle.rkt_turn.specs.declared.known.Returned.{Returned}
+use Rattle.rkt_turn.specs.Booked.{longer}
+
+-- 2 ^ 64 - 2, the last number, which is given again and again
+abbrev pub last_number : ℕ
+last_number = 18446744073709551614
+
+-- 1 where two numbers are the same, and else 0
+abbrev pub one : ℕ → ℕ → ℕ
+one n k = cond (n == k) 1 0
+
+-- how often n stands in the list
+abbrev pub times : ℕ → List ℕ → ℕ
+times n [] = 0
+times n (k ∷ ks) = one n k + times n ks
+
+-- the list without one n, or without its last where it has no n: so it is always one shorter
+abbrev pub without : ℕ → List ℕ → List ℕ
+without n [] = []
+without n (k ∷ []) = []
+without n (k ∷ j ∷ ks) = cond (n == k) (j ∷ ks) (k ∷ without n (j ∷ ks))
+
+module _ {E : Type 0} where
+  -- what was entered under the number n by the passes that are listed
+  abbrev pub mine_of : ℕ → List (Returned E) → List E
+  mine_of n [] = []
+  mine_of n (r ∷ rs) = cond (n == r.number) r.mine (mine_of n rs)
+
+module _ {N E : Type 0} where
+  -- the first pass, before the state is there
+  abbrev pub newcomer : N → Known N E
+  newcomer name = record { name = Some name; number = 0; next = 1; turn = false; opened = false; spent = false; base = []; seen = []; other = []; mine = []; out = []; back = [] }
+
+  -- in a turn, where this list was found
+  abbrev pub entered : Known N E → List E → Known N E
+  entered v list = record v { turn = true; base = list; seen = list }
+
+  -- after a turn that left this list
+  abbrev pub gave : Known N E → List E → Known N E
+  gave v list = record v { turn = false; opened = true; base = []; seen = list; mine = v.mine ++ drop (length v.base) list }
+
+  -- the first pass, after it gave its next number away: the last one is given again and again
+  abbrev pub drew : Known N E → Known N E
+  drew v = record v { next = cond (v.next == last_number) last_number (v.next + 1); out = v.next ∷ v.out }
+
+  -- the pass that gets the number, which has seen as much
+  abbrev pub another : Known N E → Known N E
+  another v = record { name = v.name; number = v.next; next = 0; turn = false; opened = v.opened; spent = false; base = []; seen = v.seen; other = []; mine = []; out = []; back = [] }
+
+  -- what a pass gives back when it is joined
+  abbrev pub given_back : Known N E → Returned E
+  given_back v = record { number = v.number; mine = v.mine }
+
+  -- the first pass, after it took another one in and before it compares what the two have seen
+  abbrev pub took_in : Known N E → Known N E → Known N E
+  took_in v w = record v { other = w.seen; out = without w.number v.out; back = given_back w ∷ v.back }
+
+  -- after the comparison
+  abbrev pub compared : Known N E → Known N E
+  compared v = record v { seen = longer v.seen v.other; other = [] }
+
+  -- the first pass, after it took another one in: it has seen the longer list
+  abbrev pub joined : Known N E → Known N E → Known N E
+  joined v w = compared (took_in v w)
+
+  -- a pass that was joined to the first
+  abbrev pub gone : Known N E
+  gone = record { name = None; number = 0; next = 0; turn = false; opened = false; spent = true; base = []; seen = []; other = []; mine = []; out = []; back = [] }
+
+  -- the first pass and those that came back to it, each with what it entered
+  abbrev pub all_passes : Known N E → List (Returned E)
+  all_passes v = given_back v ∷ v.back
+
+  -- 1 where the pass has the number n and is not spent
+  abbrev pub has : ℕ → Known N E → ℕ
+  has n v = cond v.spent 0 (one n v.number)
+
+  -- how many passes have the number n
+  abbrev pub count : ℕ → List (Known N E) → ℕ
+  count n [] = 0
+  count n (v ∷ vs) = has n v + count n vs
+
+module _ {S N E : Type 0} where
+  abbrev pub view : Seat S (Known N E) → Known N E
+  view seat = seat.me.0

@@ -1,0 +1,107 @@
+//! What a thread enters with.
+ghost use Rattle.std.specs.Prelude.{◌≡◌, ◌-◌, ◌≤◌, true, false, [], ◌∷◌, if◌then◌else◌, None, length};
+ghost use Rattle.rkt_turn.specs.Booked.{InOneOrder};
+ghost use Rattle.rkt_turn.specs.Known.{last_number, view, drew, another, joined};
+ghost use Rattle.rkt_turn.specs.TurnRule.{Tied};
+
+use crate::booked::Booked;
+use crate::known::Known;
+use crate::steps;
+use crate::turnstile::Turnstile;
+use atomic_table::Seat;
+
+/// A pass of a turnstile.
+pub type Pass<S> = PassOf<S, <S as Booked>::Name, <S as Booked>::Entry>;
+
+/// A pass has no bound, so that a struct of generic code can hold one.
+pub struct PassOf<S, N, E> {
+    pub(crate) seat: Seat<Option<S>, Known<N, E>>,
+    pub(crate) number: u64,
+    pub(crate) next: u64,
+    pub(crate) ghost tied: { Tied seat number next },
+}
+
+// The number that is given again and again.
+const LAST_NUMBER: u64 = u64::MAX - 1;
+
+impl<S, N, E> PassOf<S, N, E> {
+    ghost use Rattle.rkt_turn.specs.Pass.{known};
+
+    pub(crate) fn over(
+        seat: Seat<Option<S>, Known<N, E>>,
+        number: u64,
+        next: u64,
+    ) -> PassOf<S, N, E>
+        requires numbers { ((view seat).number ≡ number) × ((view seat).next ≡ next) × (number ≤ last_number) × (next ≤ last_number) }
+        requires seat { ((view seat).spent ≡ false) × ((view seat).turn ≡ false) × (seat.me.1 ≡ []) }
+        ensures { result.seat ≡ seat }
+    {
+        PassOf { seat, number, next }
+    }
+
+    pub(crate) fn into_seat(self) -> Seat<Option<S>, Known<N, E>>
+        ensures { (result ≡ self.seat) × ((view result).spent ≡ false) × (result.me.1 ≡ (if (view result).turn then (0, None) ∷ [] else [])) }
+    {
+        let Self {
+            seat,
+            number: _,
+            next: _,
+        } = self;
+        seat
+    }
+
+    /// The first pass has the number 0.
+    pub fn number(&self) -> u64
+        ensures number { result ≡ (known self.now).number }
+        ensures last { result ≤ last_number }
+    {
+        self.number
+    }
+}
+
+impl<S: Booked> PassOf<S, S::Name, S::Entry> {
+    ghost use Rattle.rkt_turn.specs.Pass.{known, IsPassOf, IsSameLock, IsIdle, IsFirst};
+
+    /// A pass with the next number. At the last one, 2^64 - 2, that is given each time.
+    pub fn split(&mut self, turnstile: &Turnstile<S>) -> Pass<S>
+        requires own { IsPassOf turnstile.now self.old }
+        requires first { IsFirst self.old }
+        requires idle { IsIdle self.old }
+        ensures own { IsSameLock self.old self.new × IsSameLock self.old result }
+        ensures view { known self.new ≡ drew (known self.old) }
+        ensures another { known result ≡ another (known self.old) }
+    {
+        let number = self.next;
+        let seat = steps::draw(&turnstile.table.shared, &mut self.seat);
+        self.next = if number == LAST_NUMBER {
+            number
+        } else {
+            number + 1
+        };
+        PassOf::over(seat, number, 0)
+    }
+
+    /// Takes another pass back.
+    pub fn join(&mut self, turnstile: &Turnstile<S>, other: Pass<S>)
+        requires own { IsPassOf turnstile.now self.old × IsPassOf turnstile.now other }
+        requires first { IsFirst self.old }
+        requires idle { IsIdle self.old × IsIdle other }
+        ensures own { IsSameLock self.old self.new }
+        ensures view { known self.new ≡ joined (known self.old) (known other) }
+        ensures out { length (known self.new).out ≡ length (known self.old).out - 1 }
+        ensures one_order { InOneOrder (known self.old).seen (known other).seen }
+    {
+        steps::rejoin(&turnstile.table.shared, &mut self.seat, other.into_seat());
+    }
+}
+
+// A pass that is dropped cannot be joined, so its turnstile cannot be closed.
+impl<S, N, E> Drop for PassOf<S, N, E> {
+    fn drop(self) {
+        let Self {
+            seat: _,
+            number: _,
+            next: _,
+        } = self;
+    }
+}
