@@ -1,7 +1,8 @@
 -- The entries of one pass, beginnings of one list, and how often a number stands in a list or among the passes.
-use Rattle.std.proofs.Common.{◌≡◌, ◌≢◌, ℕ, zero, suc, ◌+◌, ◌-◌, ◌≤◌, eqb, true, false, cond, ltb, List, [], ◌∷◌, ◌++◌, length, set, sym, refl, ap, ◌∙◌, subst, inl, inr, ⊎_elim, arith, eq-eqb, ne_eqb, append_assoc}
+use Rattle.std.proofs.Common.{◌≡◌, ◌≢◌, ℕ, zero, suc, ◌+◌, ◌-◌, ◌<◌, ◌≤◌, Bool, length-append, eqb, true, false, cond, ltb, List, [], ◌∷◌, ◌++◌, length, set, sym, refl, ap, ◌∙◌, subst, inl, inr, ⊎_elim, arith, eq-eqb, ne_eqb, append_assoc}
 use Rattle.std.proofs.lemmas.List.Elements.{filter-append}
-use Rattle.std.proofs.lemmas.List.{append-nil}
+use Rattle.std.proofs.lemmas.List.{append-nil, nil_from_length}
+use Rattle.std.proofs.lemmas.Bool.{ltb-true, ltb-false}
 use mathlib.Core.Logic.{dite}
 use mathlib.Core.Option.{some, some-injective, some-ne-none}
 use native.Mathlib.Decide.{ℕ_discrete}
@@ -55,6 +56,21 @@ module _ {E : Type 0} where
       order (x ∷ xs) [] r q e = inr (x ∷ xs, refl)
       order (x ∷ xs) (y ∷ ys) r q e = let same : x ≡ y = cc in let tails : xs ++ r ≡ ys ++ q = cc in
           ⊎_elim (λ (s : StartsWith ys xs). inl (cons_after x y xs ys same s)) (λ (s : StartsWith xs ys). inr (cons_after y x ys xs (sym same) s)) (order xs ys r q tails)
+
+  begins_again : (a b : List E) → StartsWith b a → length b ≤ length a → StartsWith a b
+  begins_again a b s h = let sum : length b ≡ length a + length s.0 = ap length s.1 ∙ length-append a s.0 in let none : s.0 ≡ [] = nil_from_length s.0 (omega arith) in
+      let same : b ≡ a = s.1 ∙ (ap (λ r. a ++ r) none ∙ append-nil a) in ([], sym same ∙ sym (append-nil b))
+
+  -- the longer of two lists in one order begins with both
+  pub longer_begins : (a b : List E) → InOneOrder a b → StartsWith (longer a b) a × StartsWith (longer a b) b
+  longer_begins a b o = by_test (ltb (length a) (length b)) refl
+    where
+      by_test : (t : Bool) → ltb (length a) (length b) ≡ t → StartsWith (cond t b a) a × StartsWith (cond t b a) b
+      by_test true e = (
+        ⊎_elim (λ s. s) (λ (s : StartsWith a b). let l : length a < length b = ltb-true _ _ e in let sum : length a ≡ length b + length s.0 = ap length s.1 ∙ length-append b s.0 in absurd (omega arith)) o,
+        starts_whole b,
+      )
+      by_test false e = (starts_whole a, ⊎_elim (λ s. begins_again a b s (ltb-false _ _ e)) (λ s. s) o)
 
 -- without one k, where k stands in the list, each number stands in it as often as before, but for k
 pub times_without : (n k : ℕ) (ks : List ℕ) → 1 ≤ times k ks → times n (without k ks) + one n k ≡ times n ks

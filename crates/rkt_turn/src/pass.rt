@@ -1,6 +1,6 @@
 //! What a thread enters with.
 ghost use Rattle.std.specs.Prelude.{◌≡◌, ◌-◌, ◌≤◌, true, false, [], ◌∷◌, if◌then◌else◌, None, length};
-ghost use Rattle.rkt_turn.specs.Booked.{InOneOrder};
+ghost use Rattle.rkt_turn.specs.Booked.{InOneOrder, StartsWith};
 ghost use Rattle.rkt_turn.specs.Known.{last_number, view, drew, another, joined};
 ghost use Rattle.rkt_turn.specs.TurnRule.{Tied};
 
@@ -89,7 +89,10 @@ impl<S: Booked> PassOf<S, S::Name, S::Entry> {
         ensures own { IsSameLock self.old self.new }
         ensures view { known self.new ≡ joined (known self.old) (known other) }
         ensures out { length (known self.new).out ≡ length (known self.old).out - 1 }
+        // What the two have seen begins one list, and this pass has then seen all of it.
         ensures one_order { InOneOrder (known self.old).seen (known other).seen }
+        ensures seen { StartsWith (known self.new).seen (known self.old).seen }
+        ensures other_seen { StartsWith (known self.new).seen (known other).seen }
     {
         steps::rejoin(&turnstile.table.shared, &mut self.seat, other.into_seat());
     }

@@ -1,4 +1,6 @@
-use Rattle.std.proofs.Common.{rules, ap, ◌∙◌}
+use Rattle.std.proofs.Common.{rules, List, ap, sym, ◌∙◌, subst}
+use Rattle.rkt_turn.specs.Booked.{StartsWith}
+use Rattle.rkt_turn.proofs.Counts.{longer_begins}
 use Rattle.rkt_turn.proofs.TurnsKept.{joins, settles}
 use Rattle.rkt_turn.proofs.steps.rejoin.Goals as goal
 
@@ -9,3 +11,11 @@ join_seat-requires g c = let b = g.S.Booked in let ready = c.requires.ready in l
 pub load-requires : goal.load-requires
 load-requires g c = let b = g.S.Booked in let ready = c.requires.ready in let now = c.join_seat.ensures.2 in
     (search rules, search rules, settles b.name b.entries b.legal b.keeps b.number _ _ _ _ (ap (λ m. m.0.spent) now ∙ ready.0) (ap (λ m. m.0.turn) now ∙ ready.2))
+
+pub returns-clause-seen : goal.returns-clause-seen
+returns-clause-seen g c = let p = ap (λ m. m.0.seen) c.load.ensures.2.0 in let q = ap (λ m. m.0.seen) c.join_seat.ensures.2 in
+    subst (λ (z : List g.row.S-Entry.Denot × List g.row.S-Entry.Denot). StartsWith z.0 z.1) (λ i. (sym p i, q i)) (longer_begins _ _ c.load.ensures.2.1).0
+
+pub returns-clause-other_seen : goal.returns-clause-other_seen
+returns-clause-other_seen g c = let p = ap (λ m. m.0.seen) c.load.ensures.2.0 in let q = ap (λ m. m.0.other) c.join_seat.ensures.2 in
+    subst (λ (z : List g.row.S-Entry.Denot × List g.row.S-Entry.Denot). StartsWith z.0 z.1) (λ i. (sym p i, q i)) (longer_begins _ _ c.load.ensures.2.1).1
