@@ -1,0 +1,5 @@
+pub mod Faults
+pub mod Groups
+pub mod OriginLemmas
+pub mod Pages
+pub mod Pieces

@@ -1,0 +1,29 @@
+//! The texts of HTTP as values: methods, statuses, headers, origins, and the pages that a server sends by itself.
+#![tactic(auto)]
+
+pub mod default_page;
+mod grammar;
+mod header;
+mod header_iter;
+mod header_map;
+mod key;
+mod method;
+mod origin;
+mod origin_bytes;
+mod origin_iter;
+mod origin_place;
+mod reasons;
+mod segments;
+mod status;
+mod uncased;
+
+pub use header::Header;
+pub use header_iter::{HeaderIter, HeaderValues};
+pub use header_map::HeaderMap;
+pub use key::Key;
+pub use method::Method;
+pub use origin::{InvalidUri, Origin};
+pub use origin_iter::{QueryFields, RawSegments};
+pub use segments::Segments;
+pub use status::{Status, StatusClass};
+pub use uncased::Uncased;
