@@ -1,1 +1,4 @@
 pub mod MemoryLemmas
+pub mod Pulls
+pub mod Streams
+pub mod Taps

@@ -1,3 +1,6 @@
+pub mod Body
 pub mod Memory
 pub mod Sink
 pub mod Source
+pub mod Stream
+pub mod Tap

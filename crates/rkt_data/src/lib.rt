@@ -1,10 +1,17 @@
 //! Bodies of requests: sources and sinks that are polled, and what is read from them under a limit.
 #![tactic(auto)]
 
+mod data;
+mod data_stream;
 mod memory;
+mod peek;
+mod pipe;
 mod sink;
 mod source;
+mod tap;
 
+pub use data::{Data, PEEK_BYTES};
+pub use data_stream::{ByteUnit, DataStream};
 pub use memory::{MemorySink, MemorySource};
 pub use sink::{Sink, SinkError};
 pub use source::{Gate, Shut, Source, SourceError};

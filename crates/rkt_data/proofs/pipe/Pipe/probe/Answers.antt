@@ -1,0 +1,27 @@
+use Rattle.std.proofs.Common.{◌≤◌, ◌∙◌, length, take, arith, ap, length-take}
+use Rattle.rkt_data.specs.Tap.{Polls}
+use Rattle.rkt_data.proofs.Streams.{probe_read}
+use Rattle.rkt_data.proofs.Taps.{ByGate-refl}
+use Rattle.rkt_data.proofs.pipe.Pipe.probe.Goals as goal
+
+pub returns-then-self-clause-by_gate : goal.returns-then-self-clause-by_gate
+returns-then-self-clause-by_gate g c = ByGate-refl g.S.Source.polled c.args.gate c.args.self.now.opened.tap
+
+pub returns-in-Ready-Ok-clause-by_gate : goal.returns-in-Ready-Ok-clause-by_gate
+returns-in-Ready-Ok-clause-by_gate g c = rw (← c.self.view_is, c.in-Some.is) (Polls.more Polls.none c.poll_read.ensures.polled)
+
+pub returns-in-Ready-Err-clause-by_gate : goal.returns-in-Ready-Err-clause-by_gate
+returns-in-Ready-Err-clause-by_gate g c = rw (← c.self.view_is, c.in-Some.is) (Polls.more Polls.none c.poll_read.ensures.polled)
+
+pub returns-in-Pending-clause-by_gate : goal.returns-in-Pending-clause-by_gate
+returns-in-Pending-clause-by_gate g c = rw (← c.self.view_is, c.in-Some.is) (Polls.more Polls.none c.poll_read.ensures.polled)
+
+pub returns-in-Ready-Ok-clause-answer : goal.returns-in-Ready-Ok-clause-answer
+returns-in-Ready-Ok-clause-answer g c =
+    let a = rw c.in-Ready-Ok.field-0-is at c.in-Ready-Ok.ensures.answer in
+    let d = rw c.in-Some.is at c.self.invariant.0 in
+    let off = ap (λ o. o.probed) c.self.view_is ∙ c.requires.not_probed in
+    let long : length (take c.self.inside.held c.self.inside.bytes.items) ≤ c.self.inside.given = omega (arith, length-take c.self.inside.held c.self.inside.bytes.items) in
+    let r = probe_read g.S.Source.meaning (take c.self.inside.held c.self.inside.bytes.items) c.self.inside.limit c.self.inside.given c.self.inside.probed _ c.in-Ready-Ok.n
+    c.poll_read.new.buf d off long (omega (arith, a.0, c.poll_read.auto.buf)) (a.2 (omega arith)) in
+    rw (← c.self.view_is, c.in-Some.is) r
