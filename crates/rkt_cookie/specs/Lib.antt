@@ -1,1 +1,4 @@
+pub mod Attribute
 pub mod Cookie
+pub mod Date
+pub mod Encoded

@@ -1,8 +1,13 @@
-ghost use Rattle.std.specs.Prelude.{◌≡◌, [], IfOk, OnOk, OnErr, Some, None};
+ghost use Rattle.std.specs.Prelude.{◌≡◌, [], IfOk, OnOk, OnErr, Some, None, string_bytes};
 ghost use Rattle.std.specs.Option.{option_copied};
 ghost use Rattle.rkt_cookie.specs.Cookie.{bare, removal};
+ghost use Rattle.rkt_cookie.specs.Encoded.{encoded_text};
 
 use crate::builder::CookieBuilder;
+use crate::encode::{
+    push_domain, push_escaped, push_expires, push_http_only, push_max_age, push_path,
+    push_same_site, push_secure,
+};
 use crate::same_site::SameSite;
 use rkt_base::{NoMemory, Text};
 use std::alloc::Global;
@@ -212,6 +217,24 @@ impl Cookie {
         ensures { self.new ≡ record self.old { expires = Some moment } }
     {
         self.expires = Some(moment);
+    }
+
+    /// The text that the cookie is sent as.
+    pub fn encoded(&self, alloc: Global) -> Result<String, NoMemory>
+        ensures { IfOk result (λ text. string_bytes text ≡ encoded_text self.now) }
+    {
+        let mut text = String::new(alloc);
+        push_escaped(&mut text, self.name())?;
+        text.push_str("=")?;
+        push_escaped(&mut text, self.value())?;
+        push_http_only(&mut text, self.http_only)?;
+        push_same_site(&mut text, self.same_site)?;
+        push_secure(&mut text, self.secure, self.same_site)?;
+        push_path(&mut text, &self.path)?;
+        push_domain(&mut text, &self.domain)?;
+        push_max_age(&mut text, self.max_age)?;
+        push_expires(&mut text, self.expires)?;
+        Ok(text)
     }
 
     /// Makes this the cookie that takes itself away from a client, at a moment in seconds since 1970. Path and domain

@@ -1,8 +1,10 @@
 //! Cookies: what a cookie is, the text that it is sent as, and how such a text is read.
 #![tactic(auto)]
 
+mod attribute;
 mod builder;
 mod cookie;
+mod encode;
 mod same_site;
 
 pub use builder::CookieBuilder;
