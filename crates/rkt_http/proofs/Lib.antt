@@ -3,3 +3,4 @@ pub mod Groups
 pub mod OriginLemmas
 pub mod Pages
 pub mod Pieces
+pub mod Outcomes

@@ -6,3 +6,5 @@ pub mod Origin
 pub mod OriginPlaces
 pub mod Status
 pub mod Table
+pub mod IntoOutcome
+pub mod Outcome
