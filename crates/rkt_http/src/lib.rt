@@ -25,6 +25,7 @@ pub use key::Key;
 pub use method::Method;
 pub use origin::{InvalidUri, Origin};
 pub use origin_iter::{QueryFields, RawSegments};
+pub use origin_place::Profile;
 pub use outcome::{IntoOutcome, Outcome};
 pub use segments::Segments;
 pub use status::{Status, StatusClass};

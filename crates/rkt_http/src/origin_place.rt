@@ -5,7 +5,7 @@ use crate::origin_bytes::{is_path, is_query};
 
 /// Which texts are origins: a route's may have angle brackets.
 #[derive(Clone, Copy)]
-pub(crate) enum Profile {
+pub enum Profile {
     Request,
     Route,
 }

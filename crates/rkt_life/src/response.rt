@@ -1,0 +1,55 @@
+//! What answers a request.
+ghost use Rattle.std.specs.Prelude.{◌≡◌, IfOk, string_bytes, codes};
+ghost use Rattle.rkt_life.specs.Response.{typed, default_page, text_page};
+
+use rkt_base::{Bytes, NoMemory};
+use rkt_http::{Header, HeaderMap, Status, default_page};
+use std::alloc::Global;
+
+/// A status, the groups of headers, and a body of known size.
+#[derive(Debug, Drop)]
+pub struct Response {
+    pub status: Status,
+    pub headers: HeaderMap,
+    pub body: Bytes,
+}
+
+// A body of this type.
+fn typed(
+    alloc: Global,
+    status: Status,
+    content_type: &str,
+    body: String,
+) -> Result<Response, NoMemory>
+    ensures { IfOk result (λ r. r ≡ typed status.code content_type.now (string_bytes body)) }
+{
+    let mut headers = HeaderMap::new(alloc);
+    headers.add(Header::new(alloc, "Content-Type", content_type)?)?;
+    Ok(Response {
+        status,
+        headers,
+        body: Bytes::from_vec(body.into_bytes()),
+    })
+}
+
+impl Response {
+    // The page of a status without a catcher of its own.
+    pub(crate) fn default_page(alloc: Global, status: Status) -> Result<Response, NoMemory>
+        ensures { IfOk result (λ r. r ≡ default_page status.code) }
+    {
+        let page = default_page::html(alloc, status)?;
+        typed(
+            alloc,
+            status,
+            "text/html; charset=utf-8",
+            page.into_string(),
+        )
+    }
+
+    // A text that a handler gave.
+    pub(crate) fn text_page(alloc: Global, text: String) -> Result<Response, NoMemory>
+        ensures { IfOk result (λ r. r ≡ text_page (string_bytes text)) }
+    {
+        typed(alloc, Status::Ok, "text/plain; charset=utf-8", text)
+    }
+}
