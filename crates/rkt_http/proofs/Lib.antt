@@ -1,5 +1,6 @@
 pub mod Faults
 pub mod Groups
+pub mod Joins
 pub mod OriginLemmas
 pub mod Pages
 pub mod Pieces

@@ -3,6 +3,7 @@ pub mod Grammar
 pub mod Headers
 pub mod Method
 pub mod Origin
+pub mod PathBuf
 pub mod OriginPlaces
 pub mod Status
 pub mod Table

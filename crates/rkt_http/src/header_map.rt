@@ -1,10 +1,10 @@
-ghost use Rattle.std.specs.Prelude.{◌≡◌, ◌∷◌, ◌++◌, [], ◌↔◌, List, ℕ, IfOk, OnOk, OnErr, IsTrue, length, position, find, is_some, option_copied, slice_get};
-ghost use Rattle.rkt_http.specs.Headers.{Field, Group, is_named, group_of, values_of, fields_of, added, replaced, removed};
+ghost use Rattle.std.specs.Prelude.{◌≡◌, ◌∷◌, ◌++◌, [], ◌↔◌, List, ℕ, IfOk, OnOk, OnErr, IsTrue, length, position, find, is_some, option_copied, slice_get, map, string_bytes};
+ghost use Rattle.rkt_http.specs.Headers.{Field, Group, is_named, group_of, values_of, fields_of, added, replaced, added_all, replaced_all, removed};
 
 use crate::header::Header;
 use crate::header_iter::{HeaderIter, HeaderValues};
 use crate::uncased::Uncased;
-use rkt_base::{NoMemory, Seq, Text};
+use rkt_base::{NoMemory, Text};
 use std::alloc::Global;
 use std::marker::Model;
 
@@ -12,7 +12,7 @@ use std::marker::Model;
 #[derive(Debug, Drop)]
 pub(crate) struct Entry {
     name: Uncased,
-    values: Seq<Text>,
+    values: Vec<Text>,
 }
 
 impl Model for Entry {
@@ -20,7 +20,7 @@ impl Model for Entry {
 
     ghost Value = { Group };
 
-    ghost view = { λ e. record { name = e.name; values = e.values } };
+    ghost view = { λ e. record { name = e.name; values = e.values.items } };
 }
 
 impl Entry {
@@ -46,22 +46,36 @@ impl Entry {
         ensures ok { OnOk result (self.new ≡ record self.old { values = self.old.values ++ value ∷ [] }) }
         ensures err { OnErr result (self.new ≡ self.old) }
     {
-        self.values.push(value)
+        self.values.push(value)?;
+        Ok(())
     }
 
-    fn set(&mut self, values: Seq<Text>)
-        ensures { self.new ≡ record self.old { values = values } }
+    fn append(&mut self, values: &mut Vec<Text>) -> Result<(), NoMemory>
+        ensures ok { OnOk result (self.new ≡ record self.old { values = self.old.values ++ values.old.items }) }
+        ensures err { OnErr result (self.new ≡ self.old) }
+    {
+        self.values.append(values)
+    }
+
+    fn set(&mut self, values: Vec<Text>)
+        ensures { self.new ≡ record self.old { values = values.items } }
     {
         self.values = values;
     }
 }
 
-fn one_value(alloc: Global, value: Text) -> Result<Seq<Text>, NoMemory>
-    ensures { IfOk result (λ values. values ≡ value ∷ []) }
+fn one_value(alloc: Global, value: Text) -> Result<Vec<Text>, NoMemory>
+    ensures { IfOk result (λ values. values.items ≡ value ∷ []) }
 {
-    let mut values = Seq::new(alloc);
+    let mut values = Vec::new(alloc);
     values.push(value)?;
     Ok(values)
+}
+
+fn texts(alloc: Global, values: Vec<String>) -> Result<Vec<Text>, NoMemory>
+    ensures { IfOk result (λ texts. texts.items ≡ map string_bytes values.items) }
+{
+    values.into_iter().map(Text::from_string).collect(alloc)
 }
 
 /// The place of the group of this name.
@@ -169,6 +183,22 @@ impl HeaderMap {
         Ok(())
     }
 
+    /// Puts the values at the end of their group, or into a group of their own behind the others, be it an empty one.
+    pub fn add_all(&mut self, name: &str, values: Vec<String>) -> Result<(), NoMemory>
+        ensures ok { OnOk result (self.new ≡ added_all self.old name.now (map string_bytes values.items)) }
+        ensures err { OnErr result (self.new ≡ self.old) }
+    {
+        let mut values = texts(self.alloc, values)?;
+        match place_of(self.entries.as_slice(), name) {
+            Some(at) => self.entries[at].append(&mut values)?,
+            None => {
+                let name = Uncased::new(self.alloc, name)?;
+                self.entries.push(Entry { name, values })?;
+            }
+        }
+        Ok(())
+    }
+
     /// Leaves this value alone in its group, which keeps its place and its spelling. Answers whether the group was
     /// there.
     pub fn replace(&mut self, header: Header) -> Result<bool, NoMemory>
@@ -188,6 +218,22 @@ impl HeaderMap {
                 Ok(false)
             }
         }
+    }
+
+    /// Leaves these values alone in their group, which keeps its place and its spelling.
+    pub fn replace_all(&mut self, name: &str, values: Vec<String>) -> Result<(), NoMemory>
+        ensures ok { OnOk result (self.new ≡ replaced_all self.old name.now (map string_bytes values.items)) }
+        ensures err { OnErr result (self.new ≡ self.old) }
+    {
+        let values = texts(self.alloc, values)?;
+        match place_of(self.entries.as_slice(), name) {
+            Some(at) => self.entries[at].set(values),
+            None => {
+                let name = Uncased::new(self.alloc, name)?;
+                self.entries.push(Entry { name, values })?;
+            }
+        }
+        Ok(())
     }
 
     /// Takes the group out, and closes up.

@@ -1,7 +1,11 @@
 ghost use Rattle.std.specs.Prelude.{◌≡◌, ◌↔◌, [], List, ℕ, length, drop, option_copied, slice_get, IsTrue};
+ghost use Rattle.rkt_base.specs.Want.{Gives};
 ghost use Rattle.rkt_http.specs.Grammar.{IsFrontOf};
+ghost use Rattle.rkt_http.specs.PathBuf.{path_of_names};
 
-use rkt_base::Text;
+use crate::path_buf::{PathBuf, PathError, path_of};
+use rkt_base::{Text, Want};
+use std::alloc::Global;
 use std::marker::Model;
 
 /// Decoded segments, in order.
@@ -51,6 +55,17 @@ impl<'a> Segments<'a> {
         Segments {
             items: &self.items[n.min(self.items.len())..],
         }
+    }
+
+    /// The path of the file system that these are. `.` stays where it is, and `..` goes one up, but not past the start.
+    pub fn to_path_buf(
+        self,
+        alloc: Global,
+        allow_dotfiles: bool,
+    ) -> Result<PathBuf, Want<PathError>>
+        ensures { Gives (λ path. path) result (path_of_names allow_dotfiles self.entry) }
+    {
+        path_of(alloc, allow_dotfiles, self.items)
     }
 
     /// Whether these are the first of the others.
