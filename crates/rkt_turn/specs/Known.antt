@@ -59,6 +59,10 @@ module _ {N E : Type 0} where
   abbrev pub took_in : Known N E → Known N E → Known N E
   took_in v w = record v { other = w.seen; out = without w.number v.out; back = given_back w ∷ v.back }
 
+  -- what a turn leaves alone: the name, the number and which passes are out or came back
+  abbrev pub SamePlace : Known N E → Known N E → Type 0
+  SamePlace v w = (w.name ≡ v.name) × (w.number ≡ v.number) × (w.next ≡ v.next) × (w.out ≡ v.out) × (w.back ≡ v.back)
+
   -- after the comparison
   abbrev pub compared : Known N E → Known N E
   compared v = record v { seen = longer v.seen v.other; other = [] }

@@ -9,6 +9,8 @@ mod lends;
 mod pass;
 mod reason;
 mod steps;
+#[cfg(test)]
+mod tests;
 mod turn;
 mod turnstile;
 mod wire;

@@ -1,5 +1,5 @@
 //! The steps of a turn lock, on the seat of a pass.
-ghost use Rattle.std.specs.Prelude.{◌≡◌, ◌≤◌, ◌<◌, ℕ, true, false, [], ◌∷◌, ◌++◌, Some, None, List, IfSome, IfNone};
+ghost use Rattle.std.specs.Prelude.{◌≡◌, ◌≤◌, ◌<◌, ◌-◌, ℕ, length, true, false, [], ◌∷◌, ◌++◌, Some, None, List, IfSome, IfNone};
 ghost use Rattle.rkt_turn.specs.Booked.{AreOf, InOneOrder, StartsWith, of};
 ghost use Rattle.rkt_turn.specs.Known.{last_number, entered, gave, drew, another, joined, view, mine_of, all_passes};
 ghost use Rattle.rkt_turn.specs.TurnRule.{Took};
@@ -133,6 +133,7 @@ pub(crate) fn rejoin<S: Booked>(
     requires other { ((view other).spent ≡ false) × ((view other).turn ≡ false) × (other.me.1 ≡ []) }
     ensures own { seat.new.table_id ≡ seat.old.table_id }
     ensures me { seat.new.me ≡ (joined (view seat.old) (view other), seat.old.me.1) }
+    ensures out { length (view seat.new).out ≡ length (view seat.old).out - 1 }
     ensures one_order { InOneOrder (view seat.old).seen (view other).seen }
     ensures seen { StartsWith (view seat.new).seen (view seat.old).seen }
     ensures other_seen { StartsWith (view seat.new).seen (view other).seen }

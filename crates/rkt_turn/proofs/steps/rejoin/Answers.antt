@@ -1,6 +1,6 @@
-use Rattle.std.proofs.Common.{rules, List, ap, sym, ◌∙◌, subst}
+use Rattle.std.proofs.Common.{rules, List, length, ap, sym, ◌∙◌, subst}
 use Rattle.rkt_turn.specs.Booked.{StartsWith}
-use Rattle.rkt_turn.proofs.Counts.{longer_begins}
+use Rattle.rkt_turn.proofs.Counts.{length_without, longer_begins}
 use Rattle.rkt_turn.proofs.TurnsKept.{joins, settles}
 use Rattle.rkt_turn.proofs.steps.rejoin.Goals as goal
 
@@ -11,6 +11,9 @@ join_seat-requires g c = let b = g.S.Booked in let ready = c.requires.ready in l
 pub load-requires : goal.load-requires
 load-requires g c = let b = g.S.Booked in let ready = c.requires.ready in let now = c.join_seat.ensures.2 in
     (search rules, search rules, settles b.name b.entries b.legal b.keeps b.number _ _ _ _ (ap (λ m. m.0.spent) now ∙ ready.0) (ap (λ m. m.0.turn) now ∙ ready.2))
+
+pub returns-clause-out : goal.returns-clause-out
+returns-clause-out g c = let p = ap (λ m. length m.0.out) c.load.ensures.2.0 in let q = ap (λ m. length m.0.out) c.join_seat.ensures.2 in p ∙ (q ∙ length_without _ _)
 
 pub returns-clause-seen : goal.returns-clause-seen
 returns-clause-seen g c = let p = ap (λ m. m.0.seen) c.load.ensures.2.0 in let q = ap (λ m. m.0.seen) c.join_seat.ensures.2 in

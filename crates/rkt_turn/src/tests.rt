@@ -1,0 +1,3 @@
+mod crossing;
+mod turns;
+mod wires;

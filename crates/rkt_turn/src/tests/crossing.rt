@@ -1,0 +1,19 @@
+//! Each type that crosses threads does so whatever the state or the reason is, as long as that does.
+use crate::{Booked, Pass, Reason, Shutdown, TripWire, Turn, Turnstile};
+
+fn sends<T: Send>(_value: &T) {}
+
+fn shares<T: Sync>(_value: &T) {}
+
+fn lock_crosses<S: Booked + Send>(lock: &Turnstile<S>, pass: &Pass<S>, turn: &Turn<S>) {
+    sends(lock);
+    shares(lock);
+    sends(pass);
+    sends(turn);
+}
+
+fn wire_crosses<R: Reason + Send>(wire: &TripWire<R>, handle: &Shutdown<R>) {
+    sends(wire);
+    shares(wire);
+    sends(handle);
+}
