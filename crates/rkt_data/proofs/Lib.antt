@@ -1,3 +1,4 @@
+pub mod Drains
 pub mod MemoryLemmas
 pub mod Pulls
 pub mod Streams

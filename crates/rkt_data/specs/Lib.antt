@@ -1,4 +1,5 @@
 pub mod Body
+pub mod Gathering
 pub mod Memory
 pub mod Sink
 pub mod Source

@@ -1,8 +1,12 @@
 //! Bodies of requests: sources and sinks that are polled, and what is read from them under a limit.
 #![tactic(auto)]
 
+mod capped;
 mod data;
 mod data_stream;
+mod drain;
+mod error;
+mod into_bytes;
 mod memory;
 mod peek;
 mod pipe;
@@ -10,8 +14,11 @@ mod sink;
 mod source;
 mod tap;
 
+pub use capped::{Capped, N};
 pub use data::{Data, PEEK_BYTES};
 pub use data_stream::{ByteUnit, DataStream};
+pub use error::DataError;
+pub use into_bytes::IntoBytes;
 pub use memory::{MemorySink, MemorySource};
 pub use sink::{Sink, SinkError};
 pub use source::{Gate, Shut, Source, SourceError};

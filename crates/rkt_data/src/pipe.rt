@@ -29,6 +29,7 @@ impl<S: Source> Model for Pipe<S> {
 }
 
 impl<S: Source> Pipe<S> {
+    ghost use Rattle.rkt_data.specs.Gathering.{IsUsedUp, Closes};
     ghost use Rattle.rkt_data.specs.Stream.{DrawnBy, Follows, Reads, Probes, TakesAtMost, PullsAtMost};
     ghost use Rattle.rkt_data.specs.Tap.{tapped, ByGate};
 
@@ -52,8 +53,15 @@ impl<S: Source> Pipe<S> {
     pub(crate) fn left(&self) -> u64
         ensures left { result + self.now.opened.given ≡ self.now.opened.limit }
         ensures bound { PullsAtMost S.meaning self.now.opened }
+        ensures not_probed { self.now.probed ≡ false → TakesAtMost S.meaning self.now.opened self.now.opened.limit }
     {
         self.limit - self.given
+    }
+
+    pub(crate) fn given(&self) -> u64
+        ensures { result ≡ self.now.opened.given }
+    {
+        self.given
     }
 
     pub(crate) fn hint(&self) -> usize
@@ -98,8 +106,25 @@ impl<S: Source> Pipe<S> {
         }
     }
 
-    // Whether the body ends at its limit, all of which was given. At most one byte past the limit is read.
-    pub(crate) fn probe(&mut self, gate: Gate) -> Poll<Result<bool, SourceError>>
+    // Whether the body has no more than its limit, up to which all was given. At most one byte past it is read.
+    pub(crate) fn close(&mut self, gate: Gate) -> Poll<Result<bool, SourceError>>
+        requires used_up { IsUsedUp S.meaning self.old.opened }
+        requires not_probed { self.old.probed ≡ false }
+        ensures given { self.new.opened.given ≡ self.old.opened.given }
+        ensures within { self.new.opened.given ≤ self.new.opened.limit }
+        ensures follows { Follows S.meaning gate.tripped self.old.opened self.new.opened }
+        ensures by_gate { ByGate S.polled gate self.old.opened.tap self.new.opened.tap }
+        ensures bound { PullsAtMost S.meaning self.new.opened }
+        ensures closes { Closes S.meaning self.old self.new result }
+    {
+        if self.left() > 0 {
+            return Poll::Ready(Ok(true));
+        }
+        self.probe(gate)
+    }
+
+    // Whether the body ends at its limit, all of which was given.
+    fn probe(&mut self, gate: Gate) -> Poll<Result<bool, SourceError>>
         requires used_up { self.old.opened.given ≡ self.old.opened.limit }
         requires not_probed { self.old.probed ≡ false }
         ensures given { self.new.opened.given ≡ self.old.opened.given }
