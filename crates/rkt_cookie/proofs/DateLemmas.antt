@@ -1,13 +1,11 @@
 -- The date that contracts name is the one that `httpdate` gives.
-use Rattle.std.proofs.Common.{◌≡◌, ℕ, zero, suc, ◌+◌, ◌-◌, ◌*◌, ◌/◌, ◌%◌, ◌<◌, ◌≤◌, ◌⊎◌, true, false, List, refl, sym, ap, add-one, ◌∙◌, subst, arith, ⊎_elim, leb}
+use Rattle.std.proofs.Common.{◌≡◌, ℕ, zero, suc, ◌+◌, ◌-◌, ◌*◌, ◌<◌, ◌≤◌, refl, sym, ap, add-one, ◌∙◌, arith, ⊎_elim, leb}
 use Rattle.std.proofs.lemmas.Bool.{cond_both, cases_lt, leb-true, leb-false}
-use Rattle.std.proofs.lemmas.Bool.Decides.{nat_tests}
-use Rattle.httpdate.specs.declared.parts.Parts.{Parts}
 use Rattle.httpdate.specs.declared.date.HttpDate.{HttpDate}
 use Rattle.httpdate.specs.Calendar.{days_in_year, days_in_month, days_of_years, days_of_months, days_from_civil, weekday}
 use Rattle.httpdate.specs.Valid.{IsValid, parts_secs}
 use Rattle.httpdate.specs.Date.{unix_secs}
-use Rattle.httpdate.proofs.CalendarLemmas.{days_since_1601, days_of_years_closed, days_of_months_more, days_of_months_all}
+use Rattle.httpdate.proofs.CalendarLemmas.{days_of_years_closed, days_of_months_more, days_of_months_all}
 use Rattle.httpdate.proofs.Theorems.{unix_secs_injective}
 use Rattle.rkt_cookie.specs.Date.{last_within, years_within, months_within, date_at, date_of, last_second}
 

@@ -1,5 +1,5 @@
 -- A cookie's text, made by one piece after another.
-use Rattle.std.proofs.Common.{◌≡◌, ℕ, List, [], ◌∷◌, ◌++◌, codes, append_assoc}
+use Rattle.std.proofs.Common.{◌≡◌, [], ◌++◌, codes, append_assoc}
 use Rattle.std.proofs.lemmas.Grind.{flat_map-append}
 use Rattle.std.specs.List.{flat_map}
 use Rattle.rkt_cookie.specs.declared.attribute.Attribute.TheVariants as attribute

@@ -1,3 +1,4 @@
 pub mod DateLemmas
 pub mod EncodeLemmas
 pub mod EscapeLemmas
+pub mod ParseLemmas

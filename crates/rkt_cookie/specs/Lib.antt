@@ -2,3 +2,4 @@ pub mod Attribute
 pub mod Cookie
 pub mod Date
 pub mod Encoded
+pub mod Reading

@@ -1,15 +1,22 @@
 ghost use Rattle.std.specs.Prelude.{◌≡◌, [], IfOk, OnOk, OnErr, Some, None, string_bytes};
 ghost use Rattle.std.specs.Option.{option_copied};
-ghost use Rattle.rkt_cookie.specs.Cookie.{bare, removal};
+ghost use Rattle.rkt_base.specs.Want.{IfRefused, GivesUnlessNoMemory};
+ghost use Rattle.rkt_cookie.specs.Attribute.{with_attribute};
+ghost use Rattle.rkt_cookie.specs.Cookie.{Parts, bare, removal};
 ghost use Rattle.rkt_cookie.specs.Encoded.{encoded_text};
+ghost use Rattle.rkt_cookie.specs.Reading.{IsNoPair, Reads, first_piece};
 
+use crate::attribute::Attribute;
 use crate::builder::CookieBuilder;
 use crate::encode::{
     push_domain, push_escaped, push_expires, push_http_only, push_max_age, push_path,
     push_same_site, push_secure,
 };
+use crate::parse::{
+    InvalidCookie, before_semicolon, behind_semicolon, parse_attribute, parse_pair,
+};
 use crate::same_site::SameSite;
-use rkt_base::{NoMemory, Text};
+use rkt_base::{NoMemory, Text, Want};
 use std::alloc::Global;
 use std::marker::Model;
 
@@ -217,6 +224,40 @@ impl Cookie {
         ensures { self.new ≡ record self.old { expires = Some moment } }
     {
         self.expires = Some(moment);
+    }
+
+    /// Reads a cookie: a name and a value, and then attributes. One that is not known, or whose value does not read, is
+    /// passed over.
+    pub fn parse_encoded(alloc: Global, text: &str) -> Result<Cookie, Want<InvalidCookie>>
+        // What is accepted is read so.
+        ensures accepted { IfOk result (λ cookie. Reads text.now cookie) }
+        // What is read so is accepted, unless memory runs out.
+        ensures complete { (cookie : Parts) → Reads text.now cookie → GivesUnlessNoMemory result cookie }
+        // Only a text whose first piece names no cookie is refused.
+        ensures refused { IfRefused result (λ _. IsNoPair (first_piece text.now)) }
+    {
+        let (name, value) = parse_pair(alloc, before_semicolon(text))?;
+        let mut cookie = Cookie::of_parts(name, value);
+        for piece in behind_semicolon(text).split(';') {
+            if let Some(attribute) = parse_attribute(alloc, piece)? {
+                cookie.set(attribute);
+            }
+        }
+        Ok(cookie)
+    }
+
+    fn set(&mut self, attribute: Attribute)
+        ensures { self.new ≡ with_attribute self.old attribute }
+    {
+        match attribute {
+            Attribute::HttpOnly => self.http_only = Some(true),
+            Attribute::SameSite(same_site) => self.same_site = Some(same_site),
+            Attribute::Secure => self.secure = Some(true),
+            Attribute::Path(path) => self.path = Some(path),
+            Attribute::Domain(domain) => self.domain = Some(domain),
+            Attribute::MaxAge(seconds) => self.max_age = Some(seconds),
+            Attribute::Expires(moment) => self.expires = Some(moment),
+        }
     }
 
     /// The text that the cookie is sent as.

@@ -5,8 +5,10 @@ mod attribute;
 mod builder;
 mod cookie;
 mod encode;
+mod parse;
 mod same_site;
 
 pub use builder::CookieBuilder;
 pub use cookie::Cookie;
+pub use parse::InvalidCookie;
 pub use same_site::SameSite;

@@ -1,0 +1,81 @@
+-- What the pieces of a text say, by the tests that the code makes.
+use Rattle.std.proofs.Common.{◌≡◌, ℕ, suc, ◌+◌, ◌||◌, ◌&&◌, Bool, true, false, cond, not, nat_lt, List, [], ◌∷◌, ◌++◌, length, Some, None, Result, Ok, Err, refl, sym, ap, subst, inl, inr, option_map, IsUtf8, ◌∙◌, arith, rules, codes, fold}
+use Rattle.std.specs.Char.{is_ascii_digit}
+use Rattle.std.specs.List.{list_any, list_all, position_or_len}
+use Rattle.std.specs.Result.{result_ok}
+use Rattle.std.specs.Str.{str_eq_ignore_ascii_case}
+use Rattle.std.specs.Str.Parse.{ParsesUnsigned, digits_value}
+use Rattle.std.proofs.lemmas.Bool.{cond-true, cond-false, and_from, and_parts, lt-ltb, ltb-true, false_from_ne_true, both_ways}
+use Rattle.std.proofs.lemmas.Str.Parse.{IsNumeralModel, IsDigitsTest, numerals_by_value, parse_digits}
+use Rattle.std.proofs.lemmas.Option.{same_Some, none-some}
+use Rattle.percent_encoding.specs.Percent.{percent_decode}
+use Rattle.rkt_cookie.specs.Cookie.{Parts, bare}
+use Rattle.rkt_cookie.specs.Reading.{is_number, seconds_of, valued, attribute_by, with_piece, later_pieces, Reads, IsPair, IsNoPair}
+
+goes_on : (first : Bool) (place len : ℕ) (rest : Bool) → cond (not first) (1 + place) 0 ≡ suc len → (place ≡ len → rest ≡ false) → (first || rest) ≡ false
+goes_on true place len rest e h = absurd (omega arith)
+goes_on false place len rest e h = h (omega arith)
+
+-- no element passes, where the first that does lies past the end
+pub list_any_none : (p : ℕ → Bool) (xs : List ℕ) → position_or_len p xs ≡ length xs → list_any p xs ≡ false
+list_any_none p [] e = refl
+list_any_none p (x ∷ xs) e = goes_on (p x) (position_or_len p xs) (length xs) _ e (list_any_none p xs)
+
+digits_test : IsDigitsTest (λ ds. list_all is_ascii_digit ds ≡ true)
+digits_test = search rules
+
+pub own_digits : IsNumeralModel (λ ds. list_all is_ascii_digit ds ≡ true) (digits_value 10)
+own_digits = numerals_by_value _ digits_test
+
+pub seconds_parsed : {E : Type 0} (ds : List ℕ) (r : Result ℕ E) → list_all is_ascii_digit ds ≡ true → ParsesUnsigned 64 10 ds r → result_ok r ≡ seconds_of ds
+seconds_parsed {E} ds (Ok x) all h =
+    let k = parse_digits own_digits {E = E} 64 ds (Ok x) h all in
+    ap Some k.1 ∙ sym (cond-true _ _ _ (and_from _ _ (and_from _ _ (lt-ltb 0 (length ds) k.0.0) all) (lt-ltb _ _ k.0.1)))
+seconds_parsed {E} ds (Err e) all h =
+    let k = parse_digits own_digits {E = E} 64 ds (Err e) h all in
+    sym (cond-false (is_number ds) (Some (digits_value 10 ds)) None (false_from_ne_true (is_number ds) (λ yes.
+    let a = and_parts (nat_lt 0 (length ds) && list_all is_ascii_digit ds) _ yes in
+    let b = and_parts _ _ a.0 in
+    k (ltb-true _ _ b.0, ltb-true _ _ a.1))))
+
+pub no_digits : (ds : List ℕ) → list_all is_ascii_digit ds ≡ false → seconds_of ds ≡ None
+no_digits ds other =
+    cond-false (is_number ds) (Some (digits_value 10 ds)) None (false_from_ne_true (is_number ds) (λ yes.
+    let a = and_parts (nat_lt 0 (length ds) && list_all is_ascii_digit ds) _ yes in
+    let b = and_parts (nat_lt 0 (length ds)) _ a.0 in
+    both_ways _ other b.1))
+
+-- a name of no attribute that has a value
+pub valued_other : (name value : List ℕ) →
+    str_eq_ignore_ascii_case name (codes "SameSite") ≡ false → str_eq_ignore_ascii_case name (codes "Path") ≡ false
+    → str_eq_ignore_ascii_case name (codes "Domain") ≡ false → str_eq_ignore_ascii_case name (codes "Max-Age") ≡ false
+    → str_eq_ignore_ascii_case name (codes "Expires") ≡ false → valued name value ≡ None
+valued_other name value a b c d e =
+    cond-false _ _ _ a ∙ cond-false _ _ _ b ∙ cond-false _ _ _ c ∙ cond-false _ _ _ d ∙ cond-false _ _ _ e
+
+-- a name of an attribute that may have a value
+pub attribute_by_valued : (name value : List ℕ) → str_eq_ignore_ascii_case name (codes "HttpOnly") ≡ false
+    → str_eq_ignore_ascii_case name (codes "Secure") ≡ false → attribute_by name (Some value) ≡ valued name value
+attribute_by_valued name value a b = cond-false _ _ _ a ∙ cond-false _ _ _ b
+
+-- one more piece
+pub fold_more : (cookie : Parts) (pieces : List (List ℕ)) (piece : List ℕ) → fold with_piece cookie (pieces ++ piece ∷ []) ≡ with_piece (fold with_piece cookie pieces) piece
+fold_more cookie [] piece = refl
+fold_more cookie (p ∷ ps) piece = fold_more (with_piece cookie p) ps piece
+
+-- a text is read as one cookie at most
+pub Reads_unique : (text : List ℕ) (a b : Parts) → Reads text a → Reads text b → a ≡ b
+Reads_unique text a b h k =
+    let name = h.pair.name_read ∙ sym k.pair.name_read in
+    let value = same_Some _ _ (sym h.pair.value_read ∙ k.pair.value_read) in
+    h.attributes ∙ ap (λ n. fold with_piece (bare n h.value) (later_pieces text)) name
+    ∙ ap (λ v. fold with_piece (bare k.name v) (later_pieces text)) value ∙ sym k.attributes
+
+-- a piece names a cookie or none, and not both
+pub no_pair : (piece name value : List ℕ) → IsPair piece name value → ¬ IsNoPair piece
+no_pair piece name value h (inl none) = none-some _ (sym (ap (option_map percent_decode) none) ∙ h.value_read)
+no_pair piece name value h (inr (inl none)) = h.named none
+no_pair piece name value h (inr (inr (inl other))) = other (subst IsUtf8 h.name_read h.name_utf8)
+no_pair piece name value h (inr (inr (inr other))) =
+    let same = same_Some _ _ (sym h.value_read ∙ ap (option_map percent_decode) other.1) in
+    other.2 (subst IsUtf8 same h.value_utf8)
