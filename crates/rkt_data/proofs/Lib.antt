@@ -1,3 +1,4 @@
+pub mod Cancels
 pub mod Drains
 pub mod MemoryLemmas
 pub mod Pulls

@@ -1,4 +1,6 @@
 pub mod Body
+pub mod Cancel
+pub mod CancelLaws
 pub mod Gathering
 pub mod Memory
 pub mod Sink

@@ -1,6 +1,7 @@
 //! Bodies of requests: sources and sinks that are polled, and what is read from them under a limit.
 #![tactic(auto)]
 
+mod cancel;
 mod capped;
 mod data;
 mod data_stream;
@@ -12,8 +13,10 @@ mod peek;
 mod pipe;
 mod sink;
 mod source;
+mod stage;
 mod tap;
 
+pub use cancel::CancellableIo;
 pub use capped::{Capped, N};
 pub use data::{Data, PEEK_BYTES};
 pub use data_stream::{ByteUnit, DataStream};
@@ -22,3 +25,4 @@ pub use into_bytes::IntoBytes;
 pub use memory::{MemorySink, MemorySource};
 pub use sink::{Sink, SinkError};
 pub use source::{Gate, Shut, Source, SourceError};
+pub use stage::{Refused, Stage};
