@@ -1,9 +1,9 @@
 -- The grammar of an origin: a path that begins with a slash, and maybe a query.
-use Rattle.std.specs.Prelude.{ℕ, ◌≡◌, List, [], ◌∷◌, ◌++◌, Bool, false, ◌==◌, ◌||◌, ◌&&◌, nat_le, codes, Option, Some, None, IfSome, if◌then◌else◌, nat_lt, length, filter, map, not, unwrap_or}
-use Rattle.std.specs.List.{list_any, before_first, after_first, position_or_len, slice_split}
+use Rattle.std.specs.Prelude.{ℕ, ◌≡◌, List, [], ◌∷◌, ◌++◌, Bool, false, ◌==◌, ◌||◌, ◌&&◌, nat_le, codes, Option, Some, None, IfSome, if◌then◌else◌, length, filter, map, not, unwrap_or}
+use Rattle.std.specs.List.{list_any, before_first, after_first, slice_split}
 use Rattle.std.specs.Str.Lossy.{utf8_lossy}
 use Rattle.percent_encoding.specs.Percent.{percent_decode}
-use Rattle.rkt_http.specs.Grammar.{OnlyOf}
+use Rattle.rkt_http.specs.Grammar.{OnlyOf, has_byte}
 use Rattle.rkt_http.specs.declared.origin_place.Profile.{Profile}
 use Rattle.rkt_http.specs.declared.origin_place.Profile.TheVariants.{Request, Route}
 
@@ -56,7 +56,7 @@ is_question b = b == 63
 
 -- what follows the first question mark, if there is one
 abbrev pub query_in : List ℕ → Option (List ℕ)
-query_in text = if nat_lt (position_or_len is_question text) (length text) then Some (after_first is_question text) else None
+query_in text = if has_byte is_question text then Some (after_first is_question text) else None
 
 -- what a text says, cut at its first question mark
 abbrev pub target_of : List ℕ → Target

@@ -1,8 +1,8 @@
 -- Where a reader stands in an origin, and what may follow.
 use Rattle.std.proofs.Common.{◌≡◌, ℕ, List, [], ◌∷◌, ◌++◌, Bool, true, false, ◌==◌, arith, if◌then◌else◌, refl, inl, inr, ◌⊎◌, ◌↔◌, Option, Some, None, MatchOption, IfSome, sym, ◌∙◌, ap, subst}
 use Rattle.std.proofs.lemmas.Bool.{false≢true}
-use Rattle.std.proofs.lemmas.Bool.Decides.{nat_tests}
 use Rattle.rkt_http.specs.Grammar.{Begins, OnlyOf}
+use Rattle.rkt_http.specs.Places.{equal, differ}
 use Rattle.rkt_http.specs.Origin.{is_path_byte, is_query_byte, query_text, IsOrigin, IsPathRest}
 use Rattle.rkt_http.specs.declared.origin_place.Profile.{Profile}
 use Rattle.rkt_http.specs.declared.origin_place.Profile.TheVariants.{Request, Route}
@@ -30,12 +30,6 @@ head_same a b xs ys e = cc
 
 tail_same : (a b : ℕ) (xs ys : List ℕ) → a ∷ xs ≡ b ∷ ys → xs ≡ ys
 tail_same a b xs ys e = cc
-
-pub equal : (a b : ℕ) → (a == b) ≡ true → a ≡ b
-equal a b e = grind (arith, nat_tests, e)
-
-pub differ : (a b : ℕ) → (a == b) ≡ false → ¬ (a ≡ b)
-differ a b e same = grind (arith, nat_tests, e, same)
 
 slash_in_path : (profile : Profile) → is_path_byte profile 47 ≡ true
 slash_in_path Request = refl

@@ -27,7 +27,14 @@ pub(crate) trait Place: Copy {
 }
 
 /// The place at which a text leaves the grammar of what may follow `start`.
-pub(crate) fn first_fault<P: Place>(start: P, text: &[u8]) -> Option<usize>
+pub(crate) fn first_fault<P: Place>(start: P, text: &str) -> Option<usize>
+    ensures none { IfNone result (P.rest_of start text.now) }
+    ensures some { IfSome result (LeavesAt (P.rest_of start) text.now) }
+{
+    first_fault_in(start, text.as_bytes())
+}
+
+fn first_fault_in<P: Place>(start: P, text: &[u8]) -> Option<usize>
     ensures none { IfNone result (P.rest_of start text.now) }
     ensures some { IfSome result (LeavesAt (P.rest_of start) text.now) }
 {

@@ -1,12 +1,16 @@
 //! The texts of HTTP as values: methods, statuses, headers, origins, and the pages that a server sends by itself.
 #![tactic(auto)]
 
+mod content_type;
 pub mod default_page;
 mod grammar;
 mod header;
 mod header_iter;
 mod header_map;
+mod host;
+mod host_place;
 mod key;
+mod media_type;
 mod method;
 mod origin;
 mod origin_bytes;
@@ -15,20 +19,25 @@ mod origin_place;
 pub mod outcome;
 mod path_buf;
 mod reasons;
+mod reference;
 mod segments;
 mod status;
 mod uncased;
 
+pub use content_type::{ContentType, Known};
 pub use header::Header;
 pub use header_iter::{HeaderIter, HeaderValues};
 pub use header_map::HeaderMap;
+pub use host::Host;
 pub use key::Key;
+pub use media_type::MediaType;
 pub use method::Method;
 pub use origin::{InvalidUri, Origin};
 pub use origin_iter::{QueryFields, RawSegments};
 pub use origin_place::Profile;
 pub use outcome::{IntoOutcome, Outcome};
 pub use path_buf::{PathBuf, PathError};
+pub use reference::Reference;
 pub use segments::Segments;
 pub use status::{Status, StatusClass};
 pub use uncased::Uncased;

@@ -136,7 +136,7 @@ fn parse_as(profile: Profile, alloc: Global, text: &str) -> Result<Origin, Want<
     ensures complete { (o : Target) → Spells profile text.now o → GivesUnlessNoMemory result o }
     ensures refused { IfRefused result (λ e. LeavesAt (IsOrigin profile) text.now e.at) }
 {
-    match first_fault(OriginPlace::Start(profile), text.as_bytes()) {
+    match first_fault(OriginPlace::Start(profile), text) {
         Some(at) => Err(Want::Refused(InvalidUri { at })),
         None => Ok(read(alloc, text)?),
     }

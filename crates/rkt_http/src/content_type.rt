@@ -1,0 +1,88 @@
+ghost use Rattle.std.specs.Prelude.{◌≡◌, IfOk, codes};
+ghost use Rattle.rkt_http.specs.Media.{Media, media_text, is_kind, known_media, known_text};
+
+use crate::header::Header;
+use crate::media_type::MediaType;
+use rkt_base::NoMemory;
+use std::alloc::Global;
+use std::marker::Model;
+
+/// The media types with a name of their own.
+#[derive(Clone, Copy, Debug, PartialEq, Eq)]
+pub enum Known {
+    Any,
+    Plain,
+    Text,
+    Binary,
+    JSON,
+    JavaScript,
+    MsgPack,
+    HTML,
+    CSS,
+    XML,
+    Form,
+}
+
+/// The media type of a content.
+#[derive(Debug, Drop)]
+pub struct ContentType {
+    media_type: MediaType,
+}
+
+impl Model for ContentType {
+    ghost use Rattle.rkt_http.specs.Media.{Media};
+
+    ghost Value = { Media };
+
+    ghost view = { λ t. t.media_type };
+}
+
+fn known_media_type(alloc: Global, known: Known) -> Result<MediaType, NoMemory>
+    ensures { IfOk result (λ media. media ≡ known_media known) }
+{
+    match known {
+        Known::Any => MediaType::bare(alloc, "*", "*"),
+        Known::Plain | Known::Text => MediaType::utf8_text(alloc, "plain"),
+        Known::Binary => MediaType::bare(alloc, "application", "octet-stream"),
+        Known::JSON => MediaType::bare(alloc, "application", "json"),
+        Known::JavaScript => MediaType::bare(alloc, "text", "javascript"),
+        Known::MsgPack => MediaType::bare(alloc, "application", "msgpack"),
+        Known::HTML => MediaType::utf8_text(alloc, "html"),
+        Known::CSS => MediaType::utf8_text(alloc, "css"),
+        Known::XML => MediaType::utf8_text(alloc, "xml"),
+        Known::Form => MediaType::bare(alloc, "application", "x-www-form-urlencoded"),
+    }
+}
+
+impl ContentType {
+    pub fn known(alloc: Global, known: Known) -> Result<ContentType, NoMemory>
+        ensures value { IfOk result (λ t. t ≡ known_media known) }
+        ensures text { IfOk result (λ t. media_text t ≡ known_text known) }
+    {
+        Ok(ContentType {
+            media_type: known_media_type(alloc, known)?,
+        })
+    }
+
+    pub fn media_type(&self) -> &MediaType
+        ensures { result.now ≡ self.now }
+    {
+        &self.media_type
+    }
+
+    /// Whether it is a form in a URL's encoding, whatever its parameters.
+    pub fn is_form(&self) -> bool
+        ensures { result ≡ is_kind (codes "application") (codes "x-www-form-urlencoded") self.now }
+    {
+        self.media_type
+            .is_kind("application", "x-www-form-urlencoded")
+    }
+
+    /// The header of this content type.
+    pub fn header(&self, alloc: Global) -> Result<Header, NoMemory>
+        ensures { IfOk result (λ h. h ≡ record { name = codes "Content-Type"; value = media_text self.now }) }
+    {
+        let text = self.media_type.to_text(alloc)?;
+        Header::new(alloc, "Content-Type", text.as_str())
+    }
+}

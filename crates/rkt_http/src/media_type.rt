@@ -1,0 +1,103 @@
+ghost use Rattle.std.specs.Prelude.{◌≡◌, ◌∷◌, ◌++◌, [], IfOk, codes, length, flat_map};
+ghost use Rattle.rkt_http.specs.Media.{Media, media_text, parameter_text, is_kind, bare, utf8_text};
+ghost use Rattle.rkt_http.specs.Accept.{part_specificity, specificity_of};
+
+use rkt_base::{NoMemory, Text};
+use std::alloc::Global;
+use std::marker::Model;
+
+/// A media type with its parameters. A parameter's value is kept as it is spelled.
+#[derive(Debug, Drop)]
+pub struct MediaType {
+    top: Text,
+    sub: Text,
+    parameters: Vec<(Text, Text)>,
+}
+
+impl Model for MediaType {
+    ghost use Rattle.rkt_http.specs.Media.{Media};
+
+    ghost Value = { Media };
+
+    ghost view = { λ m. record { top = m.top; sub = m.sub; parameters = m.parameters.items } };
+}
+
+fn specificity_of_part(part: &str) -> u8
+    ensures { result ≡ part_specificity part.now }
+{
+    if part == "*" { 0 } else { 1 }
+}
+
+impl MediaType {
+    /// The type.
+    pub fn top(&self) -> &str
+        ensures { result.now ≡ self.now.top }
+    {
+        self.top.as_str()
+    }
+
+    /// The subtype.
+    pub fn sub(&self) -> &str
+        ensures { result.now ≡ self.now.sub }
+    {
+        self.sub.as_str()
+    }
+
+    /// How many of its type and subtype are no star.
+    pub fn specificity(&self) -> u8
+        ensures { result ≡ specificity_of self.now }
+    {
+        specificity_of_part(self.top()) + specificity_of_part(self.sub())
+    }
+
+    /// Whether it is JSON, whatever its parameters.
+    pub fn is_json(&self) -> bool
+        ensures { result ≡ is_kind (codes "application") (codes "json") self.now }
+    {
+        self.is_kind("application", "json")
+    }
+
+    pub(crate) fn is_kind(&self, top: &str, sub: &str) -> bool
+        ensures { result ≡ is_kind top.now sub.now self.now }
+    {
+        self.top().eq_ignore_ascii_case(top) && self.sub().eq_ignore_ascii_case(sub)
+    }
+
+    /// The text of the media type, with `; ` before each parameter.
+    pub fn to_text(&self, alloc: Global) -> Result<Text, NoMemory>
+        ensures { IfOk result (λ text. text ≡ media_text self.now) }
+    {
+        let mut text = Text::new(alloc, self.top())?;
+        text.push_str("/")?;
+        text.push_str(self.sub())?;
+        for (name, value) in &self.parameters {
+            text.push_str("; ")?;
+            text.push_str(name.as_str())?;
+            text.push_str("=")?;
+            text.push_str(value.as_str())?;
+        }
+        Ok(text)
+    }
+
+    pub(crate) fn bare(alloc: Global, top: &str, sub: &str) -> Result<MediaType, NoMemory>
+        ensures { IfOk result (λ media. media ≡ bare top.now sub.now) }
+    {
+        Ok(MediaType {
+            top: Text::new(alloc, top)?,
+            sub: Text::new(alloc, sub)?,
+            parameters: Vec::new(alloc),
+        })
+    }
+
+    pub(crate) fn utf8_text(alloc: Global, sub: &str) -> Result<MediaType, NoMemory>
+        ensures { IfOk result (λ media. media ≡ utf8_text sub.now) }
+    {
+        let mut parameters = Vec::new(alloc);
+        parameters.push((Text::new(alloc, "charset")?, Text::new(alloc, "utf-8")?))?;
+        Ok(MediaType {
+            top: Text::new(alloc, "text")?,
+            sub: Text::new(alloc, sub)?,
+            parameters,
+        })
+    }
+}
