@@ -1,44 +1,24 @@
 -- The set of bytes that are escaped, as a mask and as a test, and what escaping leaves.
-use Rattle.std.proofs.Common.{◌≡◌, ℕ, zero, suc, ◌<◌, ◌≤◌, ◌||◌, ◌&&◌, Bool, true, false, not, List, [], ◌∷◌, ◌++◌, refl, sym, ap, ◌∙◌, arith, ⊎_elim, cond}
-use Rattle.std.proofs.lemmas.Bool.{cases_lt, and_parts}
+use Rattle.std.proofs.Common.{◌≡◌, ◌≢◌, ℕ, ◌≤◌, true, false, List, [], ◌∷◌, ◌++◌, All, refl, sym, ap, ◌∙◌, arith, ⊎_elim, cond, length}
+use Rattle.std.proofs.lemmas.Bool.{agree_below, agree_below_at, both_ways, cases_lt}
 use Rattle.std.proofs.lemmas.Bool.Decides.{nat_tests}
 use Rattle.percent_encoding.specs.AsciiSet.{should_percent_encode}
-use Rattle.percent_encoding.specs.Percent.{percent_encode, percent_encode_byte}
+use Rattle.percent_encoding.specs.Percent.{percent_encode, percent_encode_byte, percent_decode}
+use Rattle.percent_encoding.proofs.PercentLemmas.{All-percent_encode, IsByte, IsEscapeByte, percent_encode_nonempty, round_trip}
 use Rattle.rkt_cookie.specs.declared.encode.TheConstants.{ESCAPED}
 use Rattle.rkt_cookie.specs.Encoded.{is_escaped, escaped}
 
--- each number below n passes the test
-all_below : ℕ → (ℕ → Bool) → Bool
-all_below zero test = true
-all_below (suc n) test = test n && all_below n test
-
-passes_below : (n : ℕ) (test : ℕ → Bool) → all_below n test ≡ true → (b : ℕ) → b < n → test b ≡ true
-unfolding all_below
-passes_below zero test all b below = absurd (omega arith)
-passes_below (suc n) test all b below =
-    let parts = and_parts _ _ all in
-    ⊎_elim (λ less. passes_below n test parts.1 b less) (λ last. let e : b ≡ n = omega arith in rw e parts.0) (cases_lt b n)
-
-agree : ℕ → Bool
-agree b = (should_percent_encode ESCAPED b && is_escaped b) || (not (should_percent_encode ESCAPED b) && not (is_escaped b))
-
-agree_below : all_below 128 agree ≡ true
-unfolding all_below agree should_percent_encode
-agree_below = refl
-
-same_from_agree : (a b : Bool) → ((a && b) || (not a && not b)) ≡ true → a ≡ b
-same_from_agree true true h = refl
-same_from_agree true false h = sym h
-same_from_agree false true h = h
-same_from_agree false false h = refl
+agree : agree_below (should_percent_encode ESCAPED) is_escaped 128 ≡ true
+unfolding should_percent_encode
+agree = refl
 
 escaped_high : (b : ℕ) → 128 ≤ b → should_percent_encode ESCAPED b ≡ is_escaped b
 unfolding should_percent_encode
 escaped_high b high = grind (arith, nat_tests)
 
-pub escaped_same : (b : ℕ) → should_percent_encode ESCAPED b ≡ is_escaped b
-unfolding agree
-escaped_same b = ⊎_elim (λ low. same_from_agree _ _ (passes_below 128 agree agree_below b low)) (λ high. escaped_high b high) (cases_lt b 128)
+escaped_same : (b : ℕ) → should_percent_encode ESCAPED b ≡ is_escaped b
+escaped_same b =
+    ⊎_elim (λ low. agree_below_at (should_percent_encode ESCAPED) is_escaped 128 b agree low) (escaped_high b) (cases_lt b 128)
 
 -- escaping by the mask is escaping by the test
 pub escaped_is : (part : List ℕ) → percent_encode ESCAPED part ≡ escaped part
@@ -47,3 +27,33 @@ escaped_is [] = refl
 escaped_is (b ∷ bs) =
     ap (λ test. cond test (percent_encode_byte b) (b ∷ []) ++ percent_encode ESCAPED bs) (escaped_same b)
     ∙ ap (λ rest. cond (is_escaped b) (percent_encode_byte b) (b ∷ []) ++ rest) (escaped_is bs)
+
+-- what is escaped is unescaped again
+pub unescaped : (part : List ℕ) → All IsByte part → percent_decode (escaped part) ≡ part
+unescaped part small = ap percent_decode (sym (escaped_is part)) ∙ round_trip ESCAPED part refl small
+
+-- a byte that is seen, and neither a semicolon nor an equals sign
+abbrev pub IsEscapedByte : ℕ → Type 0
+IsEscapedByte b = (33 ≤ b) × (b ≤ 126) × (b ≢ 59) × (b ≢ 61)
+
+kept_byte : (b : ℕ) → should_percent_encode ESCAPED b ≡ false → IsEscapedByte b
+kept_byte b kept =
+    let same : is_escaped b ≡ false = sym (escaped_same b) ∙ kept in (
+      grind (arith, nat_tests),
+      grind (arith, nat_tests),
+      λ e. both_ways (is_escaped b) same (rw e refl),
+      λ e. both_ways (is_escaped b) same (rw e refl),
+    )
+
+escape_byte : (b : ℕ) → IsEscapeByte b → IsEscapedByte b
+escape_byte b h = (grind arith, grind arith, λ e. grind arith, λ e. grind arith)
+
+pub All-escaped : (part : List ℕ) → All IsEscapedByte (escaped part)
+All-escaped part = rw (← escaped_is part) (All-percent_encode IsEscapedByte ESCAPED part kept_byte escape_byte)
+
+pub escaped_nonempty : (part : List ℕ) → part ≢ [] → escaped part ≢ []
+escaped_nonempty [] some e = some refl
+escaped_nonempty (b ∷ bs) some e =
+    let long = percent_encode_nonempty ESCAPED (b ∷ bs) (omega arith) in
+    let none = ap length (escaped_is (b ∷ bs) ∙ e) in
+    omega arith

@@ -1,5 +1,5 @@
 -- What the pieces of a text say, by the tests that the code makes.
-use Rattle.std.proofs.Common.{◌≡◌, ℕ, suc, ◌+◌, ◌||◌, ◌&&◌, Bool, true, false, cond, not, nat_lt, List, [], ◌∷◌, ◌++◌, length, Some, None, Result, Ok, Err, refl, sym, ap, subst, inl, inr, option_map, IsUtf8, ◌∙◌, arith, rules, codes, fold}
+use Rattle.std.proofs.Common.{◌≡◌, ℕ, suc, ◌+◌, ◌||◌, ◌&&◌, Bool, true, false, cond, not, nat_lt, List, [], ◌∷◌, ◌++◌, length, Some, None, Result, Ok, Err, refl, sym, ap, ◌∙◌, arith, rules, codes, fold}
 use Rattle.std.specs.Char.{is_ascii_digit}
 use Rattle.std.specs.List.{list_any, list_all, position_or_len}
 use Rattle.std.specs.Result.{result_ok}
@@ -7,10 +7,9 @@ use Rattle.std.specs.Str.{str_eq_ignore_ascii_case}
 use Rattle.std.specs.Str.Parse.{ParsesUnsigned, digits_value}
 use Rattle.std.proofs.lemmas.Bool.{cond-true, cond-false, and_from, and_parts, lt-ltb, ltb-true, false_from_ne_true, both_ways}
 use Rattle.std.proofs.lemmas.Str.Parse.{IsNumeralModel, IsDigitsTest, numerals_by_value, parse_digits}
-use Rattle.std.proofs.lemmas.Option.{same_Some, none-some}
-use Rattle.percent_encoding.specs.Percent.{percent_decode}
+use Rattle.std.proofs.lemmas.Option.{same_Some}
 use Rattle.rkt_cookie.specs.Cookie.{Parts, bare}
-use Rattle.rkt_cookie.specs.Reading.{is_number, seconds_of, valued, attribute_by, with_piece, later_pieces, Reads, IsPair, IsNoPair}
+use Rattle.rkt_cookie.specs.Reading.{is_number, seconds_of, valued, attribute_by, with_piece, later_pieces, Reads}
 
 goes_on : (first : Bool) (place len : ℕ) (rest : Bool) → cond (not first) (1 + place) 0 ≡ suc len → (place ≡ len → rest ≡ false) → (first || rest) ≡ false
 goes_on true place len rest e h = absurd (omega arith)
@@ -70,12 +69,3 @@ Reads_unique text a b h k =
     let value = same_Some _ _ (sym h.pair.value_read ∙ k.pair.value_read) in
     h.attributes ∙ ap (λ n. fold with_piece (bare n h.value) (later_pieces text)) name
     ∙ ap (λ v. fold with_piece (bare k.name v) (later_pieces text)) value ∙ sym k.attributes
-
--- a piece names a cookie or none, and not both
-pub no_pair : (piece name value : List ℕ) → IsPair piece name value → ¬ IsNoPair piece
-no_pair piece name value h (inl none) = none-some _ (sym (ap (option_map percent_decode) none) ∙ h.value_read)
-no_pair piece name value h (inr (inl none)) = h.named none
-no_pair piece name value h (inr (inr (inl other))) = other (subst IsUtf8 h.name_read h.name_utf8)
-no_pair piece name value h (inr (inr (inr other))) =
-    let same = same_Some _ _ (sym h.value_read ∙ ap (option_map percent_decode) other.1) in
-    other.2 (subst IsUtf8 same h.value_utf8)

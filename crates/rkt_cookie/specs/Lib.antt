@@ -2,4 +2,5 @@ pub mod Attribute
 pub mod Cookie
 pub mod Date
 pub mod Encoded
+pub mod ReadBack
 pub mod Reading

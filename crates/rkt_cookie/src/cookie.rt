@@ -4,6 +4,7 @@ ghost use Rattle.rkt_base.specs.Want.{IfRefused, GivesUnlessNoMemory};
 ghost use Rattle.rkt_cookie.specs.Attribute.{with_attribute};
 ghost use Rattle.rkt_cookie.specs.Cookie.{Parts, bare, removal};
 ghost use Rattle.rkt_cookie.specs.Encoded.{encoded_text};
+ghost use Rattle.rkt_cookie.specs.ReadBack.{IsPrintable, read_back};
 ghost use Rattle.rkt_cookie.specs.Reading.{IsNoPair, Reads, first_piece};
 
 use crate::attribute::Attribute;
@@ -262,7 +263,9 @@ impl Cookie {
 
     /// The text that the cookie is sent as.
     pub fn encoded(&self, alloc: Global) -> Result<String, NoMemory>
-        ensures { IfOk result (λ text. string_bytes text ≡ encoded_text self.now) }
+        ensures printed { IfOk result (λ text. string_bytes text ≡ encoded_text self.now) }
+        // The text is read again as the same cookie.
+        ensures read_again { IfOk result (λ text. IsPrintable self.now → Reads (string_bytes text) (read_back self.now)) }
     {
         let mut text = String::new(alloc);
         push_escaped(&mut text, self.name())?;

@@ -1,7 +1,9 @@
 //! The parts of a cookie's text, each added to the text so far.
 
-ghost use Rattle.std.specs.Prelude.{◌≡◌, ◌++◌, OnOk, string_bytes};
+ghost use Rattle.std.specs.Prelude.{◌≡◌, ◌++◌, ◌<◌, ◌^◌, OnOk, string_bytes};
 ghost use Rattle.std.specs.List.{flat_map};
+ghost use Rattle.std.specs.Option.{ForSome};
+ghost use Rattle.percent_encoding.specs.Percent as percent;
 ghost use Rattle.rkt_cookie.specs.Attribute.{flag, listed, shown_secure};
 ghost use Rattle.httpdate.specs.Date.{date_text};
 ghost use Rattle.rkt_cookie.specs.Date.{dated, moment_text};
@@ -46,7 +48,9 @@ const ESCAPED: AsciiSet = ascii_set!(
 const LAST_SECOND: u64 = 253_402_300_799;
 
 pub(crate) fn push_escaped(text: &mut String, part: &str) -> Result<(), NoMemory>
-    ensures { OnOk result (string_bytes text.new ≡ string_bytes text.old ++ escaped part.now) }
+    ensures added { OnOk result (string_bytes text.new ≡ string_bytes text.old ++ escaped part.now) }
+    // Nothing of the part is lost.
+    ensures undone { percent.percent_decode (escaped part.now) ≡ part.now }
 {
     utf8_percent_encode(part, ESCAPED).append_to(text)
 }
@@ -131,8 +135,9 @@ pub(crate) fn push_domain(text: &mut String, domain: &Option<Text>) -> Result<()
 }
 
 pub(crate) fn push_max_age(text: &mut String, max_age: Option<u64>) -> Result<(), NoMemory>
-    ensures { OnOk result (string_bytes text.new
+    ensures added { OnOk result (string_bytes text.new
         ≡ string_bytes text.old ++ flat_map appended (listed Attribute.MaxAge max_age)) }
+    ensures fits { ForSome max_age (λ seconds. seconds < 2 ^ 64) }
 {
     match max_age {
         Some(seconds) => write!(text, "; Max-Age={seconds}"),
