@@ -1,0 +1,6 @@
+pub mod Balance
+pub mod Clocks
+pub mod Core
+pub mod Pieces
+pub mod Pushes
+pub mod Listening

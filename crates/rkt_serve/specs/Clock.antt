@@ -1,0 +1,13 @@
+-- What a clock means.
+use Rattle.std.specs.Prelude.{◌≤◌, ℕ, Option}
+use Rattle.std.specs.Option.{ForSome}
+
+pub record ClockMeaning : Type 0 where
+  -- the last moment that it has told
+  pub last : ℕ
+  -- the first and the last moment that it may tell, where it tells them
+  pub window : Option (ℕ × ℕ)
+
+-- the moment lies in the window, where there is one
+abbrev pub IsWithin : Option (ℕ × ℕ) → ℕ → Type 0
+IsWithin window moment = ForSome window (λ w. (w.0 ≤ moment) × (moment ≤ w.1))

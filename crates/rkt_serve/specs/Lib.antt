@@ -1,0 +1,11 @@
+pub mod After
+pub mod Asked
+pub mod Causes
+pub mod Clock
+pub mod Events
+pub mod Headline
+pub mod Kept
+pub mod Link
+pub mod Listener
+pub mod Memory
+pub mod Sent

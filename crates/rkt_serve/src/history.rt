@@ -1,0 +1,107 @@
+//! What happened in a launch.
+ghost use Rattle.std.specs.Prelude.{◌≡◌, ◌≤◌, ◌<◌, ◌↔◌, ℕ, nat_lt, if◌then◌else◌, IsSome, IfOk, map, length, slice_get};
+ghost use Rattle.std.specs.List.{count_by};
+ghost use Rattle.std.specs.Option.{option_copied};
+ghost use Rattle.rkt_serve.specs.Events.{is_admit, admitted, admits, ends, end_of, Ordered, IsClosed};
+
+use rkt_base::{NoMemory, Seq};
+use rkt_life::{Response, Run};
+use std::alloc::Global;
+
+/// How the call of a liftoff callback ended.
+#[derive(Clone, Copy, Debug, PartialEq, Eq)]
+pub enum Called {
+    Done,
+    FailedTurn,
+    Starved,
+}
+
+/// How an exchange ended.
+#[derive(Clone, Copy, Debug, PartialEq, Eq)]
+pub enum End {
+    /// The link took the whole response.
+    Answered,
+    /// There was no memory for it.
+    Starved,
+}
+
+/// What is kept of one exchange.
+#[derive(Debug, Drop)]
+pub struct Entry<K> {
+    pub link: K,
+    pub run: Option<Run>,
+    pub response: Option<Response>,
+    pub end: End,
+}
+
+/// One event of a launch. `by` is the number of the worker that entered it.
+#[derive(Debug, Drop)]
+pub enum Event<K> {
+    /// The liftoff callbacks were called.
+    Lift {
+        calls: Seq<Called>,
+    },
+    /// A link was given.
+    Admit {
+        number: u64,
+        moment: u64,
+        by: u64,
+    },
+    /// The exchange with that link is over.
+    End {
+        number: u64,
+        entry: Entry<K>,
+        moment: u64,
+        by: u64,
+    },
+    /// Nothing is open any more, and nothing follows.
+    Close {
+        moment: u64,
+    },
+}
+
+/// The events of a launch, in order.
+#[derive(Debug, Drop)]
+pub struct History<K> {
+    pub events: Seq<Event<K>>,
+}
+
+fn is_admit<K>(event: &Event<K>) -> bool
+    ensures { result ≡ is_admit event.now }
+{
+    matches!(event, Event::Admit { .. })
+}
+
+impl<K> History<K> {
+    /// How many requests were admitted.
+    pub fn admitted(&self) -> u64
+        ensures count { result ≡ admitted self.now.events }
+        ensures numbers { Ordered self.now.events → (k : ℕ) → count_by (admits k) self.now.events ≡ (if nat_lt k result then 1 else 0) }
+    {
+        self.events
+            .as_slice()
+            .iter()
+            .filter(|event| is_admit(event))
+            .count() as u64
+    }
+
+    /// The entry of a number.
+    pub fn entry(&self, number: u64) -> Option<&Entry<K>>
+        ensures found { option_copied result ≡ end_of number self.now.events }
+        ensures once { Ordered self.now.events → count_by (ends number) self.now.events ≤ 1 }
+        ensures closed { Ordered self.now.events → IsClosed self.now.events → IsSome result ↔ (number < admitted self.now.events) }
+    {
+        for event in self.events.as_slice() {
+            if let Event::End {
+                number: other,
+                entry,
+                ..
+            } = event
+                && *other == number
+            {
+                return Some(entry);
+            }
+        }
+        None
+    }
+}

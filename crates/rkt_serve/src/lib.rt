@@ -1,0 +1,26 @@
+//! Serving: the links of a listener, one exchange with each, and the history of it all.
+#![tactic(auto)]
+
+mod clock;
+mod error;
+mod history;
+mod launch;
+mod link;
+mod list_clock;
+mod list_listener;
+mod listener;
+mod memory_link;
+mod send;
+mod system_clock;
+mod working;
+
+pub use clock::Clock;
+pub use error::{Error, ErrorKind, Launched};
+pub use history::{Called, End, Entry, Event, History};
+pub use launch::Launch;
+pub use link::{Link, SendError};
+pub use list_clock::ListClock;
+pub use list_listener::ListListener;
+pub use listener::{Accepted, Listener};
+pub use memory_link::MemoryLink;
+pub use system_clock::SystemClock;
