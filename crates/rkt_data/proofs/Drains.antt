@@ -104,11 +104,24 @@ cut_by_test false from n limit b h e q =
 pub cut_by_count : (from n limit : ℕ) (b : List ℕ) → from + n ≤ limit → (from + n < limit → length b ≤ from + n) → take n (drop from b) ≡ drop from (take limit b)
 cut_by_count from n limit b h e = cut_by_test (nat_le limit (from + n)) from n limit b h e refl
 
--- what was gathered is the value, once all up to the limit was given
+-- several reads more
+pub Gathered-drawn : {S : Type 0} {meaning : S → Meaning} {polled : S → Gate → S → Type 0} {gate : Gate} {o p : Piped S} {from : ℕ} {old new : List ℕ} → Gathered meaning o.opened from old → Draws meaning polled gate o p old new → Gathered meaning p.opened from new
+Gathered-drawn h d = rw d.gained.1 (Gathered-more h d.follows d.gained.2)
+
+-- what was gathered is the body up to the limit, once all of that was given
+pub cut-gathered : {S : Type 0} {meaning : S → Meaning} {trip : Option ℕ} {o p : Opened S} {from : ℕ} {got : List ℕ} → Gathered meaning p from got → Follows meaning trip o p → IsUsedUp meaning p → p.given ≤ p.limit
+    → ForSome (whole_of meaning o) (λ b. got ≡ drop from (take o.limit b))
+cut-gathered {o = o} {p = p} {from = from} {got = got} h f u l = λ b t. let t' = whole_same f ∙ t in
+    h.bytes b t' ∙ cut_by_count from (length got) p.limit b (omega (arith, h.count, l)) (λ q. omega (arith, h.count, u (omega (arith, h.count, q)) b t')) ∙ ap (λ i. drop from (take i b)) f.limit
+
+-- so it is the value of a state that gathers
 pub Completes-gathered : {S : Type 0} {meaning : S → Meaning} {trip : Option ℕ} {o p : Opened S} {from : ℕ} {got : List ℕ} (value : List ℕ) (n : N) → value ≡ got → n.written ≡ length got → Gathered meaning p from got → Follows meaning trip o p → IsUsedUp meaning p → p.given ≤ p.limit
     → ForSome (whole_of meaning o) (λ b. IsComplete n.complete b o.limit) → Completes meaning o from value n
-Completes-gathered {o = o} {p = p} {from = from} {got = got} value n v e h f u l c = (
-  e ∙ ap length (sym v),
-  λ b t. let t' = whole_same f ∙ t in
-      (v ∙ h.bytes b t' ∙ cut_by_count from (length got) p.limit b (omega (arith, h.count, l)) (λ q. omega (arith, h.count, u (omega (arith, h.count, q)) b t')) ∙ ap (λ i. drop from (take i b)) f.limit, c b t),
-)
+Completes-gathered value n v e h f u l c = (e ∙ ap length (sym v), λ b t. (v ∙ cut-gathered h f u l b t, c b t))
+
+-- a call that gave nothing
+pub Gathered-same : {S : Type 0} {meaning : S → Meaning} {trip : Option ℕ} {o p : Opened S} {from : ℕ} {got : List ℕ} → Gathered meaning o from got → Follows meaning trip o p → p.given ≡ o.given → Gathered meaning p from got
+Gathered-same h f e = record { count = e ∙ h.count; bytes = λ b t. h.bytes b (sym (whole_same f) ∙ t) }
+
+pub IsUsedUp-same : {S : Type 0} {meaning : S → Meaning} {trip : Option ℕ} {o p : Opened S} → Follows meaning trip o p → p.given ≡ o.given → IsUsedUp meaning o → IsUsedUp meaning p
+IsUsedUp-same f e u = λ less b t. let l = f.limit in omega (arith, e, u (omega (arith, e, l, less)) b (sym (whole_same f) ∙ t))

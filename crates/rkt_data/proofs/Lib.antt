@@ -4,3 +4,4 @@ pub mod MemoryLemmas
 pub mod Pulls
 pub mod Streams
 pub mod Taps
+pub mod TextLemmas

@@ -65,13 +65,13 @@ IsUsedUp meaning o = o.given < o.limit → ForSome (whole_of meaning o) (λ b. l
 abbrev pub Pours : {S : Type 0} → (S → Meaning) → Opened S → Opened S → ℕ → ℕ → Stop → Type 0
 Pours meaning o p room n stop.Full = n ≡ room
 Pours meaning o p room n stop.End = IsUsedUp meaning p
-Pours meaning o p room n (stop.Failed e) = TapErrs meaning e o.tap p.tap
+Pours meaning o p room n (stop.Failed e) = TapErrs meaning e o.tap p.tap × (p.given < p.limit)
 Pours meaning o p room n stop.Waiting = TapWaits meaning o.tap p.tap
 
 -- why reading all up to the limit stopped
 abbrev pub Drains : {S : Type 0} → (S → Meaning) → Opened S → Opened S → Drained → Type 0
 Drains meaning o p drained.End = IsUsedUp meaning p
-Drains meaning o p (drained.Failed e) = TapErrs meaning e o.tap p.tap
+Drains meaning o p (drained.Failed e) = TapErrs meaning e o.tap p.tap × (p.given < p.limit)
 Drains meaning o p drained.Waiting = TapWaits meaning o.tap p.tap
 Drains meaning o p drained.NoMemory = ⊤
 
@@ -114,4 +114,4 @@ Completes meaning o from value n = (n.written ≡ length value) × ForSome (whol
 abbrev pub GathersBytes : {S : Type 0} → (S → Meaning) → Gathering S → Gathering S → Poll (Result (Capped (Vec ℕ Global)) DataError) → Type 0
 GathersBytes meaning a b Pending = (b.failed ≡ None) × (b.done ≡ false) × TapWaits meaning a.stream.tap b.stream.tap
 GathersBytes meaning a b (Ready (Err e)) = (b.failed ≡ Some e) × (b.done ≡ false) × BytesErr meaning a.stream b.stream e
-GathersBytes meaning a b (Ready (Ok c)) = Completes meaning a.stream a.from c.value.items c.n
+GathersBytes meaning a b (Ready (Ok c)) = (b.done ≡ true) × Completes meaning a.stream a.from c.value.items c.n

@@ -7,3 +7,4 @@ pub mod Sink
 pub mod Source
 pub mod Stream
 pub mod Tap
+pub mod Text

@@ -63,7 +63,7 @@ pub record Follows {S : Type 0} (meaning : S → Meaning) (trip : Option ℕ) (o
 -- what a read answers, into a buffer that held `old` and holds `new`: the next bytes up to the limit, and none only at an end
 abbrev pub Reads : {S : Type 0} → (S → Meaning) → Opened S → Opened S → List ℕ → List ℕ → Poll (Result ℕ SourceError) → Type 0
 Reads meaning o p old new Pending = (p.given ≡ o.given) × TapWaits meaning o.tap p.tap
-Reads meaning o p old new (Ready (Err e)) = (p.given ≡ o.given) × TapErrs meaning e o.tap p.tap
+Reads meaning o p old new (Ready (Err e)) = (p.given ≡ o.given) × (o.given < o.limit) × TapErrs meaning e o.tap p.tap
 Reads meaning o p old new (Ready (Ok n)) = (n ≤ length old) × (p.given ≡ o.given + n)
     × ForSome (whole_of meaning o) (λ b. (take n new ≡ take n (drop o.given b)) × (0 < length old → o.given < o.limit → n ≡ 0 → length b ≤ o.given))
 

@@ -1,4 +1,4 @@
-use Rattle.std.proofs.Common.{◌≡◌, ◌∙◌, false, length, take, ap, sym, arith, length-take-le}
+use Rattle.std.proofs.Common.{◌≡◌, ◌∙◌, false, length, take, ap, sym, arith, rules, length-take-le}
 use Rattle.rkt_data.proofs.Drains.{Gathered-more, Completes-gathered}
 use Rattle.rkt_data.proofs.Taps.{ByGate-refl}
 use Rattle.rkt_data.proofs.into_bytes.IntoBytes.poll.Goals as goal
@@ -22,4 +22,4 @@ returns-in-Bytes-clause-answer g c = λ unfailed.
     let more = rw c.resume-room.ensures.items at c.finish-count.ensures.gained.1 in
     let gathered = Gathered-more held.0 c.finish-count.ensures.follows c.finish-count.ensures.gained.2 in
     let long : length (take c.finish-count.result.0 c.finish-count.new.room.items) ≡ c.finish-count.result.0 = length-take-le c.finish-count.result.0 c.finish-count.new.room.items (omega (arith, c.finish-count.ensures.within, c.finish-count.new.room.ok.0)) in
-    rw (c.new.ensures, ← c.self.view_is) (Completes-gathered c.truncate.new.self.items record { written = c.finish-count.result.0; complete = c.in-Bytes.complete } (c.truncate.ensures.items ∙ more) (sym long ∙ ap length more) gathered c.finish-count.ensures.follows ends.0 ends.1 ends.2)
+    rw (c.new.ensures, ← c.self.view_is) (search rules, Completes-gathered c.truncate.new.self.items record { written = c.finish-count.result.0; complete = c.in-Bytes.complete } (c.truncate.ensures.items ∙ more) (sym long ∙ ap length more) gathered c.finish-count.ensures.follows ends.0 ends.1 ends.2)
