@@ -1,6 +1,7 @@
 pub mod Faults
 pub mod Groups
 pub mod Joins
+pub mod Normal
 pub mod OriginLemmas
 pub mod Pages
 pub mod Pieces

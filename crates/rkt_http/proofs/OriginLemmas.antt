@@ -1,5 +1,5 @@
 -- A text and what it says as an origin.
-use Rattle.std.proofs.Common.{◌≡◌, ℕ, suc, ◌+◌, ◌<◌, ◌≤◌, ◌==◌, Bool, true, false, nat_lt, if◌then◌else◌, List, [], ◌∷◌, ◌++◌, length, take, drop, get_or, refl, sym, ◌∙◌, ap, subst, arith, add-one, Option, Some, None}
+use Rattle.std.proofs.Common.{◌≡◌, ℕ, suc, ◌+◌, ◌<◌, ◌≤◌, ◌==◌, Bool, true, false, not, nat_lt, if◌then◌else◌, List, [], ◌∷◌, ◌++◌, length, take, drop, get_or, refl, sym, ◌∙◌, ap, subst, arith, add-one, Option, Some, None}
 use Rattle.std.proofs.lemmas.Bool.{false≢true}
 use Rattle.std.proofs.lemmas.Bool.Decides.{nat_tests}
 use Rattle.std.specs.List.{before_first, position_or_len}
@@ -52,24 +52,42 @@ spelled_back (b ∷ bs) = by_test b bs (b == 63) refl (spelled_back bs)
     by_test b bs false is h = rw (path_more b bs is, query_more b bs is) (ap (λ (cs : List ℕ). b ∷ cs) h)
 
 -- a text says what it is the spelling of
-says : (profile : Profile) (path : List ℕ) (query : Option (List ℕ)) → OnlyOf (is_path_byte profile) path
+pub says : (path : List ℕ) (query : Option (List ℕ)) → OnlyOf (λ b. not (is_question b)) path
     → target_of (path ++ query_text query) ≡ record { path = path; query = query }
-says profile [] None only = refl
-says profile [] (Some query) only = rw (query_here 63 query refl) refl
-says profile (b ∷ path) query only =
-    let other = question_free profile b (b == 63) refl only.0 in
+says [] None only = refl
+says [] (Some query) only = rw (query_here 63 query refl) refl
+says (b ∷ path) query only =
+    let other = of_not (b == 63) only.0 in
     rw (path_more b (path ++ query_text query) other, query_more b (path ++ query_text query) other)
-    (ap (λ (t : Target). record { path = b ∷ t.path; query = t.query }) (says profile path query only.1))
+    (ap (λ (t : Target). record { path = b ∷ t.path; query = t.query }) (says path query only.1))
   where
-    question_free : (profile : Profile) (b : ℕ) (t : Bool) → (b == 63) ≡ t → is_path_byte profile b ≡ true → (b == 63) ≡ false
-    question_free profile b false is only = is
-    question_free profile b true is only =
-        let same : b ≡ 63 = grind (arith, nat_tests, is) in
-        absurd (false≢true (sym (ap (is_path_byte profile) same ∙ no_question_in_path profile) ∙ only))
+    of_not : (t : Bool) → not t ≡ true → t ≡ false
+    of_not true e = absurd (false≢true e)
+    of_not false e = refl
+
+-- no byte of a path is a question mark
+question_free : (profile : Profile) (path : List ℕ) → OnlyOf (is_path_byte profile) path → OnlyOf (λ b. not (is_question b)) path
+question_free profile [] only = tt
+question_free profile (b ∷ path) only = (by_test (b == 63) refl, question_free profile path only.1)
+  where
+    by_test : (t : Bool) → (b == 63) ≡ t → not t ≡ true
+    by_test false is = refl
+    by_test true is = let same : b ≡ 63 = grind (arith, nat_tests, is) in
+        absurd (false≢true (sym (ap (is_path_byte profile) same ∙ no_question_in_path profile) ∙ only.0))
+
+-- nor is any before the first one
+pub front_free : (text : List ℕ) → OnlyOf (λ b. not (is_question b)) (before_first is_question text)
+front_free [] = tt
+front_free (b ∷ bs) = by_test b bs (b == 63) refl (front_free bs)
+  where
+    by_test : (b : ℕ) (bs : List ℕ) (t : Bool) → (b == 63) ≡ t → OnlyOf (λ b. not (is_question b)) (before_first is_question bs)
+        → OnlyOf (λ b. not (is_question b)) (before_first is_question (b ∷ bs))
+    by_test b bs true is h = rw (path_here b bs is) tt
+    by_test b bs false is h = rw (path_more b bs is) (ap not is, h)
 
 -- what a text spells is what it says
 pub target_said : (profile : Profile) (text : List ℕ) (target : Target) → Spells profile text target → target_of text ≡ target
-target_said profile text target s = ap target_of s.spelled ∙ says profile target.path target.query s.fits.path
+target_said profile text target s = ap target_of s.spelled ∙ says target.path target.query (question_free profile target.path s.fits.path)
 
 pub said : (profile : Profile) (text : List ℕ) → IsOrigin profile text → Spells profile text (target_of text)
 said profile text o = let P : Target → Type 0 = Spells profile text in subst P (sym (target_said profile text o.0 o.1)) o.1

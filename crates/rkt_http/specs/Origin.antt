@@ -1,9 +1,9 @@
 -- The grammar of an origin: a path that begins with a slash, and maybe a query.
 use Rattle.std.specs.Prelude.{ℕ, ◌≡◌, List, [], ◌∷◌, ◌++◌, Bool, false, ◌==◌, ◌||◌, ◌&&◌, nat_le, codes, Option, Some, None, IfSome, if◌then◌else◌, length, filter, map, not, unwrap_or}
-use Rattle.std.specs.List.{list_any, before_first, after_first, slice_split}
+use Rattle.std.specs.List.{list_any, before_first, after_first, slice_split, join_with_byte}
 use Rattle.std.specs.Str.Lossy.{utf8_lossy}
 use Rattle.percent_encoding.specs.Percent.{percent_decode}
-use Rattle.rkt_http.specs.Grammar.{OnlyOf, has_byte}
+use Rattle.rkt_http.specs.Grammar.{OnlyOf, behind_first}
 use Rattle.rkt_http.specs.declared.origin_place.Profile.{Profile}
 use Rattle.rkt_http.specs.declared.origin_place.Profile.TheVariants.{Request, Route}
 
@@ -56,7 +56,7 @@ is_question b = b == 63
 
 -- what follows the first question mark, if there is one
 abbrev pub query_in : List ℕ → Option (List ℕ)
-query_in text = if has_byte is_question text then Some (after_first is_question text) else None
+query_in text = behind_first is_question text
 
 -- what a text says, cut at its first question mark
 abbrev pub target_of : List ℕ → Target
@@ -95,6 +95,26 @@ field_of piece = (decoded_field_part (before_first is_equals piece), decoded_fie
 
 abbrev pub fields_of : Target → List (List ℕ × List ℕ)
 fields_of target = map field_of (pieces 38 (unwrap_or target.query []))
+
+-- the pieces with separators between them, if there are any
+abbrev pub joined_unless_none : ℕ → List (List ℕ) → Option (List ℕ)
+joined_unless_none separator [] = None
+joined_unless_none separator (piece ∷ pieces) = Some (join_with_byte separator (piece ∷ pieces))
+
+abbrev pub is_ampersand : ℕ → Bool
+is_ampersand b = b == 38
+
+-- each piece with the separator before it
+abbrev pub led : ℕ → List (List ℕ) → List ℕ
+led separator [] = []
+led separator (piece ∷ pieces) = (separator ∷ piece) ++ led separator pieces
+
+-- the normal form of a path and a query: no empty segment, no empty piece in the query, and no empty query
+abbrev pub normal_form : List ℕ → List ℕ → Target
+normal_form path query = record { path = 47 ∷ join_with_byte 47 (pieces 47 path); query = joined_unless_none 38 (pieces 38 query) }
+
+abbrev pub normalized : Target → Target
+normalized target = normal_form target.path (unwrap_or target.query [])
 
 -- the parts that are kept beside the text are those of the text
 pub record IsKept (text : List ℕ) (segments : List (List ℕ)) (fields : List (List ℕ × List ℕ)) : Type 0 where

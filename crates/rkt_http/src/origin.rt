@@ -1,8 +1,8 @@
-ghost use Rattle.std.specs.Prelude.{◌≡◌, [], IfOk, map, None, option_copied};
-ghost use Rattle.std.specs.List.{before_first};
+ghost use Rattle.std.specs.Prelude.{◌≡◌, ◌<◌, ◌∷◌, [], IfOk, map, None, option_copied, string_bytes};
+ghost use Rattle.std.specs.List.{before_first, join_with_byte};
 ghost use Rattle.rkt_base.specs.Want.{IfRefused, GivesUnlessNoMemory};
-ghost use Rattle.rkt_http.specs.Grammar.{LeavesAt};
-ghost use Rattle.rkt_http.specs.Origin.{Target, Spells, IsOrigin, spelling, decoded, decoded_field_part, unplus, field_of, pieces, raw_segments_of, segments_of, fields_of, target_of, is_question, query_in};
+ghost use Rattle.rkt_http.specs.Grammar.{LeavesAt, behind_first};
+ghost use Rattle.rkt_http.specs.Origin.{Target, Spells, IsOrigin, spelling, decoded, decoded_field_part, unplus, field_of, pieces, raw_segments_of, segments_of, fields_of, target_of, is_question, query_in, led, normal_form, normalized, is_ampersand};
 
 use crate::grammar::first_fault;
 use crate::origin_iter::{QueryFields, RawSegments};
@@ -142,6 +142,56 @@ fn parse_as(profile: Profile, alloc: Global, text: &str) -> Result<Origin, Want<
     }
 }
 
+/// The pieces that are not empty, each with the separator before it.
+fn led_pieces(alloc: Global, text: &str, separator: char) -> Result<String, NoMemory>
+    requires { separator < 128 }
+    ensures { IfOk result (λ t. string_bytes t ≡ led separator (pieces separator text.now)) }
+{
+    let mut led = String::new(alloc);
+    for piece in text.split(separator) {
+        if !piece.is_empty() {
+            led.push(separator)?;
+            led.push_str(piece)?;
+        }
+    }
+    Ok(led)
+}
+
+/// The path of the normal form.
+fn normal_path(alloc: Global, path: &str) -> Result<String, NoMemory>
+    ensures { IfOk result (λ t. string_bytes t ≡ 47 ∷ join_with_byte 47 (pieces 47 path.now)) }
+{
+    let mut text = led_pieces(alloc, path, '/')?;
+    if text.as_str().is_empty() {
+        text.push_str("/")?;
+    }
+    Ok(text)
+}
+
+fn behind_ampersand(text: &str) -> Option<&str>
+    ensures { option_copied result ≡ behind_first is_ampersand text.now }
+{
+    match text.split_once('&') {
+        Some((_, behind)) => Some(behind),
+        None => None,
+    }
+}
+
+/// The text of an origin's normal form.
+fn normal_text(alloc: Global, path: &str, query: &str) -> Result<Text, NoMemory>
+    ensures { IfOk result (λ t. t ≡ spelling (normal_form path.now query.now)) }
+{
+    let mut text = normal_path(alloc, path)?;
+    match behind_ampersand(led_pieces(alloc, query, '&')?.as_str()) {
+        Some(query) => {
+            text.push_str("?")?;
+            text.push_str(query)?;
+            Ok(Text::from_string(text))
+        }
+        None => Ok(Text::from_string(text)),
+    }
+}
+
 impl Origin {
     /// The origin of a request.
     pub fn parse(alloc: Global, text: &str) -> Result<Origin, Want<InvalidUri>>
@@ -180,6 +230,22 @@ impl Origin {
         ensures { option_copied result ≡ self.now.query }
     {
         query_of_text(self.text.as_str())
+    }
+
+    /// The normal form: no empty segment, and no empty piece in the query.
+    pub fn into_normalized(self, alloc: Global) -> Result<Origin, NoMemory>
+        ensures value { IfOk result (λ o. o ≡ normalized self) }
+        // Normalizing twice is normalizing once.
+        ensures settled { IfOk result (λ o. normalized o ≡ o) }
+        ensures same_segments { IfOk result (λ o. segments_of o ≡ segments_of self) }
+        ensures same_fields { IfOk result (λ o. fields_of o ≡ fields_of self) }
+    {
+        let text = normal_text(alloc, self.path(), self.query().unwrap_or(""))?;
+        Ok(Origin {
+            text,
+            segments: self.segments,
+            fields: self.fields,
+        })
     }
 
     /// Takes the query away.

@@ -1,6 +1,7 @@
 use Rattle.std.proofs.Common.{◌≡◌, List, ℕ, map, ap, sym, ◌∙◌, ◌++◌, Bor}
 use Rattle.std.specs.List.{join_with_byte}
-use Rattle.rkt_http.proofs.Joins.{led, join_with_byte-led}
+use Rattle.rkt_http.specs.Origin.{led}
+use Rattle.rkt_http.proofs.Joins.{join_with_byte-led}
 use Rattle.rkt_http.proofs.path_buf.join.Goals as goal
 
 pub loop-name-init : goal.loop-name-init
