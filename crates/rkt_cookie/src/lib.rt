@@ -12,3 +12,6 @@ pub use builder::CookieBuilder;
 pub use cookie::Cookie;
 pub use parse::InvalidCookie;
 pub use same_site::SameSite;
+
+#[cfg(test)]
+mod tests;
