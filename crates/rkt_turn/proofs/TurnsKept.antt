@@ -13,7 +13,7 @@ use Rattle.atomic_table.proofs.Lists.{set_else, set_again, at_snoc, at_longer}
 use Rattle.rkt_turn.specs.declared.known.Known.{Known}
 use Rattle.rkt_turn.specs.declared.known.Returned.{Returned}
 use Rattle.rkt_turn.specs.Booked.{StartsWith, InOneOrder, longer, of, AreOf}
-use Rattle.rkt_turn.specs.Known.{last_number, one, times, without, mine_of, newcomer, entered, gave, drew, another, given_back, took_in, compared, gone, all_passes, has, count}
+use Rattle.rkt_turn.specs.Known.{last_number, one, times, without, mine_of, newcomer, entered, gave, drew, another, given_back, took_in, compared, gone, all_passes, HasAll, has, count}
 use Rattle.rkt_turn.specs.TurnRule.{Shows, Placed, Fits, Kept, begun, Took, taken, given, settled}
 use Rattle.rkt_turn.proofs.Counts.{one_same, one_else, of_added_other, of_added_same, starts_whole, starts_longer, count_set, count_same, count_snoc, count_one, count_two, has_own, each_set, starts_either, one_order, times_without}
 
@@ -396,7 +396,7 @@ module _ {S N E : Type 0} (name_of : S → N) (entries : S → List E) (legal : 
 
   -- the last state: the first pass has every other pass back
   pub closes : (id : ℕ) (v : K) (ws : List ℕ) (xs : List (Option S)) → v.spent ≡ false → v.number ≡ 0 → v.turn ≡ false → v.opened ≡ true → v.out ≡ []
-      → Final (Seen Rule id v) ws xs → (x : S) × (get_elem? xs 0 ≡ some (Some x)) × Took name_of entries legal kept number v x × ((n : ℕ) → n < last_number → of number n (entries x) ≡ mine_of n (all_passes v))
+      → Final (Seen Rule id v) ws xs → (x : S) × (get_elem? xs 0 ≡ some (Some x)) × Took name_of entries legal kept number v x × HasAll number (all_passes v) (entries x)
   closes id v ws xs live null idle begun_too none_out f = let s : St = f.0 in let r = f.1.0 in let at = f.1.1 in let fit = r.each id v at live in let who = is_first s r id v at live null in
       let out_is : r.lead.out ≡ [] = ap (λ (z : K). z.out) (sym who.1) ∙ none_out in let home = home_at s r.opened r.list r.holder (nobody s r id v out_is at live idle r.holder r.placed) r.placed in
       let it = shown r.opened r.list home.1.0 (sym fit.open_too ∙ begun_too) home.1.2 in let same : r.list ≡ entries it.0 = sym it.3 in (

@@ -1,9 +1,9 @@
 -- What a pass knows, and how a call changes it.
-use Rattle.std.specs.Prelude.{◌≡◌, ℕ, ◌+◌, ◌≤◌, ◌==◌, if◌then◌else◌, false, true, cond, List, [], ◌∷◌, ◌++◌, drop, length, Some, None}
+use Rattle.std.specs.Prelude.{◌≡◌, ℕ, ◌+◌, ◌<◌, ◌==◌, false, true, cond, List, [], ◌∷◌, ◌++◌, drop, length, Some, None}
 use Rattle.atomic_table.specs.declared.shared.Seat.{Seat}
 use Rattle.rkt_turn.specs.declared.known.Known.{Known}
 use Rattle.rkt_turn.specs.declared.known.Returned.{Returned}
-use Rattle.rkt_turn.specs.Booked.{longer}
+use Rattle.rkt_turn.specs.Booked.{longer, of, AreOf, Adds}
 
 -- 2 ^ 64 - 2, the last number, which is given again and again
 abbrev pub last_number : ℕ
@@ -87,6 +87,23 @@ module _ {N E : Type 0} where
   abbrev pub count : ℕ → List (Known N E) → ℕ
   count n [] = 0
   count n (v ∷ vs) = has n v + count n vs
+
+  -- the list has of the pass's entries just those that it entered: below the last number, which several passes may have
+  abbrev pub HasMine : (E → ℕ) → Known N E → List E → Type 0
+  HasMine number v list = v.number < last_number → of number v.number list ≡ v.mine
+
+  -- the list is the one that the pass found in its turn, or that with one more entry of this pass
+  abbrev pub AddsOne : (E → ℕ) → Known N E → List E → Type 0
+  AddsOne number v list = Adds number v.number v.base list
+
+  -- the list is the one that the pass found in its turn, with entries of this pass behind it
+  abbrev pub AddsOwn : (E → ℕ) → Known N E → List E → Type 0
+  AddsOwn number v list = (added : List E) × (list ≡ v.base ++ added) × AreOf number v.number added
+
+module _ {E : Type 0} where
+  -- of each number below the last one, the list has what the pass with that number entered
+  abbrev pub HasAll : (E → ℕ) → List (Returned E) → List E → Type 0
+  HasAll number passes list = (n : ℕ) → n < last_number → of number n list ≡ mine_of n passes
 
 module _ {S N E : Type 0} where
   abbrev pub view : Seat S (Known N E) → Known N E

@@ -7,7 +7,7 @@ use Rattle.atomic_table.specs.Table.{State, Me, Step}
 use Rattle.atomic_table.specs.declared.shared.Seat.{Seat}
 use Rattle.rkt_turn.specs.declared.known.Known.{Known}
 use Rattle.rkt_turn.specs.Booked.{StartsWith, InOneOrder, of}
-use Rattle.rkt_turn.specs.Known.{last_number, times, mine_of, entered, gave, compared, count, view}
+use Rattle.rkt_turn.specs.Known.{HasMine, last_number, times, mine_of, entered, gave, compared, count, view}
 
 module _ {S N E : Type 0} where
   -- a pass has its number and the next one at hand, and holds the emptied slot in a turn
@@ -35,7 +35,7 @@ module _ {S N E : Type 0} (name_of : S → N) (entries : S → List E) (legal : 
     pub began : StartsWith list v.seen
     pub other : StartsWith list v.other
     pub small : v.number ≤ last_number
-    pub own : v.number < last_number → of number v.number list ≡ v.mine
+    pub own : HasMine number v list
 
   -- there is a list, at most one holder, and a first pass, such that the following holds of all passes that are not spent
   pub record Kept (s : State (Option S) (Known N E)) : Type 0 where
@@ -75,7 +75,7 @@ module _ {S N E : Type 0} where
       pub allowed : legal (name_of x) (entries x)
       pub keeps : kept x
       pub began : StartsWith (entries x) v.seen
-      pub own : v.number < last_number → of number v.number (entries x) ≡ v.mine
+      pub own : HasMine number v (entries x)
 
     -- taking the turn: where the word was 0, the state is here
     abbrev pub taken : Step (Option S) → Sat S N E → ℕ → Sat S N E → Type 0

@@ -1,9 +1,11 @@
 -- The rule of a wire, and what each step on it tells.
-use Rattle.std.specs.Prelude.{◌≡◌, ℕ, ◌+◌, ◌⊎◌, max, List, [], ◌∷◌, ◌==◌}
+use Rattle.std.specs.Prelude.{◌≡◌, ℕ, ◌+◌, ◌<◌, ◌⊎◌, max, List, [], ◌∷◌, ◌==◌}
 use prog.Atomic.{either}
 use mathlib.Core.Option.{some}
 use lib.ListN.{get_elem?}
+use Rattle.atomic_table.specs.Seated.{TableId}
 use Rattle.atomic_table.specs.Table.{State, Me}
+use Rattle.atomic_table.specs.declared.shared.Seat.{Seat}
 use Rattle.rkt_turn.specs.declared.glance.Glance.{Glance}
 
 -- what the first handle knows, and what a handle knows that was joined to another
@@ -49,3 +51,10 @@ SettlesAt me n after = (after ≡ (record { seen = max me.0.seen me.0.twin; twin
 -- a handle that took another in, until it compares
 abbrev pub twinned : Glance → Glance → Glance
 twinned v w = record { seen = v.seen; twin = w.seen; looked = max v.looked w.looked }
+
+-- what a handle is made of: a seat of its wire, which holds nothing else, and the word that the seat has seen
+pub record IsHandle (allowed : ℕ → Type 0) (wire : TableId) (seat : Seat (Unit {0}) Glance) (seen : ℕ) : Type 0 where
+  pub own : seat.table_id ≡ wire
+  pub word : 0 < seat.table_id.words
+  pub view : seat.me ≡ (record { seen = seen; twin = 0; looked = seat.me.0.looked }, [])
+  pub allowed_word : 0 < seen → allowed seen

@@ -1,7 +1,7 @@
 //! The steps of a turn lock, on the seat of a pass.
-ghost use Rattle.std.specs.Prelude.{◌≡◌, ◌≤◌, ◌<◌, ◌-◌, ℕ, length, true, false, [], ◌∷◌, ◌++◌, Some, None, List, IfSome, IfNone};
-ghost use Rattle.rkt_turn.specs.Booked.{AreOf, InOneOrder, StartsWith, of};
-ghost use Rattle.rkt_turn.specs.Known.{last_number, entered, gave, drew, another, joined, view, mine_of, all_passes};
+ghost use Rattle.std.specs.Prelude.{◌≡◌, ◌≤◌, ◌-◌, length, true, false, [], ◌∷◌, Some, None, IfSome, IfNone};
+ghost use Rattle.rkt_turn.specs.Booked.{InOneOrder, StartsWith};
+ghost use Rattle.rkt_turn.specs.Known.{AddsOwn, last_number, entered, gave, drew, another, joined, view, HasAll, all_passes};
 ghost use Rattle.rkt_turn.specs.TurnRule.{Took};
 
 use crate::booked::Booked;
@@ -22,8 +22,13 @@ pub(crate) fn try_take<S: Booked>(
     seat: &mut Seat<Option<S>, Known<S::Name, S::Entry>>,
     number: u64,
 ) -> Option<S>
-    requires own { (seat.old.table_id ≡ shared.now.table_id) × (shared.now.table_id.words ≡ 1) }
-    requires ready { ((view seat.old).spent ≡ false) × ((view seat.old).opened ≡ true) × ((view seat.old).number ≡ number) × (number ≤ last_number) × (seat.old.me.1 ≡ []) }
+    requires own { seat.old.table_id ≡ shared.now.table_id }
+    requires word { shared.now.table_id.words ≡ 1 }
+    requires live { (view seat.old).spent ≡ false }
+    requires opened { (view seat.old).opened ≡ true }
+    requires number { (view seat.old).number ≡ number }
+    requires small { number ≤ last_number }
+    requires free { seat.old.me.1 ≡ [] }
     ensures own { seat.new.table_id ≡ seat.old.table_id }
     ensures me { IfSome result (λ x. seat.new.me ≡ (entered (view seat.old) (S.entries x), (0, None) ∷ [])) }
     ensures took { IfSome result (Took S.name S.entries S.legal S.keeps S.number (view seat.old)) }
@@ -70,8 +75,13 @@ pub(crate) fn take<S: Booked, R: Wait>(
     seat: &mut Seat<Option<S>, Known<S::Name, S::Entry>>,
     number: u64,
 ) -> S
-    requires own { (seat.old.table_id ≡ shared.now.table_id) × (shared.now.table_id.words ≡ 1) }
-    requires ready { ((view seat.old).spent ≡ false) × ((view seat.old).opened ≡ true) × ((view seat.old).number ≡ number) × (number ≤ last_number) × (seat.old.me.1 ≡ []) }
+    requires own { seat.old.table_id ≡ shared.now.table_id }
+    requires word { shared.now.table_id.words ≡ 1 }
+    requires live { (view seat.old).spent ≡ false }
+    requires opened { (view seat.old).opened ≡ true }
+    requires number { (view seat.old).number ≡ number }
+    requires small { number ≤ last_number }
+    requires free { seat.old.me.1 ≡ [] }
     ensures own { seat.new.table_id ≡ seat.old.table_id }
     ensures me { seat.new.me ≡ (entered (view seat.old) (S.entries result), (0, None) ∷ []) }
     ensures took { Took S.name S.entries S.legal S.keeps S.number (view seat.old) result }
@@ -92,12 +102,15 @@ pub(crate) fn give<S: Booked>(
     seat: &mut Seat<Option<S>, Known<S::Name, S::Entry>>,
     state: S,
 )
-    requires own { (seat.old.table_id ≡ shared.now.table_id) × (shared.now.table_id.words ≡ 1) }
-    requires ready { ((view seat.old).spent ≡ false) × ((view seat.old).turn ≡ true) × (seat.old.me.1 ≡ (0, None) ∷ []) }
+    requires own { seat.old.table_id ≡ shared.now.table_id }
+    requires word { shared.now.table_id.words ≡ 1 }
+    requires live { (view seat.old).spent ≡ false }
+    requires turn { (view seat.old).turn ≡ true }
+    requires slot { seat.old.me.1 ≡ (0, None) ∷ [] }
     requires name { (view seat.old).name ≡ Some (S.name state) }
     requires legal { S.legal (S.name state) (S.entries state) }
     requires keeps { S.keeps state }
-    requires adds { (added : List S.Entry) × (S.entries state ≡ (view seat.old).base ++ added) × AreOf S.number (view seat.old).number added }
+    requires adds { AddsOwn S.number (view seat.old) (S.entries state) }
     ensures own { seat.new.table_id ≡ seat.old.table_id }
     ensures me { seat.new.me ≡ (gave (view seat.old) (S.entries state), []) }
 {
@@ -114,8 +127,13 @@ pub(crate) fn draw<S: Booked>(
     shared: &Shared<Option<S>, Known<S::Name, S::Entry>, S::Name, TurnRule>,
     seat: &mut Seat<Option<S>, Known<S::Name, S::Entry>>,
 ) -> Seat<Option<S>, Known<S::Name, S::Entry>>
-    requires own { (seat.old.table_id ≡ shared.now.table_id) × (shared.now.table_id.words ≡ 1) }
-    requires ready { ((view seat.old).spent ≡ false) × ((view seat.old).number ≡ 0) × ((view seat.old).turn ≡ false) × ((view seat.old).opened ≡ true) × ((view seat.old).next ≤ last_number) }
+    requires own { seat.old.table_id ≡ shared.now.table_id }
+    requires word { shared.now.table_id.words ≡ 1 }
+    requires live { (view seat.old).spent ≡ false }
+    requires first { (view seat.old).number ≡ 0 }
+    requires idle { (view seat.old).turn ≡ false }
+    requires opened { (view seat.old).opened ≡ true }
+    requires next { (view seat.old).next ≤ last_number }
     ensures own { (seat.new.table_id ≡ seat.old.table_id) × (result.table_id ≡ seat.old.table_id) }
     ensures me { (seat.new.me ≡ (drew (view seat.old), seat.old.me.1)) × (result.me ≡ (another (view seat.old), [])) }
 {
@@ -128,9 +146,15 @@ pub(crate) fn rejoin<S: Booked>(
     seat: &mut Seat<Option<S>, Known<S::Name, S::Entry>>,
     other: Seat<Option<S>, Known<S::Name, S::Entry>>,
 )
-    requires own { (seat.old.table_id ≡ shared.now.table_id) × (other.table_id ≡ shared.now.table_id) × (shared.now.table_id.words ≡ 1) }
-    requires ready { ((view seat.old).spent ≡ false) × ((view seat.old).number ≡ 0) × ((view seat.old).turn ≡ false) }
-    requires other { ((view other).spent ≡ false) × ((view other).turn ≡ false) × (other.me.1 ≡ []) }
+    requires own { seat.old.table_id ≡ shared.now.table_id }
+    requires other_own { other.table_id ≡ shared.now.table_id }
+    requires word { shared.now.table_id.words ≡ 1 }
+    requires live { (view seat.old).spent ≡ false }
+    requires first { (view seat.old).number ≡ 0 }
+    requires idle { (view seat.old).turn ≡ false }
+    requires other_live { (view other).spent ≡ false }
+    requires other_idle { (view other).turn ≡ false }
+    requires other_free { other.me.1 ≡ [] }
     ensures own { seat.new.table_id ≡ seat.old.table_id }
     ensures me { seat.new.me ≡ (joined (view seat.old) (view other), seat.old.me.1) }
     ensures out { length (view seat.new).out ≡ length (view seat.old).out - 1 }
@@ -147,10 +171,16 @@ pub(crate) fn finish<S: Booked>(
     table: Table<Option<S>, Known<S::Name, S::Entry>, S::Name, TurnRule, Global>,
     seat: Seat<Option<S>, Known<S::Name, S::Entry>>,
 ) -> S
-    requires own { (seat.table_id ≡ table.shared.table_id) × (table.shared.table_id.words ≡ 1) × (table.shared.table_id.slots ≡ 1) }
-    requires ready { ((view seat).spent ≡ false) × ((view seat).number ≡ 0) × ((view seat).turn ≡ false) × ((view seat).opened ≡ true) × ((view seat).out ≡ []) }
+    requires own { seat.table_id ≡ table.shared.table_id }
+    requires word { table.shared.table_id.words ≡ 1 }
+    requires slot { table.shared.table_id.slots ≡ 1 }
+    requires live { (view seat).spent ≡ false }
+    requires first { (view seat).number ≡ 0 }
+    requires idle { (view seat).turn ≡ false }
+    requires opened { (view seat).opened ≡ true }
+    requires out { (view seat).out ≡ [] }
     ensures took { Took S.name S.entries S.legal S.keeps S.number (view seat) result }
-    ensures all { (n : ℕ) → n < last_number → of S.number n (S.entries result) ≡ mine_of n (all_passes (view seat)) }
+    ensures all { HasAll S.number (all_passes (view seat)) (S.entries result) }
 {
     let mut closed = table.close_with(seat);
     let slot = closed.take(0);

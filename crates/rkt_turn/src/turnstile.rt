@@ -1,7 +1,7 @@
 //! The lock.
-ghost use Rattle.std.specs.Prelude.{◌≡◌, ◌<◌, ℕ, true, [], Some, IfOk, IfErr};
-ghost use Rattle.rkt_turn.specs.Booked.{StartsWith, of, AreOf, Adds};
-ghost use Rattle.rkt_turn.specs.Known.{last_number, newcomer, entered, gave, mine_of, all_passes};
+ghost use Rattle.std.specs.Prelude.{◌≡◌, true, [], Some, IfOk, IfErr};
+ghost use Rattle.rkt_turn.specs.Booked.{StartsWith, AreOf};
+ghost use Rattle.rkt_turn.specs.Known.{newcomer, entered, gave, HasMine, AddsOne, HasAll, all_passes};
 
 use crate::booked::Booked;
 use crate::known::{Begin, Known, TurnRule};
@@ -79,7 +79,7 @@ impl<S: Booked> Turnstile<S> {
         ensures legal { S.legal (S.name (state_of result)) (S.entries (state_of result)) }
         ensures keeps { S.keeps (state_of result) }
         ensures seen { StartsWith (S.entries (state_of result)) (known pass.old).seen }
-        ensures mine { (known pass.old).number < last_number → of S.number (known pass.old).number (S.entries (state_of result)) ≡ (known pass.old).mine }
+        ensures mine { HasMine S.number (known pass.old) (S.entries (state_of result)) }
     {
         let state = steps::take(
             rt,
@@ -98,7 +98,7 @@ impl<S: Booked> Turnstile<S> {
         requires name { (known pass.old).name ≡ Some (S.name (state_of turn)) }
         requires legal { S.legal (S.name (state_of turn)) (S.entries (state_of turn)) }
         requires keeps { S.keeps (state_of turn) }
-        requires adds { Adds S.number (known pass.old).number (known pass.old).base (S.entries (state_of turn)) }
+        requires adds { AddsOne S.number (known pass.old) (S.entries (state_of turn)) }
         ensures own { IsSameLock pass.old pass.new }
         ensures view { known pass.new ≡ gave (known pass.old) (S.entries (state_of turn)) }
     {
@@ -117,8 +117,8 @@ impl<S: Booked> Turnstile<S> {
         ensures legal { S.legal (S.name result) (S.entries result) }
         ensures keeps { S.keeps result }
         ensures seen { StartsWith (S.entries result) (known pass).seen }
-        // Of each number below the last one, the list has what the pass with that number entered, in that order.
-        ensures all { (n : ℕ) → n < last_number → of S.number n (S.entries result) ≡ mine_of n (all_passes (known pass)) }
+        // The list has what each pass entered, as often and in that order.
+        ensures all { HasAll S.number (all_passes (known pass)) (S.entries result) }
     {
         steps::finish(self.into_table(), pass.into_seat())
     }

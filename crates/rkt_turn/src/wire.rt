@@ -40,14 +40,14 @@ pub struct Shutdown<R: Reason> {
 
 impl<R: Reason> Model for Shutdown<R> {
     ghost use Rattle.rkt_turn.specs.Shutdown.{Handle};
-    ghost use Rattle.std.specs.Prelude.{◌≡◌, ◌<◌, []};
+    ghost use Rattle.rkt_turn.specs.Wire.{IsHandle};
     ghost use Rattle.std.specs.Arc.{arc_value};
 
     ghost Value = { Handle };
 
     ghost view = { λ s. record { wire = s.seat.table_id; seen = s.seen; looked = s.seat.me.0.looked } };
 
-    ghost invariant = { λ s. (s.seat.table_id ≡ (arc_value s.wire).shared.table_id) × (0 < s.seat.table_id.words) × (s.seat.me ≡ (record { seen = s.seen; twin = 0; looked = s.seat.me.0.looked }, [])) × (0 < s.seen → R.allowed s.seen) };
+    ghost invariant = { λ s. IsHandle R.allowed (arc_value s.wire).shared.table_id s.seat s.seen };
 }
 
 impl<R: Reason> TripWire<R> {

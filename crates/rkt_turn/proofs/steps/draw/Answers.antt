@@ -3,5 +3,5 @@ use Rattle.rkt_turn.proofs.TurnsKept.{splits}
 use Rattle.rkt_turn.proofs.steps.draw.Goals as goal
 
 pub split_seat-requires : goal.split_seat-requires
-split_seat-requires g c = let b = g.S.Booked in let ready = c.requires.ready in
-    (search rules, search rules, splits b.name b.entries b.legal b.keeps b.number _ _ _ ready.0 ready.1 ready.2 ready.3 ready.4)
+split_seat-requires g c = let b = g.S.Booked in let r = c.requires in
+    (search rules, search rules, splits b.name b.entries b.legal b.keeps b.number _ _ _ r.live r.first r.idle r.opened r.next)

@@ -5,12 +5,12 @@ use Rattle.rkt_turn.proofs.TurnsKept.{joins, settles}
 use Rattle.rkt_turn.proofs.steps.rejoin.Goals as goal
 
 pub join_seat-requires : goal.join_seat-requires
-join_seat-requires g c = let b = g.S.Booked in let ready = c.requires.ready in let other = c.requires.other in
-    (search rules, search rules, search rules, search rules, joins b.name b.entries b.legal b.keeps b.number _ _ _ _ _ ready.0 ready.1 ready.2 other.0 other.1)
+join_seat-requires g c = let b = g.S.Booked in let r = c.requires in
+    (search rules, search rules, search rules, search rules, joins b.name b.entries b.legal b.keeps b.number _ _ _ _ _ r.live r.first r.idle r.other_live r.other_idle)
 
 pub load-requires : goal.load-requires
-load-requires g c = let b = g.S.Booked in let ready = c.requires.ready in let now = c.join_seat.ensures.2 in
-    (search rules, search rules, settles b.name b.entries b.legal b.keeps b.number _ _ _ _ (ap (λ m. m.0.spent) now ∙ ready.0) (ap (λ m. m.0.turn) now ∙ ready.2))
+load-requires g c = let b = g.S.Booked in let r = c.requires in let now = c.join_seat.ensures.2 in
+    (search rules, search rules, settles b.name b.entries b.legal b.keeps b.number _ _ _ _ (ap (λ m. m.0.spent) now ∙ r.live) (ap (λ m. m.0.turn) now ∙ r.idle))
 
 pub returns-clause-out : goal.returns-clause-out
 returns-clause-out g c = let p = ap (λ m. length m.0.out) c.load.ensures.2.0 in let q = ap (λ m. length m.0.out) c.join_seat.ensures.2 in p ∙ (q ∙ length_without _ _)

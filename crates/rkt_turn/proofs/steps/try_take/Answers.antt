@@ -4,10 +4,10 @@ use Rattle.rkt_turn.proofs.TurnsKept.{takes_it}
 use Rattle.rkt_turn.proofs.steps.try_take.Goals as goal
 
 pub compare_exchange-found-requires : goal.compare_exchange-found-requires
-compare_exchange-found-requires g c = let b = g.S.Booked in let ready = c.requires.ready in (
+compare_exchange-found-requires g c = let b = g.S.Booked in let r = c.requires in (
   search rules,
   search rules,
-  takes_it b.name b.entries b.legal b.keeps b.number _ _ _ _ _ ready.0 ready.1 (ap (λ (k : ℕ). k + 1) (sym ready.2)),
+  takes_it b.name b.entries b.legal b.keeps b.number _ _ _ _ _ r.live r.opened (ap (λ (k : ℕ). k + 1) (sym r.number)),
 )
 
 pub exchange-requires : goal.exchange-requires
