@@ -11,9 +11,8 @@ use lib.ListN.{get_elem?}
 use Rattle.atomic_table.specs.Table.{State, Me, step, keeps, takes, gives, stepped, Allows, Splits, Joins, opening, Final, Seen}
 use Rattle.atomic_table.proofs.Lists.{set_else, set_again, at_snoc, at_longer}
 use Rattle.rkt_turn.specs.declared.known.Known.{Known}
-use Rattle.rkt_turn.specs.declared.known.Returned.{Returned}
-use Rattle.rkt_turn.specs.Booked.{StartsWith, InOneOrder, longer, of, AreOf}
-use Rattle.rkt_turn.specs.Known.{last_number, one, times, without, mine_of, newcomer, entered, gave, drew, another, given_back, took_in, compared, gone, all_passes, HasAll, has, count}
+use Rattle.rkt_turn.specs.Booked.{StartsWith, longer, of, AreOf}
+use Rattle.rkt_turn.specs.Known.{last_number, one, times, without, mine_of, newcomer, entered, gave, drew, another, took_in, compared, gone, all_passes, HasAll, has, count}
 use Rattle.rkt_turn.specs.TurnRule.{Shows, Placed, Fits, Kept, begun, Took, taken, given, settled}
 use Rattle.rkt_turn.proofs.Counts.{one_same, one_else, of_added_other, of_added_same, starts_whole, starts_longer, count_set, count_same, count_snoc, count_one, count_two, has_own, each_set, starts_either, one_order, times_without}
 

@@ -10,11 +10,14 @@ use atomic_table::{Seat, Shared, Table};
 use std::alloc::Global;
 use std::hint::spin_loop;
 use std::sync::Wait;
-use std::sync::atomic::{AtomicU64, Ordering};
+use std::sync::atomic::{AtomicBool, Ordering};
 use std::time::Duration;
 
 // How often a thread looks at the word before it sleeps.
-const SPINS: usize = 64;
+const SPINS: usize = 100;
+
+// A wake that comes between a look and a sleep is lost, so no sleep is longer than so many milliseconds.
+const LONGEST_SLEEP: u64 = 10;
 
 // Takes the turn where nobody has it, and the state out of the slot.
 pub(crate) fn try_take<S: Booked>(
@@ -44,11 +47,12 @@ pub(crate) fn try_take<S: Booked>(
     }
 }
 
-// Waits until the turn may be free: looks a few times, and then sleeps.
+// Waits until the turn may be free: looks a few times, and then sleeps. Who has slept says again that threads wait, so
+// that the next thread is woken after it.
 fn wait<S: Booked, R: Wait>(
     rt: &R,
     shared: &Shared<Option<S>, Known<S::Name, S::Entry>, S::Name, TurnRule>,
-    sleepers: &AtomicU64,
+    waited: &AtomicBool,
 )
     requires { shared.now.table_id.words ≡ 1 }
 {
@@ -58,20 +62,20 @@ fn wait<S: Booked, R: Wait>(
         }
         spin_loop();
     }
-    sleepers.fetch_add(1, Ordering::SeqCst);
+    waited.store(true, Ordering::SeqCst);
     let found = shared.peek(0);
     if found != 0 {
         let low = (found & 0xffff_ffff) as u32;
-        shared.park_timeout(rt, 0, low, Duration::from_millis(10));
+        shared.park_timeout(rt, 0, low, Duration::from_millis(LONGEST_SLEEP));
+        waited.store(true, Ordering::SeqCst);
     }
-    sleepers.fetch_sub(1, Ordering::SeqCst);
 }
 
 // Waits for the turn, and takes the state out of the slot.
 pub(crate) fn take<S: Booked, R: Wait>(
     rt: &R,
     shared: &Shared<Option<S>, Known<S::Name, S::Entry>, S::Name, TurnRule>,
-    sleepers: &AtomicU64,
+    waited: &AtomicBool,
     seat: &mut Seat<Option<S>, Known<S::Name, S::Entry>>,
     number: u64,
 ) -> S
@@ -90,7 +94,7 @@ pub(crate) fn take<S: Booked, R: Wait>(
         if let Some(state) = try_take(shared, seat, number) {
             return state;
         }
-        wait(rt, shared, sleepers);
+        wait(rt, shared, waited);
     }
     unreachable!()
 }
@@ -98,7 +102,7 @@ pub(crate) fn take<S: Booked, R: Wait>(
 // Puts the state into the slot, and gives the turn.
 pub(crate) fn give<S: Booked>(
     shared: &Shared<Option<S>, Known<S::Name, S::Entry>, S::Name, TurnRule>,
-    sleepers: &AtomicU64,
+    waited: &AtomicBool,
     seat: &mut Seat<Option<S>, Known<S::Name, S::Entry>>,
     state: S,
 )
@@ -117,7 +121,8 @@ pub(crate) fn give<S: Booked>(
     let nothing = shared.exchange(seat, 0, Some(state));
     let None = nothing else { unreachable!() };
     shared.store::<Give>(seat, 0, 0);
-    if sleepers.load(Ordering::SeqCst) != 0 {
+    if waited.load(Ordering::SeqCst) {
+        waited.store(false, Ordering::SeqCst);
         shared.wake_one(0);
     }
 }

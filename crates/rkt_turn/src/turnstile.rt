@@ -11,13 +11,13 @@ use crate::turn::Turn;
 use atomic_table::Table;
 use std::alloc::Global;
 use std::sync::Wait;
-use std::sync::atomic::AtomicU64;
+use std::sync::atomic::AtomicBool;
 
 /// A turn lock: a state that one of several passes has at a time.
 pub struct Turnstile<S: Booked> {
     pub(crate) table: Table<Option<S>, Known<S::Name, S::Entry>, S::Name, TurnRule, Global>,
-    // How many threads sleep until the turn is given, or are about to.
-    sleepers: AtomicU64,
+    // Whether a thread may sleep until the turn is given.
+    waited: AtomicBool,
     ghost sized: { (table.shared.table_id.words ≡ 1) × (table.shared.table_id.slots ≡ 1) },
 }
 
@@ -33,14 +33,14 @@ impl<S: Booked> Turnstile<S> {
     {
         Turnstile {
             table,
-            sleepers: AtomicU64::new(0),
+            waited: AtomicBool::new(false),
         }
     }
 
     fn into_table(self) -> Table<Option<S>, Known<S::Name, S::Entry>, S::Name, TurnRule, Global>
         ensures { (result ≡ self.table) × (result.shared.table_id.words ≡ 1) × (result.shared.table_id.slots ≡ 1) }
     {
-        let Turnstile { table, sleepers: _ } = self;
+        let Turnstile { table, waited: _ } = self;
         table
     }
 
@@ -59,12 +59,7 @@ impl<S: Booked> Turnstile<S> {
         };
         table.shared.compare_exchange::<Begin>(&mut seat, 0, 0, 1);
         let turnstile = Turnstile::over(table);
-        steps::give(
-            &turnstile.table.shared,
-            &turnstile.sleepers,
-            &mut seat,
-            state,
-        );
+        steps::give(&turnstile.table.shared, &turnstile.waited, &mut seat, state);
         Ok((turnstile, PassOf::over(seat, 0, 1)))
     }
 
@@ -84,7 +79,7 @@ impl<S: Booked> Turnstile<S> {
         let state = steps::take(
             rt,
             &self.table.shared,
-            &self.sleepers,
+            &self.waited,
             &mut pass.seat,
             pass.number,
         );
@@ -103,7 +98,7 @@ impl<S: Booked> Turnstile<S> {
         ensures view { known pass.new ≡ gave (known pass.old) (S.entries (state_of turn)) }
     {
         let Turn { state } = turn;
-        steps::give(&self.table.shared, &self.sleepers, &mut pass.seat, state);
+        steps::give(&self.table.shared, &self.waited, &mut pass.seat, state);
     }
 
     /// Gives the state back, once every other pass has been joined.

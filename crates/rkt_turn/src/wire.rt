@@ -159,6 +159,7 @@ impl<R: Reason> Shutdown<R> {
         ensures seen { self.new.seen ≡ max self.old.seen other.seen }
         ensures looked { self.new.looked ≡ max self.old.looked other.looked }
         ensures one_word { 0 < self.old.seen → 0 < other.seen → self.old.seen ≡ other.seen }
+        ensures again { 0 < self.old.seen → self.new.seen ≡ self.old.seen }
     {
         let Shutdown { wire, seat, seen } = other;
         drop(wire);
