@@ -1,5 +1,5 @@
 -- Lists of entries, and the pass that entered each.
-use Rattle.std.specs.Prelude.{◌≡◌, ◌⊎◌, ℕ, ◌==◌, ltb, cond, List, [], ◌∷◌, ◌++◌, filter, length, ⊤}
+use Rattle.std.specs.Prelude.{◌≡◌, ◌⊎◌, ℕ, ◌==◌, nat_lt, if◌then◌else◌, List, [], ◌∷◌, ◌++◌, filter, length, ⊤}
 
 module _ {E : Type 0} where
   -- the list begins with all that was seen
@@ -10,8 +10,9 @@ module _ {E : Type 0} where
   abbrev pub InOneOrder : List E → List E → Type 0
   InOneOrder xs ys = StartsWith ys xs ⊎ StartsWith xs ys
 
+  -- the longer of two lists, or the first
   abbrev pub longer : List E → List E → List E
-  longer xs ys = cond (ltb (length xs) (length ys)) ys xs
+  longer xs ys = if nat_lt (length xs) (length ys) then ys else xs
 
   -- the entries of the pass with this number
   abbrev pub of : (E → ℕ) → ℕ → List E → List E

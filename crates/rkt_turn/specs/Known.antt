@@ -1,5 +1,5 @@
 -- What a pass knows, and how a call changes it.
-use Rattle.std.specs.Prelude.{◌≡◌, ℕ, ◌+◌, ◌<◌, ◌==◌, false, true, cond, List, [], ◌∷◌, ◌++◌, drop, length, Some, None}
+use Rattle.std.specs.Prelude.{◌≡◌, ℕ, ◌+◌, ◌<◌, ◌==◌, false, true, if◌then◌else◌, List, [], ◌∷◌, ◌++◌, drop, length, Some, None}
 use Rattle.atomic_table.specs.declared.shared.Seat.{Seat}
 use Rattle.rkt_turn.specs.declared.known.Known.{Known}
 use Rattle.rkt_turn.specs.declared.known.Returned.{Returned}
@@ -11,7 +11,7 @@ last_number = 18446744073709551614
 
 -- 1 where two numbers are the same, and else 0
 abbrev pub one : ℕ → ℕ → ℕ
-one n k = cond (n == k) 1 0
+one n k = if n == k then 1 else 0
 
 -- how often n stands in the list
 abbrev pub times : ℕ → List ℕ → ℕ
@@ -22,13 +22,13 @@ times n (k ∷ ks) = one n k + times n ks
 abbrev pub without : ℕ → List ℕ → List ℕ
 without n [] = []
 without n (k ∷ []) = []
-without n (k ∷ j ∷ ks) = cond (n == k) (j ∷ ks) (k ∷ without n (j ∷ ks))
+without n (k ∷ j ∷ ks) = if n == k then j ∷ ks else k ∷ without n (j ∷ ks)
 
 module _ {E : Type 0} where
   -- what was entered under the number n by the passes that are listed
   abbrev pub mine_of : ℕ → List (Returned E) → List E
   mine_of n [] = []
-  mine_of n (r ∷ rs) = cond (n == r.number) r.mine (mine_of n rs)
+  mine_of n (r ∷ rs) = if n == r.number then r.mine else mine_of n rs
 
 module _ {N E : Type 0} where
   -- the first pass, before the state is there
@@ -43,9 +43,13 @@ module _ {N E : Type 0} where
   abbrev pub gave : Known N E → List E → Known N E
   gave v list = record v { turn = false; opened = true; base = []; seen = list; mine = v.mine ++ drop (length v.base) list }
 
+  -- what a turn leaves alone: the name, the number and which passes are out or came back
+  abbrev pub SamePlace : Known N E → Known N E → Type 0
+  SamePlace v w = (w.name ≡ v.name) × (w.number ≡ v.number) × (w.next ≡ v.next) × (w.out ≡ v.out) × (w.back ≡ v.back)
+
   -- the first pass, after it gave its next number away: the last one is given again and again
   abbrev pub drew : Known N E → Known N E
-  drew v = record v { next = cond (v.next == last_number) last_number (v.next + 1); out = v.next ∷ v.out }
+  drew v = record v { next = (if v.next == last_number then last_number else v.next + 1); out = v.next ∷ v.out }
 
   -- the pass that gets the number, which has seen as much
   abbrev pub another : Known N E → Known N E
@@ -58,10 +62,6 @@ module _ {N E : Type 0} where
   -- the first pass, after it took another one in and before it compares what the two have seen
   abbrev pub took_in : Known N E → Known N E → Known N E
   took_in v w = record v { other = w.seen; out = without w.number v.out; back = given_back w ∷ v.back }
-
-  -- what a turn leaves alone: the name, the number and which passes are out or came back
-  abbrev pub SamePlace : Known N E → Known N E → Type 0
-  SamePlace v w = (w.name ≡ v.name) × (w.number ≡ v.number) × (w.next ≡ v.next) × (w.out ≡ v.out) × (w.back ≡ v.back)
 
   -- after the comparison
   abbrev pub compared : Known N E → Known N E
@@ -81,7 +81,7 @@ module _ {N E : Type 0} where
 
   -- 1 where the pass has the number n and is not spent
   abbrev pub has : ℕ → Known N E → ℕ
-  has n v = cond v.spent 0 (one n v.number)
+  has n v = if v.spent then 0 else one n v.number
 
   -- how many passes have the number n
   abbrev pub count : ℕ → List (Known N E) → ℕ
