@@ -17,9 +17,11 @@ use httpdate::HttpDate;
 use percent_encoding::percent_decode;
 use rkt_base::{NoMemory, Text, Want};
 use std::alloc::Global;
+use thiserror::Error;
 
 /// A text whose first piece has no value, no name, or escapes that make no text.
-#[derive(Clone, Copy, Debug, PartialEq, Eq)]
+#[derive(Clone, Copy, Debug, PartialEq, Eq, Drop, Error)]
+#[error("invalid cookie")]
 pub struct InvalidCookie;
 
 /// What stands before the first semicolon.
