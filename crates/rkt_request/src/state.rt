@@ -1,0 +1,72 @@
+ghost use Rattle.std.specs.Prelude.{◌≡◌};
+ghost use Rattle.std.specs.Option.{option_map};
+ghost use Rattle.rkt_request.specs.Managed.{value_at};
+
+use crate::key::Key;
+use crate::managed::Managed;
+use std::fmt;
+use std::marker::Model;
+use std::ops::Deref;
+
+/// The managed value under a key, lent.
+#[derive(Drop)]
+pub struct State<'a, V, const KEY: u32> {
+    value: &'a V,
+}
+
+impl<'a, V, const KEY: u32> Model for State<'a, V, KEY> {
+    ghost Value = { V };
+
+    ghost view = { λ s. s.value.now };
+}
+
+impl<'a, V: Drop, const KEY: u32> State<'a, V, KEY> {
+    pub fn get(managed: &'a Managed<V>) -> Option<State<'a, V, KEY>>
+        ensures { result ≡ value_at (record { 0 = KEY }) managed.now }
+    {
+        let value = managed.get(Key(KEY))?;
+        Some(State { value })
+    }
+
+    pub fn inner(&self) -> &'a V
+        ensures { result.now ≡ self.now }
+    {
+        self.value
+    }
+}
+
+impl<'a, V, const KEY: u32> From<&'a V> for State<'a, V, KEY> {
+    ghost from_gives = { λ value state. state ≡ value.now };
+
+    fn from(value: &'a V) -> State<'a, V, KEY> {
+        State { value }
+    }
+}
+
+impl<'a, V, const KEY: u32> Deref for State<'a, V, KEY> {
+    type Target = V;
+
+    fn deref(&self) -> &V
+        ensures { result.now ≡ self.now }
+    {
+        self.value
+    }
+}
+
+impl<'a, V: fmt::Display, const KEY: u32> fmt::Display for State<'a, V, KEY> {
+    ghost output = { V.output };
+
+    fn fmt<W: fmt::Write>(&self, f: &mut fmt::Formatter<W>) -> fmt::Result {
+        self.value.fmt(f)
+    }
+}
+
+impl<'a, V: PartialEq, const KEY: u32> PartialEq for State<'a, V, KEY> {
+    ghost eq = { V.eq };
+
+    ghost laws = { V.laws };
+
+    fn eq(&self, other: &State<'a, V, KEY>) -> bool {
+        *self.value == *other.value
+    }
+}
