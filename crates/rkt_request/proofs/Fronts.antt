@@ -1,5 +1,5 @@
 -- When a text is a front of whole layers of a name.
-use Rattle.std.proofs.Common.{◌≡◌, ◌≢◌, ◌⊎◌, ℕ, ◌+◌, ◌<◌, ◌≤◌, List, [], ◌∷◌, ◌++◌, length, get_or, take, refl, sym, ap, ◌∙◌, subst, inl, inr, arith, length-append, length-take, nat_eq, map, false}
+use Rattle.std.proofs.Common.{◌≡◌, ◌≢◌, ℕ, ◌<◌, ◌≤◌, List, [], ◌∷◌, ◌++◌, length, get_or, take, sym, ap, ◌∙◌, subst, inl, inr, arith, length-append, length-take, nat_eq, map, false}
 use Rattle.std.specs.Prelude.{IsTrue, ◌↔◌}
 use Rattle.std.specs.Char.{to_ascii_lowercase}
 use Rattle.std.proofs.lemmas.Bool.{eqb-true, eq-eqb, cases_eq, false≢true}
@@ -48,6 +48,7 @@ front_at_end front items name rest i same e none h =
 -- when the whole front has been read, a slash stands next
 pub front_by_next : (front items name rest others : List ℕ) (i b : ℕ) → items ≡ front → name ≡ take i items ++ map to_ascii_lowercase rest → rest ≡ b ∷ others → length items ≤ i → IsTrue (nat_eq b 47) ↔ IsFront front name
 front_by_next front items name rest others i b same e next all =
-    let whole : name ≡ front ++ to_ascii_lowercase b ∷ map to_ascii_lowercase others = rw (next, take_all i items all, same) at e in
-    (λ slash. inr (map to_ascii_lowercase others, whole ∙ ap (λ c. front ++ to_ascii_lowercase c ∷ map to_ascii_lowercase others) (eqb-true b 47 slash)),
-     λ is. elim (cases_eq b 47) [ inl even ↦ eq-eqb b 47 even | inr other ↦ absurd (not_front_behind front name _ _ whole (λ low. other (slash_alone b low)) is) ])
+    let whole : name ≡ front ++ to_ascii_lowercase b ∷ map to_ascii_lowercase others = rw (next, take_all i items all, same) at e in (
+      λ slash. inr (map to_ascii_lowercase others, whole ∙ ap (λ c. front ++ to_ascii_lowercase c ∷ map to_ascii_lowercase others) (eqb-true b 47 slash)),
+      λ is. elim (cases_eq b 47) [ inl even ↦ eq-eqb b 47 even | inr other ↦ absurd (not_front_behind front name _ _ whole (λ low. other (slash_alone b low)) is) ],
+    )

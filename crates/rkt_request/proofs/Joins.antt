@@ -1,5 +1,5 @@
 -- Pieces that are never put together, against the text that they would make.
-use Rattle.std.proofs.Common.{◌≡◌, ℕ, List, [], ◌∷◌, ◌++◌, map, Global, sym, ap, ◌∙◌}
+use Rattle.std.proofs.Common.{◌≡◌, ℕ, List, [], ◌∷◌, ◌++◌, map, Global, ap}
 use Rattle.std.specs.Prelude.{String, string_bytes, Option}
 use Rattle.std.specs.Char.{to_ascii_lowercase}
 use Rattle.std.specs.List.{join_with_byte}

@@ -3,7 +3,6 @@ use Rattle.std.proofs.Common.{◌≡◌, ℕ, ◌<◌, ◌≤◌, Bool, true, fa
 use Rattle.std.specs.Prelude.{All, IsTrue, String, string_bytes}
 use Rattle.std.proofs.lemmas.Bool.{false≢true}
 use Rattle.std.specs.Option.{option_map}
-use Rattle.std.specs.Ordering.{nat_cmp}
 use Rattle.std.specs.String.{string_cmp}
 use Rattle.std.specs.BTreeMap.{is_at}
 use Rattle.std.specs.Str.{bytes_eq}
@@ -13,7 +12,7 @@ use Rattle.std.proofs.lemmas.List.Elements.{All-push}
 use Rattle.std.proofs.lemmas.Iterator.Adapters.{option_map_id}
 use Rattle.std.proofs.lemmas.Map.Text.{is_eq-slice_cmp}
 use Rattle.rkt_request.specs.declared.byte_unit.ByteUnit.{ByteUnit}
-use Rattle.rkt_request.specs.Limits.{IsFront, IsOfLongest, IsLimitOf}
+use Rattle.rkt_request.specs.Limits.{IsFront, IsLimitOf}
 use Rattle.rkt_request.proofs.Entries.{lookup-seen}
 
 -- the longest front among the entries seen, by its length and its limit

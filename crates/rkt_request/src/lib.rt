@@ -19,3 +19,6 @@ pub use key::Key;
 pub use limits::Limits;
 pub use managed::{DuplicateState, Managed};
 pub use state::State;
+
+#[cfg(test)]
+mod tests;

@@ -32,12 +32,19 @@ impl Model for Limits {
 }
 
 impl Limits {
+    // What holds where none of these names is set.
     pub const FORM: ByteUnit = ByteUnit(32_768);
+
     pub const DATA_FORM: ByteUnit = ByteUnit(2_097_152);
+
     pub const FILE: ByteUnit = ByteUnit(1_048_576);
+
     pub const STRING: ByteUnit = ByteUnit(8_192);
+
     pub const BYTES: ByteUnit = ByteUnit(8_192);
+
     pub const JSON: ByteUnit = ByteUnit(1_048_576);
+
     pub const MESSAGE_PACK: ByteUnit = ByteUnit(1_048_576);
 
     /// No limits.

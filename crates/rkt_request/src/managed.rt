@@ -42,6 +42,7 @@ impl<V: Drop> Managed<V> {
         }
     }
 
+    /// The value under a key.
     pub fn get(&self, key: Key) -> Option<&V>
         ensures { option_copied result ≡ value_at key self.now }
     {

@@ -4,7 +4,9 @@ ghost use Rattle.rkt_request.specs.Managed.{value_at};
 
 use crate::key::Key;
 use crate::managed::Managed;
+use std::cmp::Ordering;
 use std::fmt;
+use std::hash::{Hash, Hasher};
 use std::marker::Model;
 use std::ops::Deref;
 
@@ -21,6 +23,7 @@ impl<'a, V, const KEY: u32> Model for State<'a, V, KEY> {
 }
 
 impl<'a, V: Drop, const KEY: u32> State<'a, V, KEY> {
+    /// The value under this key, where there is one.
     pub fn get(managed: &'a Managed<V>) -> Option<State<'a, V, KEY>>
         ensures { result ≡ value_at (record { 0 = KEY }) managed.now }
     {
@@ -28,6 +31,7 @@ impl<'a, V: Drop, const KEY: u32> State<'a, V, KEY> {
         Some(State { value })
     }
 
+    /// The value, for as long as it is lent.
     pub fn inner(&self) -> &'a V
         ensures { result.now ≡ self.now }
     {
@@ -56,6 +60,8 @@ impl<'a, V, const KEY: u32> Deref for State<'a, V, KEY> {
 impl<'a, V: fmt::Display, const KEY: u32> fmt::Display for State<'a, V, KEY> {
     ghost output = { V.output };
 
+    ghost styled_output = { V.styled_output };
+
     fn fmt<W: fmt::Write>(&self, f: &mut fmt::Formatter<W>) -> fmt::Result {
         self.value.fmt(f)
     }
@@ -68,5 +74,43 @@ impl<'a, V: PartialEq, const KEY: u32> PartialEq for State<'a, V, KEY> {
 
     fn eq(&self, other: &State<'a, V, KEY>) -> bool {
         *self.value == *other.value
+    }
+}
+
+impl<'a, V: Eq, const KEY: u32> Eq for State<'a, V, KEY> {
+    ghost laws = { V.Eq.laws };
+}
+
+impl<'a, V: PartialOrd, const KEY: u32> PartialOrd for State<'a, V, KEY> {
+    ghost partial_cmp = { V.partial_cmp };
+
+    ghost laws = { V.PartialOrd.laws };
+
+    fn partial_cmp(&self, other: &State<'a, V, KEY>) -> Option<Ordering> {
+        self.value.partial_cmp(other.value)
+    }
+}
+
+impl<'a, V: Ord, const KEY: u32> Ord for State<'a, V, KEY> {
+    ghost cmp = { V.cmp };
+
+    ghost total = { V.total };
+
+    ghost matches_partial_cmp = { V.matches_partial_cmp };
+
+    ghost matches_eq = { V.matches_eq };
+
+    fn cmp(&self, other: &State<'a, V, KEY>) -> Ordering {
+        self.value.cmp(other.value)
+    }
+}
+
+impl<'a, V: Hash, const KEY: u32> Hash for State<'a, V, KEY> {
+    ghost hash_input = { V.hash_input };
+
+    ghost respects_eq = { V.respects_eq };
+
+    fn hash<H: Hasher>(&self, state: &mut H) {
+        self.value.hash(state);
     }
 }
