@@ -1,0 +1,6 @@
+pub mod Fronts
+pub mod Entries
+pub mod LongestFront
+pub mod Joins
+pub mod Numerals
+pub mod TableScans

@@ -1,0 +1,33 @@
+-- Limits, each kept under a name in lower case, in the order of these names.
+use Rattle.std.specs.Prelude.{◌≡◌, ◌≤◌, ◌⊎◌, ℕ, List, [], ◌∷◌, ◌++◌, Option, Some, None, All, length, codes}
+use Rattle.std.specs.Str.{bytes_eq}
+use Rattle.std.specs.Map.{lookup}
+use Rattle.rkt_request.specs.declared.byte_unit.ByteUnit.{ByteUnit}
+
+-- a front of whole layers of a name: the name, or what stands before one of its slashes
+abbrev pub IsFront : List ℕ → List ℕ → Type 0
+IsFront front name = (name ≡ front) ⊎ ((rest : List ℕ) × (name ≡ front ++ 47 ∷ rest))
+
+-- the limit of the longest front of a name that has one
+pub record IsOfLongest (limits : List (List ℕ × ByteUnit)) (name : List ℕ) (limit : ByteUnit) : Type 0 where
+  pub front : List ℕ
+  pub is_front : IsFront front name
+  pub kept : lookup (bytes_eq front) limits ≡ Some limit
+  pub longest : All (λ entry. IsFront entry.0 name → length entry.0 ≤ length front) limits
+
+-- what is found for a name: that limit, or nothing where no front has a limit
+abbrev pub IsLimitOf : List (List ℕ × ByteUnit) → List ℕ → Option ByteUnit → Type 0
+IsLimitOf limits name None = All (λ entry. ¬ IsFront entry.0 name) limits
+IsLimitOf limits name (Some limit) = IsOfLongest limits name limit
+
+-- the limits where none is set
+abbrev pub default_limits : List (List ℕ × ByteUnit)
+default_limits =
+    (codes "bytes", record { 0 = 8192 })
+    ∷ (codes "data-form", record { 0 = 2097152 })
+    ∷ (codes "file", record { 0 = 1048576 })
+    ∷ (codes "form", record { 0 = 32768 })
+    ∷ (codes "json", record { 0 = 1048576 })
+    ∷ (codes "msgpack", record { 0 = 1048576 })
+    ∷ (codes "string", record { 0 = 8192 })
+    ∷ []
