@@ -3,6 +3,7 @@ pub mod Cancel
 pub mod CancelLaws
 pub mod Gathering
 pub mod Memory
+pub mod Sending
 pub mod Sink
 pub mod Source
 pub mod Stream

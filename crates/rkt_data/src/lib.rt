@@ -12,9 +12,12 @@ mod into_string;
 mod memory;
 mod peek;
 mod pipe;
+mod pump;
+mod sender;
 mod sink;
 mod source;
 mod stage;
+mod stream_to;
 mod tap;
 
 pub use cancel::CancellableIo;
@@ -28,3 +31,4 @@ pub use memory::{MemorySink, MemorySource};
 pub use sink::{Sink, SinkError};
 pub use source::{Gate, Shut, Source, SourceError};
 pub use stage::{Refused, Stage};
+pub use stream_to::{StreamPrecise, StreamTo};

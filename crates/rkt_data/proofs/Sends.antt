@@ -1,0 +1,164 @@
+-- Sending an opened body to a sink.
+use Rattle.std.proofs.Common.{◌≡◌, ℕ, ◌+◌, ◌-◌, ◌≤◌, ◌<◌, ◌++◌, ◌∙◌, false, List, [], length, take, drop, Option, None, Some, Vec, Global, vec_len, refl, sym, ap, ap₂, arith, le_refl, le_trans, append_assoc, append-nil, length-append, take-add, take-take, take_at, drop-drop}
+use Rattle.std.proofs.lemmas.List.{drop-take}
+use Rattle.std.specs.Prelude.{option_map}
+use Rattle.rkt_data.specs.Gathering.{Gained, IsUsedUp, data_error_of, items_of}
+use Rattle.rkt_data.specs.Sending.{Fed, Pumps, SentOf, Sends, SendErr, SentAll, HasRoom, between, sink_error_of}
+use Rattle.rkt_data.specs.Sink.{SinkMeaning, SinkKeeps, SinkWaits, SinkErrs, Gains}
+use Rattle.rkt_data.specs.Source.{Meaning}
+use Rattle.rkt_data.specs.Stream.{Opened, Piped, Follows, TakesAtMost}
+use Rattle.rkt_data.specs.Tap.{ByGate, TapErrs}
+use Rattle.rkt_data.specs.declared.sink.SinkError.{SinkError}
+use Rattle.rkt_data.specs.declared.sink.SinkError.TheVariants as sink_error
+use Rattle.rkt_data.specs.declared.source.Gate.{Gate}
+use Rattle.rkt_data.specs.declared.source.SourceError.{SourceError}
+use Rattle.rkt_data.specs.declared.source.SourceError.TheVariants as source_error
+use Rattle.rkt_data.proofs.Drains.{Follows-refl, Follows-trans, Gained-none, Gained-trans, Gathered-more, cut-gathered}
+use Rattle.rkt_data.proofs.Taps.{ByGate-refl, ByGate-trans}
+
+pub SinkKeeps-refl : (m : SinkMeaning) → SinkKeeps m m
+SinkKeeps-refl m = record { never_faults = refl; pendings = refl; faults = le_refl _; pended = le_refl _ }
+
+pub SinkKeeps-trans : {m n o : SinkMeaning} → SinkKeeps m n → SinkKeeps n o → SinkKeeps m o
+SinkKeeps-trans p q = record {
+  never_faults = q.never_faults ∙ p.never_faults;
+  pendings = q.pendings ∙ p.pendings;
+  faults = le_trans p.faults q.faults;
+  pended = le_trans p.pended q.pended;
+}
+
+-- a sink that has gained nothing
+pub Gains-none : (m n : SinkMeaning) → n.held ≡ m.held → Gains m n []
+Gains-none m n e = e ∙ gains_none m.held
+  where
+    gains_none : (o : Option (List ℕ)) → o ≡ option_map (λ h. h ++ []) o
+    gains_none None = refl
+    gains_none (Some h) = ap Some (sym (append-nil h))
+
+gained_twice : (o : Option (List ℕ)) (xs ys : List ℕ) → option_map (λ h. h ++ ys) (option_map (λ h. h ++ xs) o) ≡ option_map (λ h. h ++ (xs ++ ys)) o
+gained_twice None xs ys = refl
+gained_twice (Some h) xs ys = ap Some (append_assoc h xs ys)
+
+pub Gains-trans : (m n o : SinkMeaning) (xs ys : List ℕ) → Gains m n xs → Gains n o ys → Gains m o (xs ++ ys)
+Gains-trans m n o xs ys p q = q ∙ ap (option_map (λ h. h ++ ys)) p ∙ gained_twice m.held xs ys
+
+pub sink_errs_after : (e : SinkError) (a b c : SinkMeaning) → SinkKeeps a b → SinkErrs e b c → SinkErrs e a c
+sink_errs_after sink_error.SinkFault a b c k r = let h = k.faults in (omega (arith, h, r.0), sym k.never_faults ∙ r.1)
+sink_errs_after sink_error.NoMemory a b c k r = r
+
+pub SinkWaits-after : (a b c : SinkMeaning) → SinkKeeps a b → SinkWaits b c → SinkWaits a c
+SinkWaits-after a b c k r = let e = k.pendings in let h = k.pended in (omega (arith, h, r.0), omega (arith, e, r.1))
+
+-- a piece is its first n bytes and the rest
+pub between_parts : (at end n : ℕ) (buf : List ℕ) → at + n ≤ end → between at end buf ≡ take n (between at end buf) ++ between (at + n) end buf
+between_parts at end n buf h =
+    let size : end - at ≡ n + (end - (at + n)) = omega (arith, h) in
+    ap (λ i. take i (drop at buf)) size ∙ take-add n (end - (at + n)) (drop at buf)
+    ∙ ap₂ (λ xs ys. xs ++ ys) (sym (take-take n (end - at) (drop at buf) (omega (arith, h)))) (ap (take (end - (at + n))) (drop-drop n at buf))
+
+pub Pumps-start : {S K : Type 0} (meaning : S → Meaning) (sinks : K → SinkMeaning) (polled : S → Gate → S → Type 0) (gate : Gate) (o : Piped S) (k : K) (old : List ℕ) → o.probed ≡ false → TakesAtMost meaning o.opened o.opened.limit → Pumps meaning sinks polled gate o o k k old old
+Pumps-start meaning sinks polled gate o k old h bound = record {
+  follows = Follows-refl meaning gate.tripped o.opened;
+  by_gate = ByGate-refl polled gate o.opened.tap;
+  bound = bound;
+  not_probed = h;
+  keeps = SinkKeeps-refl (sinks k);
+  more = [];
+  out = [];
+  gained = Gained-none refl;
+  moved = append-nil old;
+  gains = Gains-none (sinks k) (sinks k) refl;
+}
+
+-- some of what is pending was sent
+pub Pumps-sent : {S K : Type 0} {meaning : S → Meaning} {sinks : K → SinkMeaning} {polled : S → Gate → S → Type 0} {gate : Gate} {o p : Piped S} {k l l' : K} {old : List ℕ} (at end n : ℕ) (buf : List ℕ) → Pumps meaning sinks polled gate o p k l old (between at end buf) → at + n ≤ end
+    → SinkKeeps (sinks l) (sinks l') → Gains (sinks l) (sinks l') (take n (between at end buf)) → Pumps meaning sinks polled gate o p k l' old (between (at + n) end buf)
+Pumps-sent {sinks = sinks} {k = k} {l = l} {l' = l'} at end n buf p h keeps gains = record {
+  follows = p.follows;
+  by_gate = p.by_gate;
+  bound = p.bound;
+  not_probed = p.not_probed;
+  keeps = SinkKeeps-trans p.keeps keeps;
+  more = p.more;
+  out = p.out ++ take n (between at end buf);
+  gained = p.gained;
+  moved = p.moved ∙ ap (λ z. p.out ++ z) (between_parts at end n buf h) ∙ sym (append_assoc p.out (take n (between at end buf)) (between (at + n) end buf));
+  gains = Gains-trans (sinks k) (sinks l) (sinks l') p.out (take n (between at end buf)) p.gains gains;
+}
+
+-- what was read is pending, once nothing else is
+pub Pumps-read : {S K : Type 0} {meaning : S → Meaning} {sinks : K → SinkMeaning} {polled : S → Gate → S → Type 0} {gate : Gate} {o p q : Piped S} {k l : K} {old pending now : List ℕ} (more : List ℕ) → Pumps meaning sinks polled gate o p k l old pending → pending ≡ [] → now ≡ more
+    → Follows meaning gate.tripped p.opened q.opened → ByGate polled gate p.opened.tap q.opened.tap → TakesAtMost meaning q.opened q.opened.limit → q.probed ≡ false → Gained meaning p.opened q.opened more
+    → Pumps meaning sinks polled gate o q k l old now
+Pumps-read {polled = polled} {gate = gate} {o = o} {p = pp} {q = qq} {old = old} more p none now f g bound off gained = record {
+  follows = Follows-trans p.follows f;
+  by_gate = ByGate-trans polled gate o.opened.tap pp.opened.tap qq.opened.tap p.by_gate g;
+  bound = bound;
+  not_probed = off;
+  keeps = p.keeps;
+  more = p.more ++ more;
+  out = p.out;
+  gained = Gained-trans p.follows p.gained gained;
+  moved = sym (append_assoc old p.more more) ∙ ap (λ z. z ++ more) (p.moved ∙ ap (λ z. p.out ++ z) none ∙ append-nil p.out) ∙ ap (λ z. p.out ++ z) (sym now);
+  gains = p.gains;
+}
+
+pub SendErr-source : {S K : Type 0} (meaning : S → Meaning) (sinks : K → SinkMeaning) (e : SourceError) (o p : Opened S) (k l : K) → TapErrs meaning e o.tap p.tap → SendErr meaning sinks o p k l (data_error_of e)
+SendErr-source meaning sinks source_error.SourceFault o p k l h = h
+SendErr-source meaning sinks source_error.Gone o p k l h = h
+SendErr-source meaning sinks source_error.TimedOut o p k l h = h
+
+pub SendErr-sink : {S K : Type 0} (meaning : S → Meaning) (sinks : K → SinkMeaning) (e : SinkError) (o p : Opened S) (k l : K) → SinkErrs e (sinks k) (sinks l) → SendErr meaning sinks o p k l (sink_error_of e)
+SendErr-sink meaning sinks sink_error.SinkFault o p k l h = h
+SendErr-sink meaning sinks sink_error.NoMemory o p k l h = tt
+
+-- what the sink has gained is the first part of the body
+pub Sends-of : {S K : Type 0} (meaning : S → Meaning) (sinks : K → SinkMeaning) (o : Opened S) (fed : Fed K) (from : ℕ) (pending : List ℕ) (n : ℕ) → SentOf meaning sinks o fed from pending → o.given ≤ o.limit → n ≡ o.given - from - length pending → Sends meaning sinks o fed from n
+Sends-of meaning sinks o fed from pending n s l e =
+    let out = s.0 in
+    let count = s.1.count in
+    let long : length out ≡ n = omega (arith, count, e, length-append out pending) in (
+      out,
+      long,
+      s.2,
+      λ b t.
+          let all = s.1.bytes b t in
+          let first : out ≡ take (length out) (drop from b) = sym (take_at out pending (length out) refl) ∙ ap (take (length out)) all ∙ take-take (length out) (length (out ++ pending)) (drop from b) (omega (arith, length-append out pending)) in
+          let room : o.limit ≡ from + (o.limit - from) = omega (arith, count, l, length-append out pending) in
+          let into : drop from (take o.limit b) ≡ take (o.limit - from) (drop from b) = ap (λ i. drop from (take i b)) room ∙ drop-take from (o.limit - from) b in
+          first ∙ sym (take-take (length out) (o.limit - from) (drop from b) (omega (arith, count, l, length-append out pending))) ∙ ap (take (length out)) (sym into) ∙ ap (λ i. take i (drop from (take o.limit b))) long,
+    )
+
+pub between-none : (at end : ℕ) (buf : List ℕ) → end ≤ at → between at end buf ≡ []
+between-none at end buf h = let none : end - at ≡ 0 = omega (arith, h) in ap (λ i. take i (drop at buf)) none
+
+-- from the front on
+pub between-front : (k : ℕ) (buf : List ℕ) → between 0 k buf ≡ take k buf
+between-front k buf = let all : k - 0 ≡ k = omega arith in ap (λ i. take i buf) all
+
+-- two buffers of one front
+pub between-same : (at end : ℕ) (v w : List ℕ) → at ≤ end → take end v ≡ take end w → between at end v ≡ between at end w
+between-same at end v w h e =
+    let size : end ≡ at + (end - at) = omega (arith, h) in
+    sym (drop-take at (end - at) v) ∙ ap (drop at) (ap (λ i. take i v) (sym size) ∙ e ∙ ap (λ i. take i w) size) ∙ drop-take at (end - at) w
+
+-- sending on
+pub SentOf-pumped : {S K : Type 0} (meaning : S → Meaning) (sinks : K → SinkMeaning) (polled : S → Gate → S → Type 0) (gate : Gate) (o p : Piped S) (k l begun : K) (from : ℕ) (old new : List ℕ) → SentOf meaning sinks o.opened record { now = k; begun = begun } from old → Pumps meaning sinks polled gate o p k l old new
+    → SentOf meaning sinks p.opened record { now = l; begun = begun } from new
+SentOf-pumped meaning sinks polled gate o p k l begun from old new s q =
+    let same : (s.0 ++ q.out) ++ new ≡ (s.0 ++ old) ++ q.more = append_assoc s.0 q.out new ∙ ap (λ z. s.0 ++ z) (sym q.moved) ∙ sym (append_assoc s.0 old q.more) in
+    (s.0 ++ q.out, rw same (Gathered-more s.1 q.follows q.gained), Gains-trans (sinks begun) (sinks k) (sinks l) s.0 q.out s.2 q.gains)
+
+-- all was sent, once nothing is pending and all up to the limit was read
+pub SentAll-of : {S K : Type 0} (meaning : S → Meaning) (sinks : K → SinkMeaning) (o : Opened S) (fed : Fed K) (from : ℕ) (pending : List ℕ) (n : ℕ) → SentOf meaning sinks o fed from pending → o.given ≤ o.limit → n ≡ o.given - from - length pending → pending ≡ [] → IsUsedUp meaning o → SentAll meaning o from n
+SentAll-of meaning sinks o fed from pending n s l e none u =
+    let count = s.1.count in
+    let empty : length pending ≡ 0 = ap length none in
+    λ b t.
+    let all = cut-gathered s.1 (Follows-refl meaning None o) u l b t in
+    omega (arith, count, e, empty, length-append s.0 pending, ap length all)
+
+-- the buffer that is resumed is not empty
+pub HasRoom-resumed : (old : Option (Vec ℕ Global)) (v : Vec ℕ Global) → HasRoom old → (old ≡ None → 0 < vec_len v) × (length (items_of old) ≤ vec_len v) → 0 < vec_len v
+HasRoom-resumed None v h s = s.0 refl
+HasRoom-resumed (Some w) v h s = omega (arith, h, s.1)

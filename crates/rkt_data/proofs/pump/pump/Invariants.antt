@@ -1,0 +1,10 @@
+use Rattle.std.proofs.Common.{length, ◌-◌, ◌≡◌, ◌≤◌, ◌<◌}
+use Rattle.rkt_data.specs.Sending.{Pumps, between}
+use Rattle.rkt_data.proofs.pump.pump.Given as goal
+
+abbrev pub invariant-loop-e : goal.invariant-loop-e
+invariant-loop-e g l =
+    Pumps g.S.Source.meaning g.K.Sink.meaning g.S.Source.polled l.gate l.fn.pipe l.pipe l.fn.sink l.sink (between l.at l.end l.fn.buf) (between l.from l.to l.buf) × (l.from ≤ l.to) × (l.to ≤ length l.buf) × (0 < length l.buf) × (length l.buf ≡ length l.fn.buf)
+
+abbrev pub decreases-loop-e : goal.decreases-loop-e
+decreases-loop-e g l = l.pipe.opened.limit - l.pipe.opened.given

@@ -1,0 +1,126 @@
+-- What a state holds that sends an opened body to a sink, and what it answers.
+use Rattle.std.specs.Option.{ForSome}
+use Rattle.std.specs.Prelude.{◌≡◌, ⊤, ℕ, ◌-◌, ◌<◌, ◌⊎◌, ◌++◌, Bool, true, false, List, [], length, take, drop, Option, None, Some, Result, Ok, Err, Vec}
+use Rattle.std.specs.declared.alloc.Global.{Global}
+use Rattle.rkt_base.specs.declared.poll.Poll.{Poll}
+use Rattle.rkt_base.specs.declared.poll.Poll.TheVariants.{Ready, Pending}
+use Rattle.rkt_data.specs.Gathering.{Gained, Gathered, IsUsedUp, cut_from}
+use Rattle.rkt_data.specs.Sink.{SinkMeaning, SinkKeeps, SinkWaits, SinkFaulted, SinkErrs, Gains}
+use Rattle.rkt_data.specs.Source.{Meaning}
+use Rattle.rkt_data.specs.Stream.{Opened, Piped, Follows, TakesAtMost, IsComplete, whole_of}
+use Rattle.rkt_data.specs.Tap.{ByGate, TapErrs, TapWaits}
+use Rattle.rkt_data.specs.declared.capped.N.{N}
+use Rattle.rkt_data.specs.declared.error.DataError.{DataError}
+use Rattle.rkt_data.specs.declared.error.DataError.TheVariants as error
+use Rattle.rkt_data.specs.declared.pump.Pumped.{Pumped}
+use Rattle.rkt_data.specs.declared.pump.Pumped.TheVariants as pumped
+use Rattle.rkt_data.specs.declared.pump.Sent.{Sent}
+use Rattle.rkt_data.specs.declared.pump.Sent.TheVariants as sent
+use Rattle.rkt_data.specs.declared.sink.SinkError.{SinkError}
+use Rattle.rkt_data.specs.declared.sink.SinkError.TheVariants as sink_error
+use Rattle.rkt_data.specs.declared.source.Gate.{Gate}
+use Rattle.rkt_data.specs.declared.source.SourceError.TheVariants as source_error
+
+-- a sink as it is now, and as it was handed in
+pub record Fed (K : Type 0) : Type 0 where
+  pub now : K
+  pub begun : K
+
+pub record Sending (S K : Type 0) : Type 0 where
+  pub stream : Opened S
+  pub sink : Fed K
+  -- how many bytes the stream had given before the state was made
+  pub from : ℕ
+  -- how many were sent since
+  pub sent : ℕ
+  pub failed : Option DataError
+  pub done : Bool
+
+-- what a sender holds: besides those, the bytes that were read and not sent yet
+pub record SentState (S K : Type 0) : Type 0 where
+  pub piped : Piped S
+  pub sink : Fed K
+  pub from : ℕ
+  pub pending : List ℕ
+
+-- the bytes of a buffer between two places
+abbrev pub between : ℕ → ℕ → List ℕ → List ℕ
+between at end buf = take (end - at) (drop at buf)
+
+-- what was sent and what is pending are the bytes read since the sender was made; the sink has gained what was sent
+abbrev pub SentOf : {S K : Type 0} → (S → Meaning) → (K → SinkMeaning) → Opened S → Fed K → ℕ → List ℕ → Type 0
+SentOf meaning sinks o fed from pending = (out : List ℕ) × Gathered meaning o from (out ++ pending) × Gains (sinks fed.begun) (sinks fed.now) out
+
+-- a buffer, where there is one, is not empty
+abbrev pub HasRoom : Option (Vec ℕ Global) → Type 0
+HasRoom None = ⊤
+HasRoom (Some v) = 0 < length v.items
+
+-- the sink has gained the first bytes of the body from that position on, cut at the limit, as many as were sent
+abbrev pub Sends : {S K : Type 0} → (S → Meaning) → (K → SinkMeaning) → Opened S → Fed K → ℕ → ℕ → Type 0
+Sends meaning sinks o fed from n = (out : List ℕ) × (length out ≡ n) × Gains (sinks fed.begun) (sinks fed.now) out × ForSome (whole_of meaning o) (λ b. out ≡ take n (cut_from from b o.limit))
+
+-- how sending one piece stopped, n bytes of which were taken
+abbrev pub SendStops : {K : Type 0} → (K → SinkMeaning) → K → K → ℕ → ℕ → Sent → Type 0
+SendStops sinks k l size n sent.All = n ≡ size
+SendStops sinks k l size n sent.Waiting = SinkWaits (sinks k) (sinks l)
+SendStops sinks k l size n (sent.Failed e) = SinkErrs e (sinks k) (sinks l)
+
+abbrev pub sink_error_of : SinkError → DataError
+sink_error_of sink_error.SinkFault = error.SinkFault
+sink_error_of sink_error.NoMemory = error.NoMemory
+
+-- reads under one Gate and writes, by which the bytes that are pending became others: what was pending and what was
+-- read is what was sent and what is pending now
+pub record Pumps {S K : Type 0} (meaning : S → Meaning) (sinks : K → SinkMeaning) (polled : S → Gate → S → Type 0) (gate : Gate) (o p : Piped S) (k l : K) (old new : List ℕ) : Type 0 where
+  pub follows : Follows meaning gate.tripped o.opened p.opened
+  pub by_gate : ByGate polled gate o.opened.tap p.opened.tap
+  pub bound : TakesAtMost meaning p.opened p.opened.limit
+  pub not_probed : p.probed ≡ false
+  pub keeps : SinkKeeps (sinks k) (sinks l)
+  pub more : List ℕ
+  pub out : List ℕ
+  pub gained : Gained meaning o.opened p.opened more
+  pub moved : old ++ more ≡ out ++ new
+  pub gains : Gains (sinks k) (sinks l) out
+
+-- when sending may fail with each error
+abbrev pub SendErr : {S K : Type 0} → (S → Meaning) → (K → SinkMeaning) → Opened S → Opened S → K → K → DataError → Type 0
+SendErr meaning sinks o p k l error.SourceFault = TapErrs meaning source_error.SourceFault o.tap p.tap
+SendErr meaning sinks o p k l error.Gone = TapErrs meaning source_error.Gone o.tap p.tap
+SendErr meaning sinks o p k l error.TimedOut = TapErrs meaning source_error.TimedOut o.tap p.tap
+SendErr meaning sinks o p k l (error.NotUtf8 valid_up_to) = ⊥
+SendErr meaning sinks o p k l error.SinkFault = SinkFaulted (sinks k) (sinks l)
+SendErr meaning sinks o p k l error.NoMemory = ⊤
+
+-- the source or the sink was Pending
+abbrev pub SendWaits : {S K : Type 0} → (S → Meaning) → (K → SinkMeaning) → Opened S → Opened S → K → K → Type 0
+SendWaits meaning sinks o p k l = TapWaits meaning o.tap p.tap ⊎ SinkWaits (sinks k) (sinks l)
+
+-- why sending stopped
+abbrev pub PumpStops : {S K : Type 0} → (S → Meaning) → (K → SinkMeaning) → Opened S → Opened S → K → K → List ℕ → Pumped → Type 0
+PumpStops meaning sinks o p k l pending pumped.Done = IsUsedUp meaning p × (pending ≡ [])
+PumpStops meaning sinks o p k l pending pumped.Waiting = SendWaits meaning sinks o p k l
+PumpStops meaning sinks o p k l pending (pumped.Failed e) = SendErr meaning sinks o p k l e
+
+-- until its last answer nothing past the limit was read
+abbrev pub SendsOn : Bool → Option DataError → Bool → Type 0
+SendsOn probed (Some e) done = ⊤
+SendsOn probed None true = ⊤
+SendsOn probed None false = probed ≡ false
+
+-- all of the body from that position on, cut at the limit, was sent
+abbrev pub SentAll : {S : Type 0} → (S → Meaning) → Opened S → ℕ → ℕ → Type 0
+SentAll meaning o from n = ForSome (whole_of meaning o) (λ b. n ≡ length (cut_from from b o.limit))
+
+-- what a poll answers that sends
+abbrev pub AnswersSent : {S K : Type 0} → (S → Meaning) → (K → SinkMeaning) → Sending S K → Sending S K → Poll (Result N DataError) → Type 0
+AnswersSent meaning sinks a b Pending = (b.failed ≡ None) × (b.done ≡ false) × SendWaits meaning sinks a.stream b.stream a.sink.now b.sink.now
+AnswersSent meaning sinks a b (Ready (Err e)) = (b.failed ≡ Some e) × (b.done ≡ false) × SendErr meaning sinks a.stream b.stream a.sink.now b.sink.now e
+AnswersSent meaning sinks a b (Ready (Ok n)) = (b.done ≡ true) × (n.written ≡ b.sent) × SentAll meaning a.stream a.from b.sent × ForSome (whole_of meaning a.stream) (λ w. IsComplete n.complete w a.stream.limit)
+
+-- what a poll answers that sends and does not look past the limit
+abbrev pub AnswersPrecise : {S K : Type 0} → (S → Meaning) → (K → SinkMeaning) → Sending S K → Sending S K → Poll (Result ℕ DataError) → Type 0
+AnswersPrecise meaning sinks a b Pending = (b.failed ≡ None) × (b.done ≡ false) × SendWaits meaning sinks a.stream b.stream a.sink.now b.sink.now
+AnswersPrecise meaning sinks a b (Ready (Err e)) = (b.failed ≡ Some e) × (b.done ≡ false) × SendErr meaning sinks a.stream b.stream a.sink.now b.sink.now e
+AnswersPrecise meaning sinks a b (Ready (Ok written)) = (b.done ≡ true) × (written ≡ b.sent) × SentAll meaning a.stream a.from b.sent
