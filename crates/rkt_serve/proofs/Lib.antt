@@ -4,3 +4,4 @@ pub mod Core
 pub mod Pieces
 pub mod Pushes
 pub mod Listening
+pub mod Entries

@@ -1,10 +1,17 @@
 -- Which lists of events are in order. No relation of an application stands here.
-use Rattle.std.specs.Prelude.{◌≡◌, ◌<◌, ◌≤◌, ◌++◌, ℕ, nat_lt, max, Bool, true, false, ◌==◌, ◌&&◌, List, [], ◌∷◌, Option, Some, None, length, if◌then◌else◌}
+use Rattle.std.specs.Prelude.{◌≡◌, ◌<◌, ◌≤◌, ◌++◌, ℕ, zero, suc, nat_lt, max, Bool, true, false, ◌==◌, ◌&&◌, List, [], ◌∷◌, Option, Some, None, length, if◌then◌else◌}
 use Rattle.std.specs.List.{list_any, count_by}
 use Rattle.rkt_serve.specs.After.{AfterFrom}
 use Rattle.rkt_serve.specs.declared.history.Entry.{Entry}
 use Rattle.rkt_serve.specs.declared.history.Event.{Event}
 use Rattle.rkt_serve.specs.declared.history.Event.TheVariants.{Lift, Admit, End, Close}
+
+-- with this entry at a place that has none
+abbrev pub with_first : {E : Type 0} → ℕ → E → List (Option E) → List (Option E)
+with_first at entry [] = []
+with_first zero entry (None ∷ places) = Some entry ∷ places
+with_first zero entry (Some other ∷ places) = Some other ∷ places
+with_first (suc at) entry (place ∷ places) = place ∷ with_first at entry places
 
 module _ {K : Type 0} where
   abbrev pub is_admit : Event K → Bool
@@ -63,6 +70,13 @@ module _ {K : Type 0} where
   end_of number (Lift calls ∷ es) = end_of number es
   end_of number (Admit n m b ∷ es) = end_of number es
   end_of number (Close m ∷ es) = end_of number es
+
+  -- with the entry of an End at the place of its number
+  abbrev pub noted : Event K → List (Option (Entry K)) → List (Option (Entry K))
+  noted (End number entry m b) places = with_first number entry places
+  noted (Lift calls) places = places
+  noted (Admit n m b) places = places
+  noted (Close m) places = places
 
   -- what each event needs of those before it
   abbrev pub MayCome : List (Event K) → Event K → Type 0

@@ -1,8 +1,8 @@
 //! What happened in a launch.
-ghost use Rattle.std.specs.Prelude.{◌≡◌, ◌≤◌, ◌<◌, ◌↔◌, ℕ, nat_lt, if◌then◌else◌, IsSome, IfOk, map, length, slice_get};
+ghost use Rattle.std.specs.Prelude.{Some, None, replicate, ◌≡◌, ◌≤◌, ◌<◌, ◌↔◌, ℕ, nat_lt, if◌then◌else◌, IsSome, IfOk, map, length, slice_get};
 ghost use Rattle.std.specs.List.{count_by};
 ghost use Rattle.std.specs.Option.{option_copied};
-ghost use Rattle.rkt_serve.specs.Events.{is_admit, admitted, admits, ends, end_of, Ordered, IsClosed};
+ghost use Rattle.rkt_serve.specs.Events.{noted, with_first, is_admit, admitted, admits, ends, end_of, Ordered, IsClosed};
 
 use rkt_base::{NoMemory, Seq};
 use rkt_life::{Response, Run};
@@ -103,5 +103,46 @@ impl<K> History<K> {
             }
         }
         None
+    }
+
+    /// The entries of the numbers that were admitted, by number, in one walk over the events.
+    pub fn entries(&self, alloc: Global) -> Result<Vec<Option<&Entry<K>>>, NoMemory>
+        ensures count { IfOk result (λ entries. length entries.items ≡ admitted self.now.events) }
+        ensures each { IfOk result (λ entries. (k : ℕ) → k < admitted self.now.events → slice_get (map (λ entry. option_copied entry) entries.items) k ≡ Some (end_of k self.now.events)) }
+    {
+        let mut entries = none_of(alloc, self.admitted() as usize)?;
+        for event in self.events.as_slice() {
+            note(&mut entries, event);
+        }
+        Ok(entries)
+    }
+}
+
+// As many places, with nothing in them.
+fn none_of<'a, K>(alloc: Global, count: usize) -> Result<Vec<Option<&'a Entry<K>>>, NoMemory>
+    ensures { IfOk result (λ entries. map (λ entry. option_copied entry) entries.items ≡ replicate count None) }
+{
+    let mut entries = Vec::new(alloc);
+    for _ in 0..count {
+        entries.push(None)?;
+    }
+    Ok(entries)
+}
+
+// Notes the entry of an End at the place of its number.
+fn note<'a, K>(entries: &mut Vec<Option<&'a Entry<K>>>, event: &'a Event<K>)
+    ensures { map (λ entry. option_copied entry) entries.new.items ≡ noted event.now (map (λ entry. option_copied entry) entries.old.items) }
+{
+    if let Event::End { number, entry, .. } = event {
+        enter_first(entries, *number as usize, entry);
+    }
+}
+
+// Notes an entry at its place, unless one stands there or there is no such place.
+fn enter_first<'a, K>(entries: &mut Vec<Option<&'a Entry<K>>>, at: usize, entry: &'a Entry<K>)
+    ensures { map (λ entry. option_copied entry) entries.new.items ≡ with_first at entry.now (map (λ entry. option_copied entry) entries.old.items) }
+{
+    if at < entries.len() && entries[at].is_none() {
+        entries[at] = Some(entry);
     }
 }

@@ -1,0 +1,6 @@
+use Rattle.std.proofs.Common.{rules, ◌≡◌, ◌∙◌, ap, arith, ℕ}
+use Rattle.rkt_serve.proofs.Entries.{nones, nones_more}
+use Rattle.rkt_serve.proofs.history.none_of.Goals as goal
+
+pub loop-preserved : goal.loop-preserved
+loop-preserved g c = rw c.in_ok-push.ensures.items (nones_more c.loop.entries.items c.loop.counter c.loop.invariant)
