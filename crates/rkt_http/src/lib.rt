@@ -21,6 +21,8 @@ mod reasons;
 mod reference;
 mod segments;
 mod status;
+#[cfg(test)]
+mod tests;
 mod uncased;
 
 pub use content_type::{ContentType, Known};
