@@ -1,5 +1,5 @@
 -- Pieces with a separator between them, and with one before each.
-use Rattle.std.proofs.Common.{◌≡◌, ℕ, List, [], ◌∷◌, ◌++◌, refl, sym, ◌∙◌, ap, append_assoc, ◌==◌, true, false, length, nat_lt, zero, suc, arith, Some, ◌<◌}
+use Rattle.std.proofs.Common.{◌≡◌, ℕ, List, [], ◌∷◌, ◌++◌, refl, sym, ◌∙◌, ap, append_assoc, ◌==◌, true, false, length, nat_lt, suc, arith, Some}
 use Rattle.std.proofs.lemmas.Bool.Decides.{nat_tests}
 use Rattle.std.specs.List.{join_with_byte}
 use Rattle.rkt_http.specs.Origin.{led, joined_unless_none, is_ampersand}

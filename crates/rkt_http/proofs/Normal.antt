@@ -1,7 +1,7 @@
 -- Pieces without separators in them, joined and cut again.
-use Rattle.std.proofs.Common.{◌≡◌, ℕ, ◌==◌, Bool, true, false, not, cond, List, [], ◌∷◌, ◌++◌, length, filter, refl, sym, ◌∙◌, ap, subst, rules, Option, Some, None, unwrap_or, map}
+use Rattle.std.proofs.Common.{◌≡◌, ℕ, ◌==◌, Bool, true, false, not, cond, List, [], ◌∷◌, ◌++◌, length, filter, refl, sym, ◌∙◌, ap, subst, unwrap_or, map}
 use Rattle.std.proofs.lemmas.Bool.{false≢true}
-use Rattle.std.specs.List.{slice_split, onto_first, join_with_byte, before_first}
+use Rattle.std.specs.List.{slice_split, onto_first, join_with_byte}
 use Rattle.rkt_http.specs.Grammar.{OnlyOf}
 use Rattle.rkt_http.specs.Origin.{pieces, Target, normalized, raw_segments_of, joined_unless_none, is_question, target_of, spelling, segments_of, fields_of, normal_form, IsKept, decoded, field_of}
 use Rattle.rkt_http.proofs.OriginLemmas.{says, front_free}
@@ -118,7 +118,7 @@ pub target_of-normalized : (text : List ℕ) (path query : List ℕ) (self : Tar
 target_of-normalized text path query self is_path is_query is =
     let free : OnlyOf (λ b. not (is_question b)) path = let P : List ℕ → Type 0 = OnlyOf (λ b. not (is_question b)) in subst P (ap (λ (t : Target). t.path) is ∙ sym is_path) (front_free text) in
     let each = each_right (OnlyOf (λ b. not (is_question b))) (λ p. (length p == 0) ≡ false) (pieces 47 path)
-        (each_kept (OnlyOf (λ b. not (is_question b))) (slice_split (λ b. b == 47) path) (each_split (λ b. not (is_question b)) (λ b. b == 47) path free)) in
+    (each_kept (OnlyOf (λ b. not (is_question b))) (slice_split (λ b. b == 47) path) (each_split (λ b. not (is_question b)) (λ b. b == 47) path free)) in
     says (normal_form path query).path (normal_form path query).query (refl, only_join (λ b. not (is_question b)) 47 (pieces 47 path) refl each)
     ∙ ap (λ (p : List ℕ). normal_form p query) is_path ∙ ap (normal_form self.path) is_query
 

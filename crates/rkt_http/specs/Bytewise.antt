@@ -1,7 +1,7 @@
 -- What may follow, where each byte passes one test.
-use Rattle.std.proofs.Common.{◌≡◌, ℕ, List, [], ◌∷◌, Bool, true, false, if◌then◌else◌, refl, sym, ◌∙◌, ◌↔◌, Option, Some, None, MatchOption}
+use Rattle.std.proofs.Common.{◌≡◌, ℕ, List, ◌∷◌, Bool, true, false, if◌then◌else◌, sym, ◌∙◌, ◌↔◌, Some, None, MatchOption}
 use Rattle.std.proofs.lemmas.Bool.{false≢true}
-use Rattle.rkt_http.specs.Grammar.{Begins, OnlyOf}
+use Rattle.rkt_http.specs.Grammar.{OnlyOf}
 
 -- the law of a place that a byte leaves as it is
 pub stays : {P : Type 0} (place : P) (test : ℕ → Bool) (b : ℕ) (rest : List ℕ) (t : Bool) → test b ≡ t

@@ -1,5 +1,5 @@
 -- Hosts with ports (RFC 3986, 3.2.2 and 3.2.3), as this project takes them: a name, or an address between brackets.
-use Rattle.std.specs.Prelude.{ℕ, ◌≡◌, ◌+◌, ◌-◌, ◌*◌, ◌≤◌, ◌⊎◌, List, [], ◌∷◌, ◌++◌, Bool, true, ◌==◌, ◌||◌, ◌&&◌, nat_le, codes, Option, Some, None, if◌then◌else◌}
+use Rattle.std.specs.Prelude.{ℕ, ◌≡◌, ◌+◌, ◌-◌, ◌*◌, ◌⊎◌, List, [], ◌∷◌, ◌++◌, Bool, true, ◌==◌, ◌||◌, ◌&&◌, nat_le, codes, Option, Some, None, if◌then◌else◌}
 use Rattle.std.specs.List.{list_any, before_first, after_first}
 use Rattle.rkt_http.specs.Grammar.{has_byte}
 use Rattle.rkt_http.specs.Words.{Then, Many, Many1}

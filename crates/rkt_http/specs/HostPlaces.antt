@@ -1,8 +1,8 @@
 -- Where a reader stands in a host, and what may follow.
-use Rattle.std.proofs.Common.{zero, suc, ◌≡◌, ◌+◌, ◌-◌, ◌*◌, ◌<◌, ◌≤◌, ℕ, List, [], ◌∷◌, Bool, true, false, ◌==◌, ◌&&◌, ◌||◌, nat_le, arith, if◌then◌else◌, refl, inl, inr, ◌⊎◌, ◌↔◌, Option, Some, None, MatchOption, sym, ◌∙◌, ap, option_map}
+use Rattle.std.proofs.Common.{◌≡◌, ℕ, List, [], ◌∷◌, Bool, true, false, ◌==◌, if◌then◌else◌, refl, inl, inr, ◌↔◌, Option, Some, None, MatchOption, sym, ◌∙◌, ap}
 use Rattle.std.proofs.lemmas.Bool.{false≢true}
 use Rattle.rkt_http.specs.Grammar.{Begins}
-use Rattle.rkt_http.specs.Words.{Then, Many, Many1}
+use Rattle.rkt_http.specs.Words.{Many}
 use Rattle.rkt_http.specs.Places.{equal, differ}
 use Rattle.rkt_http.specs.Host.{is_name_byte, is_address_byte, is_port_digit, with_digit, MoreDigits, Digits, MaybePort, Address, End, IsHost}
 use Rattle.rkt_http.specs.declared.host_place.HostPlace.{HostPlace}

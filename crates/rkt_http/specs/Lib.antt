@@ -1,4 +1,3 @@
-pub mod Accept
 pub mod Bytewise
 pub mod DefaultPage
 pub mod Grammar

@@ -1,5 +1,6 @@
 -- Media types (RFC 9110, 8.3.1).
-use Rattle.std.specs.Prelude.{ℕ, List, [], ◌∷◌, ◌++◌, Bool, ◌&&◌, codes, flat_map}
+use Rattle.std.specs.Prelude.{ℕ, ◌+◌, List, [], ◌∷◌, ◌++◌, Bool, ◌&&◌, codes, flat_map, nat_eq, if◌then◌else◌}
+use Rattle.std.specs.Cmp.Lexicographic.{pointwise}
 use Rattle.std.specs.Str.{str_eq_ignore_ascii_case}
 use Rattle.rkt_http.specs.declared.content_type.Known.{Known}
 use Rattle.rkt_http.specs.declared.content_type.Known.TheVariants.{Any, Plain, Text, Binary, JSON, JavaScript, MsgPack, HTML, CSS, XML, Form}
@@ -25,6 +26,14 @@ media_text media = media.top ++ codes "/" ++ media.sub ++ flat_map parameter_tex
 -- the media type has this type and subtype, in any case
 abbrev pub is_kind : List ℕ → List ℕ → Media → Bool
 is_kind top sub media = str_eq_ignore_ascii_case media.top top && str_eq_ignore_ascii_case media.sub sub
+
+-- 1 unless the part is a star
+abbrev pub part_specificity : List ℕ → ℕ
+part_specificity part = if pointwise nat_eq part (codes "*") then 0 else 1
+
+-- how many of type and subtype are no star
+abbrev pub specificity_of : Media → ℕ
+specificity_of media = part_specificity media.top + part_specificity media.sub
 
 -- a media type without parameters
 abbrev pub bare : List ℕ → List ℕ → Media

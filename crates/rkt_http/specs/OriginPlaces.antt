@@ -1,5 +1,5 @@
 -- Where a reader stands in an origin, and what may follow.
-use Rattle.std.proofs.Common.{◌≡◌, ℕ, List, [], ◌∷◌, ◌++◌, Bool, true, false, ◌==◌, arith, if◌then◌else◌, refl, inl, inr, ◌⊎◌, ◌↔◌, Option, Some, None, MatchOption, IfSome, sym, ◌∙◌, ap, subst}
+use Rattle.std.proofs.Common.{◌≡◌, ℕ, List, [], ◌∷◌, ◌++◌, Bool, true, false, ◌==◌, if◌then◌else◌, refl, inl, inr, ◌⊎◌, ◌↔◌, Option, Some, None, MatchOption, IfSome, sym, ◌∙◌, ap, subst}
 use Rattle.std.proofs.lemmas.Bool.{false≢true}
 use Rattle.rkt_http.specs.Grammar.{Begins, OnlyOf}
 use Rattle.rkt_http.specs.Places.{equal, differ}

@@ -1,5 +1,5 @@
 -- A path of the file system from segments.
-use Rattle.std.specs.Prelude.{ℕ, ◌≡◌, ◌==◌, ◌&&◌, ◌||◌, not, List, [], ◌∷◌, ◌++◌, Bool, true, false, length, take, Result, Ok, Err, if◌then◌else◌, nat_eq, slice_index, Option, Some, None, ◌-◌, codes}
+use Rattle.std.specs.Prelude.{ℕ, ◌==◌, ◌&&◌, ◌||◌, not, List, [], ◌∷◌, ◌++◌, Bool, length, take, Result, Ok, Err, if◌then◌else◌, nat_eq, slice_index, Option, Some, None, ◌-◌}
 use Rattle.std.specs.Cmp.Lexicographic.{pointwise}
 use Rattle.std.specs.List.{list_any, join_with_byte}
 use Rattle.rkt_http.specs.declared.path_buf.PathError.{PathError}

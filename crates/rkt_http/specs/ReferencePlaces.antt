@@ -1,10 +1,9 @@
 -- Where a reader stands in a reference, and what may follow.
-use Rattle.std.proofs.Common.{◌≡◌, ℕ, List, [], ◌∷◌, Bool, true, false, if◌then◌else◌, refl, ◌↔◌, Option, Some, None, MatchOption}
+use Rattle.std.proofs.Common.{◌≡◌, ℕ, List, [], ◌∷◌, Bool, true, if◌then◌else◌, refl, ◌↔◌, Option, Some, None, MatchOption}
 use Rattle.rkt_http.specs.Grammar.{Begins}
 use Rattle.rkt_http.specs.Bytewise.{stays}
 use Rattle.rkt_http.specs.Reference.{is_reference_byte, IsReference}
 use Rattle.rkt_http.specs.declared.reference.ReferencePlace.{ReferencePlace}
-use Rattle.rkt_http.specs.declared.reference.ReferencePlace.TheVariants.{Anywhere}
 
 abbrev pub place_after : ReferencePlace → ℕ → Option ReferencePlace
 place_after place b = if is_reference_byte b then Some place else None

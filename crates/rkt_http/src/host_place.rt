@@ -74,7 +74,10 @@ impl Place for HostPlace {
     }
 
     fn can_end(self) -> bool {
-        matches!(self, HostPlace::Name | HostPlace::Closed | HostPlace::Port(_))
+        matches!(
+            self,
+            HostPlace::Name | HostPlace::Closed | HostPlace::Port(_)
+        )
     }
 
     ghost ends = { ends };

@@ -22,6 +22,8 @@ mod reasons;
 mod reference;
 mod segments;
 mod status;
+#[cfg(test)]
+mod tests;
 mod uncased;
 
 pub use content_type::{ContentType, Known};

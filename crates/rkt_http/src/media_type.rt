@@ -1,6 +1,5 @@
 ghost use Rattle.std.specs.Prelude.{◌≡◌, ◌∷◌, ◌++◌, [], IfOk, codes, length, flat_map};
-ghost use Rattle.rkt_http.specs.Media.{Media, media_text, parameter_text, is_kind, bare, utf8_text};
-ghost use Rattle.rkt_http.specs.Accept.{part_specificity, specificity_of};
+ghost use Rattle.rkt_http.specs.Media.{Media, media_text, parameter_text, is_kind, bare, utf8_text, part_specificity, specificity_of};
 
 use rkt_base::{NoMemory, Text};
 use std::alloc::Global;

@@ -1,4 +1,4 @@
-use Rattle.std.proofs.Common.{◌≡◌, List, ℕ, subst, Option, IfNone, IfSome}
+use Rattle.std.proofs.Common.{List, ℕ, subst, IfNone, IfSome}
 use Rattle.rkt_http.specs.Grammar.{LeavesAt}
 use Rattle.rkt_http.proofs.grammar.first_fault.Goals as goal
 

@@ -1,7 +1,6 @@
 use Rattle.std.proofs.Common.{◌≡◌, length, ◌==◌, ◌++◌, ◌∷◌, [], not, filter, map, ap, ◌∙◌, sym, false, List, ℕ, rules, refl, string_bytes, append_assoc}
 use Rattle.std.proofs.lemmas.Iterator.Consumers.{YieldsList-end}
 use Rattle.std.proofs.lemmas.Iterator.Splits.{YieldsList-from_str_split}
-use Rattle.std.proofs.lemmas.Grind.{common_steps}
 use Rattle.rkt_http.specs.Origin.{led}
 use Rattle.rkt_http.proofs.Pieces.{kept_by, kept-more}
 use Rattle.rkt_http.proofs.Joins.{led-append}

@@ -1,5 +1,4 @@
-use Rattle.std.proofs.Common.{◌≡◌, ◌==◌, ◌++◌, ◌∷◌, [], length, ap, ◌∙◌, sym, true, false, List, ℕ, rules, string_bytes, refl}
-use Rattle.std.specs.List.{join_with_byte}
+use Rattle.std.proofs.Common.{◌≡◌, ◌==◌, ◌++◌, ◌∷◌, [], length, ap, ◌∙◌, sym, true, false, List, ℕ, string_bytes}
 use Rattle.rkt_http.specs.Origin.{led, pieces}
 use Rattle.rkt_http.proofs.Joins.{led_none, led_some, led_empty}
 use Rattle.rkt_http.proofs.origin.normal_path.Goals as goal

@@ -1,4 +1,4 @@
-use Rattle.std.proofs.Common.{◌≡◌, List, ℕ, map, ap, sym, ◌∙◌, ◌++◌, Bor}
+use Rattle.std.proofs.Common.{List, ℕ, map, ap, sym, ◌∙◌, ◌++◌, Bor}
 use Rattle.std.specs.List.{join_with_byte}
 use Rattle.rkt_http.specs.Origin.{led}
 use Rattle.rkt_http.proofs.Joins.{join_with_byte-led}

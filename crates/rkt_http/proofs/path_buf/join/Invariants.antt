@@ -1,4 +1,4 @@
-use Rattle.std.proofs.Common.{◌≡◌, map, drop, ◌++◌, ◌∷◌}
+use Rattle.std.proofs.Common.{◌≡◌, map, drop, ◌++◌}
 use Rattle.std.specs.List.{join_with_byte}
 use Rattle.rkt_http.specs.Origin.{led}
 use Rattle.rkt_http.proofs.path_buf.join.Given as goal

@@ -1,4 +1,4 @@
-use Rattle.std.proofs.Common.{ap, ◌∙◌, ◌≡◌, ◌++◌, map, string_bytes, List, ℕ, refl}
+use Rattle.std.proofs.Common.{ap, ◌∙◌, ◌++◌, map, string_bytes, List, ℕ, refl}
 use Rattle.rkt_http.specs.Headers.{Group}
 use Rattle.rkt_http.proofs.Groups.{changed_at, pushed_last}
 use Rattle.rkt_http.proofs.header_map.HeaderMap.add_all.Goals as goal

@@ -1,5 +1,5 @@
-use Rattle.std.proofs.Common.{◌≡◌, ◌∙◌, ap, sym, rules, unwrap_or, [], List, ℕ, map, subst}
-use Rattle.rkt_http.specs.Origin.{Target, target_of, normalized, normal_form, spelling, decoded, field_of, IsKept, segments_of, fields_of}
+use Rattle.std.proofs.Common.{◌≡◌, ◌∙◌, ap, sym, rules, unwrap_or, [], map}
+use Rattle.rkt_http.specs.Origin.{target_of, normalized, decoded, field_of, segments_of, fields_of}
 use Rattle.rkt_http.proofs.Normal.{normalized_again, raw_segments-normalized, pieces-normal_query, target_of-normalized, keeps_parts}
 use Rattle.rkt_http.proofs.origin.Origin.into_normalized.Goals as goal
 
