@@ -4,7 +4,7 @@ use Rattle.std.specs.Prelude.{String, string_bytes, Option}
 use Rattle.std.specs.Char.{to_ascii_lowercase}
 use Rattle.std.specs.List.{join_with_byte}
 use Rattle.std.proofs.lemmas.List.{append-nil}
-use Rattle.rkt_request.specs.declared.byte_unit.ByteUnit.{ByteUnit}
+use Rattle.rkt_data.specs.declared.data_stream.ByteUnit.{ByteUnit}
 use Rattle.rkt_request.specs.Joined.{behind_slashes}
 use Rattle.rkt_request.specs.Limits.{IsLimitOf}
 

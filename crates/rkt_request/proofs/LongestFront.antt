@@ -11,7 +11,7 @@ use Rattle.std.proofs.lemmas.List.{map-append}
 use Rattle.std.proofs.lemmas.List.Elements.{All-push}
 use Rattle.std.proofs.lemmas.Iterator.Adapters.{option_map_id}
 use Rattle.std.proofs.lemmas.Map.Text.{is_eq-slice_cmp}
-use Rattle.rkt_request.specs.declared.byte_unit.ByteUnit.{ByteUnit}
+use Rattle.rkt_data.specs.declared.data_stream.ByteUnit.{ByteUnit}
 use Rattle.rkt_request.specs.Limits.{IsFront, IsLimitOf}
 use Rattle.rkt_request.proofs.Entries.{lookup-seen}
 

@@ -7,7 +7,7 @@ use Rattle.std.specs.Char.{to_ascii_lowercase, is_ascii_alphanumeric}
 use Rattle.std.specs.Ordering.{nat_cmp}
 use Rattle.std.specs.Cmp.Lexicographic.{slice_cmp}
 use Rattle.std.specs.BTreeMap.{insert_entry}
-use Rattle.rkt_request.specs.declared.byte_unit.ByteUnit.{ByteUnit}
+use Rattle.rkt_data.specs.declared.data_stream.ByteUnit.{ByteUnit}
 use Rattle.rkt_request.specs.declared.config.Config.{Config}
 use Rattle.rkt_request.specs.ConfigTable.{text_of}
 use Rattle.rkt_request.specs.Limits.{default_limits}

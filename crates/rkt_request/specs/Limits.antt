@@ -2,7 +2,7 @@
 use Rattle.std.specs.Prelude.{◌≡◌, ◌≤◌, ◌⊎◌, ℕ, List, [], ◌∷◌, ◌++◌, Option, Some, None, All, length, codes}
 use Rattle.std.specs.Str.{bytes_eq}
 use Rattle.std.specs.Map.{lookup}
-use Rattle.rkt_request.specs.declared.byte_unit.ByteUnit.{ByteUnit}
+use Rattle.rkt_data.specs.declared.data_stream.ByteUnit.{ByteUnit}
 
 -- a front of whole layers of a name: the name, or what stands before one of its slashes
 abbrev pub IsFront : List ℕ → List ℕ → Type 0

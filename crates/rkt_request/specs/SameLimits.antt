@@ -3,7 +3,7 @@ use Rattle.std.specs.Prelude.{ℕ, Bool, ◌&&◌, List, nat_eq}
 use Rattle.std.specs.Cmp.{IsEquivalence, and_equiv, on_equiv}
 use Rattle.std.specs.Cmp.Lexicographic.{pointwise, nat_list_eq_equiv}
 use Rattle.std.proofs.lemmas.Cmp.{lists_equiv, nat_eq_equiv}
-use Rattle.rkt_request.specs.declared.byte_unit.ByteUnit.{ByteUnit}
+use Rattle.rkt_data.specs.declared.data_stream.ByteUnit.{ByteUnit}
 
 abbrev pub same_limits : List (List ℕ × ByteUnit) → List (List ℕ × ByteUnit) → Bool
 same_limits = pointwise (λ a b. pointwise nat_eq a.0 b.0 && nat_eq a.1.0 b.1.0)

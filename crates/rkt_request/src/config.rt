@@ -8,6 +8,7 @@ use crate::numbers::number_without_zeros;
 use crate::setting::turns;
 use rkt_base::{NoMemory, Text, Want};
 use std::alloc::Global;
+use thiserror::Error;
 
 /// What a server is set to.
 #[derive(Drop)]
@@ -26,7 +27,8 @@ pub struct Config {
 }
 
 /// A name whose text is not what the name takes.
-#[derive(Debug, Drop)]
+#[derive(Debug, Drop, Error)]
+#[error("the setting {} does not take the text {:?}", .name.as_str(), .text.as_str())]
 pub struct BadConfig {
     pub name: Text,
     pub text: Text,

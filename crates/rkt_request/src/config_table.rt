@@ -5,7 +5,7 @@ ghost use Rattle.indexmap.specs.IndexMap.{insert_entry};
 ghost use Rattle.rkt_request.specs.ConfigTable.{text_of};
 ghost use Rattle.rkt_request.specs.Config.{first_bad, limits_in, with_entry};
 
-use crate::byte_unit::ByteUnit;
+use rkt_data::ByteUnit;
 use crate::limits::Limits;
 use crate::numbers::number;
 use crate::setting::{fits, limit_name};

@@ -1,21 +1,17 @@
 //! The request and what it is asked by: configuration, managed values, and the limits of a body.
 #![tactic(auto)]
 
-mod byte_unit;
 mod config;
 mod config_table;
 mod joined;
-mod key;
 mod limits;
 mod managed;
 mod numbers;
 mod setting;
 mod state;
 
-pub use byte_unit::ByteUnit;
 pub use config::{BadConfig, Config};
 pub use config_table::ConfigTable;
-pub use key::Key;
 pub use limits::Limits;
 pub use managed::{DuplicateState, Managed};
 pub use state::State;

@@ -7,7 +7,7 @@ ghost use Rattle.std.specs.List.{join_with_byte};
 ghost use Rattle.rkt_request.specs.Limits.{IsLimitOf, default_limits};
 ghost use Rattle.rkt_request.specs.Joined.{bytes_of};
 
-use crate::byte_unit::ByteUnit;
+use rkt_data::ByteUnit;
 use crate::joined::Joined;
 use rkt_base::NoMemory;
 use std::alloc::Global;
@@ -24,7 +24,7 @@ pub struct Limits {
 
 impl Model for Limits {
     ghost use Rattle.std.specs.Prelude.{List, ℕ, map, string_bytes};
-    ghost use Rattle.rkt_request.specs.declared.byte_unit.ByteUnit.{ByteUnit};
+    ghost use Rattle.rkt_data.specs.declared.data_stream.ByteUnit.{ByteUnit};
 
     ghost Value = { List (List ℕ × ByteUnit) };
 

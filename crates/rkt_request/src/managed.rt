@@ -5,11 +5,12 @@ ghost use Rattle.std.specs.BTreeMap.{insert_entry};
 ghost use Rattle.rkt_base.specs.Want.{IfRefused};
 ghost use Rattle.rkt_request.specs.Managed.{value_at};
 
-use crate::key::Key;
+use rkt_http::Key;
 use rkt_base::Want;
 use std::alloc::Global;
 use std::collections::BTreeMap;
 use std::marker::Model;
+use thiserror::Error;
 
 /// The values that a server lends to its callbacks, each under a key.
 #[derive(Drop)]
@@ -26,7 +27,8 @@ impl<V> Model for Managed<V> {
 }
 
 /// A key that has a value already, with the value that was meant for it.
-#[derive(Debug, Drop)]
+#[derive(Debug, Drop, Error)]
+#[error("the key {} has a value already", .key.0)]
 pub struct DuplicateState<V> {
     pub key: Key,
     pub value: V,

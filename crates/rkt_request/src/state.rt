@@ -2,7 +2,7 @@ ghost use Rattle.std.specs.Prelude.{◌≡◌};
 ghost use Rattle.std.specs.Option.{option_map};
 ghost use Rattle.rkt_request.specs.Managed.{value_at};
 
-use crate::key::Key;
+use rkt_http::Key;
 use crate::managed::Managed;
 use std::cmp::Ordering;
 use std::fmt;

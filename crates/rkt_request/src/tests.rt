@@ -1,5 +1,7 @@
-use crate::{ByteUnit, Config, ConfigTable, Key, Limits, Managed, State};
+use crate::{Config, ConfigTable, Limits, Managed, State};
 use rkt_base::Want;
+use rkt_data::ByteUnit;
+use rkt_http::Key;
 use std::alloc::Global;
 use std::test::Fail;
 

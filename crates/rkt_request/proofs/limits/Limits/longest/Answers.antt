@@ -7,7 +7,7 @@ use Rattle.std.specs.BTreeMap.{is_at}
 use Rattle.std.specs.Map.Iter.{deref_pair}
 use Rattle.std.proofs.lemmas.Map.Iter.{iter_end}
 use Rattle.std.proofs.lemmas.Map.Views.{All-turn}
-use Rattle.rkt_request.specs.declared.byte_unit.ByteUnit.{ByteUnit}
+use Rattle.rkt_data.specs.declared.data_stream.ByteUnit.{ByteUnit}
 use Rattle.rkt_request.proofs.LongestFront.{best_past, best_stays, best_taken, limit_of_best, kept_by_bytes, is_no_front, is_a_front, is_above}
 use Rattle.rkt_request.proofs.Entries.{whole_seen}
 use Rattle.rkt_request.proofs.limits.Limits.longest.Goals as goal
