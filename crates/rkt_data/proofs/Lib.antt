@@ -1,5 +1,6 @@
 pub mod Cancels
 pub mod Drains
+pub mod Flows
 pub mod MemoryLemmas
 pub mod Pulls
 pub mod Sends

@@ -1,6 +1,8 @@
 pub mod Body
 pub mod Cancel
 pub mod CancelLaws
+pub mod Ext
+pub mod Flow
 pub mod Gathering
 pub mod Memory
 pub mod Sending

@@ -7,6 +7,7 @@ mod data;
 mod data_stream;
 mod drain;
 mod error;
+pub mod ext;
 mod into_bytes;
 mod into_string;
 mod memory;
@@ -17,6 +18,7 @@ mod sender;
 mod sink;
 mod source;
 mod stage;
+pub mod stream;
 mod stream_to;
 mod tap;
 
@@ -25,10 +27,15 @@ pub use capped::{Capped, N};
 pub use data::{Data, PEEK_BYTES};
 pub use data_stream::{ByteUnit, DataStream};
 pub use error::DataError;
+pub use ext::{AsyncReadExt, PollExt};
 pub use into_bytes::IntoBytes;
 pub use into_string::IntoString;
 pub use memory::{MemorySink, MemorySource};
 pub use sink::{Sink, SinkError};
 pub use source::{Gate, Shut, Source, SourceError};
 pub use stage::{Refused, Stage};
+pub use stream::{Join, One, Stream, StreamExt};
 pub use stream_to::{StreamPrecise, StreamTo};
+
+#[cfg(test)]
+mod tests;

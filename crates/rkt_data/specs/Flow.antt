@@ -1,0 +1,73 @@
+-- What a stream of items means, and what one poll of it may do.
+use Rattle.std.specs.Option.{ForSome}
+use Rattle.std.specs.Prelude.{◌≡◌, ℕ, ◌+◌, ◌<◌, ◌≤◌, ◌⊎◌, Bool, true, false, nat_eq, List, [], ◌∷◌, length, Option, None, Some, option_to_list}
+use Rattle.rkt_base.specs.declared.poll.Poll.{Poll}
+use Rattle.rkt_base.specs.declared.poll.Poll.TheVariants.{Ready, Pending}
+
+pub record Flow (X : Type 0) : Type 0 where
+  -- the items that it still gives, where it tells them
+  pub rest : Option (List X)
+  -- a bound on how many items it can still give
+  pub left : ℕ
+  -- it has answered None, and does so from then on
+  pub ended : Bool
+  -- how many of its polls were Pending, and a bound on that
+  pub pended : ℕ
+  pub pendings : ℕ
+
+-- what is left once an item was given
+abbrev pub Shifts : {X : Type 0} → Option (List X) → X → Option (List X) → Type 0
+Shifts None x r = r ≡ None
+Shifts (Some xs) x r = (ys : List _) × (xs ≡ x ∷ ys) × (r ≡ Some ys)
+
+-- counts of Pendings grow within their bound
+pub record Waited {X : Type 0} (m n : Flow X) : Type 0 where
+  pub pendings : n.pendings ≡ m.pendings
+  pub pended : m.pended ≤ n.pended
+
+-- what a poll answers: Pending and an item come only until it has ended
+abbrev pub Flows : {X : Type 0} → Flow X → Poll (Option X) → Flow X → Type 0
+Flows m Pending n = (n ≡ record m { pended = n.pended }) × (m.ended ≡ false) × (m.pended < n.pended) × (n.pended ≤ m.pendings)
+Flows m (Ready None) n = Waited m n × (n.ended ≡ true) × (n.rest ≡ m.rest) × (n.left ≤ m.left) × ForSome m.rest (λ xs. xs ≡ [])
+Flows m (Ready (Some x)) n = Waited m n × (m.ended ≡ false) × (n.ended ≡ false) × (n.left < m.left) × Shifts m.rest x n.rest
+
+-- items of two lists in turn, the first list's first; it ends where the one whose turn it is has none
+abbrev pub alternate : {X : Type 0} → List X → List X → List X
+alternate [] ys = []
+alternate (x ∷ xs) [] = x ∷ []
+alternate (x ∷ xs) (y ∷ ys) = x ∷ (y ∷ alternate xs ys)
+
+-- what two streams answer that are asked one after the other: the second where the first is Pending
+abbrev pub Asks : {X : Type 0} → Flow X → Flow X → Flow X → Flow X → Poll (Option X) → Type 0
+Asks a a' b b' Pending = Flows a Pending a' × Flows b Pending b'
+Asks a a' b b' (Ready item) = ((b' ≡ b) × Flows a (Ready item) a') ⊎ (Flows a Pending a' × Flows b (Ready item) b')
+
+pub record Joined (A B : Type 0) : Type 0 where
+  pub first : A
+  pub second : B
+  -- the first is asked first
+  pub turn : Bool
+  pub ended : Bool
+
+-- told where both tell and neither is ever Pending
+abbrev pub joined_rest : {X : Type 0} → Bool → Bool → Option (List X) → Option (List X) → Option (List X)
+joined_rest false ended xs ys = None
+joined_rest true ended None ys = None
+joined_rest true ended (Some xs) None = None
+joined_rest true true (Some xs) (Some ys) = Some []
+joined_rest true false (Some xs) (Some ys) = Some (alternate xs ys)
+
+-- the items of the stream that is asked first and of the other, in turn
+abbrev pub joined_flow : {X : Type 0} → Bool → Flow X → Flow X → Flow X
+joined_flow ended a b = record { rest = joined_rest (nat_eq (a.pendings + b.pendings) 0) ended a.rest b.rest; left = a.left + b.left; ended = ended; pended = a.pended + b.pended; pendings = a.pendings + b.pendings }
+
+abbrev pub join_flow : {X : Type 0} → Bool → Bool → Flow X → Flow X → Flow X
+join_flow true ended a b = joined_flow ended a b
+join_flow false ended a b = joined_flow ended b a
+
+pub record OneLeft (X : Type 0) : Type 0 where
+  pub value : Option X
+  pub ended : Bool
+
+abbrev pub one_flow : {X : Type 0} → OneLeft X → Flow X
+one_flow o = record { rest = Some (option_to_list o.value); left = length (option_to_list o.value); ended = o.ended; pended = 0; pendings = 0 }
