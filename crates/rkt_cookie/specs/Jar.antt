@@ -1,11 +1,12 @@
 -- What a cookie jar stands for: the cookies that came with a request, the changes since, and a floor in their log.
-use Rattle.std.specs.Prelude.{ℕ, List, [], ◌∷◌, Bool, Option, Some, None, codes, is_some, drop, find, map, reverse, unwrap_or, if◌then◌else◌}
+use Rattle.std.specs.Prelude.{ℕ, List, [], ◌∷◌, Bool, true, false, Option, Some, None, codes, is_some, drop, find, map, reverse, unwrap_or, if◌then◌else◌}
 use Rattle.std.specs.Cmp.Lexicographic.{slice_cmp}
 use Rattle.std.specs.List.{flat_map, list_any}
 use Rattle.std.specs.List.Sorted.{IsStrictlySortedBy}
 use Rattle.std.specs.Ordering.{match_ordering, nat_cmp}
 use Rattle.std.specs.Str.{bytes_eq}
 use Rattle.rkt_cookie.specs.declared.same_site.SameSite.{SameSite}
+use Rattle.rkt_cookie.specs.declared.same_site.SameSite.TheVariants as site
 use Rattle.rkt_cookie.specs.declared.change.Change.{Change}
 use Rattle.rkt_cookie.specs.Cookie.{Parts, removal}
 
@@ -36,6 +37,14 @@ with_cookie (other ∷ others) cookie =
 abbrev pub with_defaults : SameSite → Parts → Parts
 with_defaults same_site cookie =
     record cookie { path = Some (unwrap_or cookie.path (codes "/")); same_site = Some (unwrap_or cookie.same_site same_site) }
+
+-- the change by which a cookie is added
+abbrev pub addition : Parts → Change
+addition cookie = record { cookie = with_defaults site.Strict cookie; removal = false }
+
+-- the change by which one is removed
+abbrev pub removal_of : Parts → Change
+removal_of cookie = record { cookie = with_defaults site.Lax cookie; removal = true }
 
 -- the changes at or above the floor
 abbrev pub pending_changes : JarParts → List Change

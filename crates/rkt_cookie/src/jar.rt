@@ -1,8 +1,6 @@
-ghost use Rattle.std.specs.Prelude.{◌≡◌, ◌++◌, ◌∷◌, [], true, false, IfOk, OnOk, OnErr, length, option_to_list};
+ghost use Rattle.std.specs.Prelude.{◌≡◌, ◌++◌, ◌∷◌, [], IfOk, OnOk, OnErr, length, option_to_list};
 ghost use Rattle.std.specs.Option.{option_copied};
-ghost use Rattle.std.specs.List.{flat_map};
-ghost use Rattle.rkt_cookie.specs.Jar.{JarParts, NamesAscend, cookie_of, delta, last_change, last_changes, left_by, pending_changes, sent, with_cookie, with_defaults};
-ghost use Rattle.rkt_cookie.specs.JarEntries.{cookies_in};
+ghost use Rattle.rkt_cookie.specs.Jar.{addition, cookie_of, delta, last_change, left_by, pending_changes, removal_of, sent, with_cookie, with_defaults};
 
 use crate::change::Change;
 use crate::cookie::Cookie;
@@ -121,9 +119,7 @@ impl CookieJar {
 
     /// Logs that a cookie is added.
     pub fn add(&mut self, alloc: Global, cookie: Cookie) -> Result<(), NoMemory>
-        ensures ok { OnOk result (self.new ≡ record self.old {
-          log = self.old.log ++ record { cookie = with_defaults SameSite.Strict cookie; removal = false } ∷ [];
-        }) }
+        ensures ok { OnOk result (self.new ≡ record self.old { log = self.old.log ++ addition cookie ∷ [] }) }
         ensures err { OnErr result (self.new ≡ self.old) }
     {
         let cookie = default_cookie(alloc, cookie, SameSite::Strict)?;
@@ -136,9 +132,7 @@ impl CookieJar {
 
     /// Logs that the cookie of this name, path and domain is removed.
     pub fn remove(&mut self, alloc: Global, cookie: Cookie) -> Result<(), NoMemory>
-        ensures ok { OnOk result (self.new ≡ record self.old {
-          log = self.old.log ++ record { cookie = with_defaults SameSite.Lax cookie; removal = true } ∷ [];
-        }) }
+        ensures ok { OnOk result (self.new ≡ record self.old { log = self.old.log ++ removal_of cookie ∷ [] }) }
         ensures err { OnErr result (self.new ≡ self.old) }
     {
         let cookie = default_cookie(alloc, cookie, SameSite::Lax)?;
