@@ -1,6 +1,8 @@
 pub mod DateLemmas
 pub mod EncodeLemmas
 pub mod EscapeLemmas
+pub mod JarDelta
+pub mod JarLemmas
 pub mod ParseLemmas
 pub mod PrintedLemmas
 pub mod ReadBackLemmas

@@ -4,6 +4,7 @@ ghost use Rattle.rkt_base.specs.Want.{IfRefused, GivesUnlessNoMemory};
 ghost use Rattle.rkt_cookie.specs.Attribute.{with_attribute};
 ghost use Rattle.rkt_cookie.specs.Cookie.{Parts, bare, removal};
 ghost use Rattle.rkt_cookie.specs.Encoded.{encoded_text};
+ghost use Rattle.rkt_cookie.specs.Jar.{is_named};
 ghost use Rattle.rkt_cookie.specs.ReadBack.{IsPrintable, read_back};
 ghost use Rattle.rkt_cookie.specs.Reading.{IsNoPair, Reads, first_piece};
 
@@ -121,6 +122,12 @@ impl Cookie {
             max_age: self.max_age,
             expires: self.expires,
         })
+    }
+
+    pub(crate) fn is_named(&self, name: &str) -> bool
+        ensures { result ≡ is_named name.now self.now }
+    {
+        name == self.name()
     }
 
     pub fn name(&self) -> &str

@@ -3,13 +3,17 @@
 
 mod attribute;
 mod builder;
+mod change;
 mod cookie;
 mod encode;
+mod jar;
 mod parse;
 mod same_site;
 
 pub use builder::CookieBuilder;
+pub use change::Change;
 pub use cookie::Cookie;
+pub use jar::CookieJar;
 pub use parse::InvalidCookie;
 pub use same_site::SameSite;
 

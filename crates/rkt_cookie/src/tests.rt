@@ -140,3 +140,36 @@ fn a_removal_is_printed(rt: HostRuntime) -> Result<(), Fail> {
     );
     Ok(())
 }
+
+// The texts of cookies, each behind a bar.
+fn listed(alloc: Global, cookies: &[Cookie]) -> Result<String, AllocError> {
+    let mut texts = String::new(alloc);
+    for cookie in cookies {
+        texts.push_str("|")?;
+        texts.push_str(cookie.encoded(alloc)?.as_str())?;
+    }
+    Ok(texts)
+}
+
+#[test]
+fn a_delta_has_the_last_changes(rt: HostRuntime) -> Result<(), Fail> {
+    let alloc = rt.alloc();
+    let mut jar = CookieJar::new(alloc);
+    jar.add_original(alloc, Cookie::new(alloc, "a", "1")?)?;
+    jar.add(alloc, Cookie::new(alloc, "b", "1")?)?;
+    jar.remove(alloc, Cookie::new(alloc, "a", "")?)?;
+    jar.add(alloc, Cookie::new(alloc, "b", "2")?)?;
+    jar.remove(alloc, Cookie::new(alloc, "c", "")?)?;
+    assert!(rt; jar.get_pending("a").is_none());
+    assert!(rt; jar.get_pending("b").is_some());
+    assert!(rt; jar.get("a").is_some());
+    let cookies = jar.take_delta(alloc, 1_700_000_000)?;
+    assert_eq!(rt;
+        listed(alloc, cookies.as_slice())?.as_str(),
+        "|a=; SameSite=Lax; Path=/; Max-Age=0; Expires=Mon, 14 Nov 2022 22:13:20 GMT|b=2; SameSite=Strict; Path=/"
+    );
+    let cookies = jar.take_delta(alloc, 1_700_000_000)?;
+    assert_eq!(rt; cookies.len(), 0);
+    assert_eq!(rt; jar.log().len(), 4);
+    Ok(())
+}

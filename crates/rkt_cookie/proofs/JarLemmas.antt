@@ -1,0 +1,60 @@
+-- A jar's originals, kept by name in a map, as a list of cookies.
+use Rattle.std.proofs.Common.{◌≡◌, ℕ, cond, List, [], ◌∷◌, Some, String, string_bytes, refl, sym, ap, ◌∙◌}
+use Rattle.std.specs.declared.cmp.Ordering.{Ordering}
+use Rattle.std.specs.declared.cmp.Ordering.TheVariants.{Less, Equal, Greater}
+use Rattle.std.specs.Global.{Global}
+use Rattle.std.specs.BTreeMap.{insert_entry, is_at}
+use Rattle.std.specs.Cmp.Lexicographic.{slice_cmp}
+use Rattle.std.specs.Map.{lookup}
+use Rattle.std.specs.Ordering.{match_ordering, nat_cmp, is_eq}
+use Rattle.std.specs.Str.{bytes_eq}
+use Rattle.std.specs.String.{string_cmp}
+use Rattle.std.proofs.lemmas.List.Elements.{All-nil, All-cons, All-head, All-tail}
+use Rattle.std.proofs.lemmas.Slice.Eq.{bytes_eq-Decides}
+use Rattle.std.proofs.lemmas.Map.Text.{is_eq-slice_cmp}
+use Rattle.rkt_cookie.specs.Cookie.{Parts}
+use Rattle.rkt_cookie.specs.Jar.{is_named, cookie_of, with_cookie}
+use Rattle.rkt_cookie.specs.JarEntries.{IsByName, cookies_in}
+
+abbrev ByName : String Global × Parts → Type 0
+ByName entry = string_bytes entry.0 ≡ entry.1.name
+
+-- a look-up by name
+pub cookie_found : (name : List ℕ) (entries : List (String Global × Parts)) → IsByName entries → lookup (is_at (λ k. slice_cmp nat_cmp name (string_bytes k))) entries ≡ cookie_of name (cookies_in entries)
+cookie_found name [] h = refl
+cookie_found name (e ∷ es) h =
+    let same : is_eq (slice_cmp nat_cmp name (string_bytes e.0)) ≡ is_named name e.1
+    = is_eq-slice_cmp name (string_bytes e.0) ∙ ap (bytes_eq name) (All-head ByName e es h) in
+    ap (λ test. cond test (Some e.1) (lookup (is_at (λ k. slice_cmp nat_cmp name (string_bytes k))) es)) same
+    ∙ ap (λ rest. cond (is_named name e.1) (Some e.1) rest) (cookie_found name es (All-tail ByName e es h))
+
+ordered_cookies : (o : Ordering) (a b c : List (String Global × Parts)) → cookies_in (match_ordering o a b c) ≡ match_ordering o (cookies_in a) (cookies_in b) (cookies_in c)
+ordered_cookies Less a b c = refl
+ordered_cookies Equal a b c = refl
+ordered_cookies Greater a b c = refl
+
+-- a cookie that is put in under its name
+pub cookie_inserted : (entries : List (String Global × Parts)) (key : String Global) (cookie : Parts) → string_bytes key ≡ cookie.name → IsByName entries → cookies_in (insert_entry string_cmp entries key cookie) ≡ with_cookie (cookies_in entries) cookie
+cookie_inserted [] key cookie own h = refl
+cookie_inserted (e ∷ es) key cookie own h =
+    let rest = cookie_inserted es key cookie own (All-tail ByName e es h) in
+    ordered_cookies (string_cmp key e.0) ((key, cookie) ∷ e ∷ es) ((e.0, cookie) ∷ es) (e ∷ insert_entry string_cmp es key cookie)
+    ∙ ap (λ other. match_ordering (string_cmp key e.0) (cookie ∷ e.1 ∷ cookies_in es) (cookie ∷ cookies_in es) (e.1 ∷ other)) rest
+    ∙ ap (λ name. match_ordering (slice_cmp nat_cmp name (string_bytes e.0)) (cookie ∷ e.1 ∷ cookies_in es) (cookie ∷ cookies_in es) (e.1 ∷ with_cookie (cookies_in es) cookie)) own
+    ∙ ap (λ name. match_ordering (slice_cmp nat_cmp cookie.name name) (cookie ∷ e.1 ∷ cookies_in es) (cookie ∷ cookies_in es) (e.1 ∷ with_cookie (cookies_in es) cookie)) (All-head ByName e es h)
+
+ordered_by_name : (o : Ordering) (a b c : List (String Global × Parts)) → IsByName a → (o ≡ Equal → IsByName b) → IsByName c → IsByName (match_ordering o a b c)
+ordered_by_name Less a b c ha hb hc = ha
+ordered_by_name Equal a b c ha hb hc = hb refl
+ordered_by_name Greater a b c ha hb hc = hc
+
+pub same_bytes : (a b : List ℕ) → slice_cmp nat_cmp a b ≡ Equal → a ≡ b
+same_bytes a b e = (bytes_eq-Decides a b).0 (sym (is_eq-slice_cmp a b) ∙ ap is_eq e)
+
+pub by_name_inserted : (entries : List (String Global × Parts)) (key : String Global) (cookie : Parts) → string_bytes key ≡ cookie.name → IsByName entries → IsByName (insert_entry string_cmp entries key cookie)
+by_name_inserted [] key cookie own h = All-cons ByName (key, cookie) [] own (All-nil ByName)
+by_name_inserted (e ∷ es) key cookie own h =
+    ordered_by_name (string_cmp key e.0) ((key, cookie) ∷ e ∷ es) ((e.0, cookie) ∷ es) (e ∷ insert_entry string_cmp es key cookie)
+    (All-cons ByName (key, cookie) (e ∷ es) own h)
+    (λ same. All-cons ByName (e.0, cookie) es (sym (same_bytes (string_bytes key) (string_bytes e.0) same) ∙ own) (All-tail ByName e es h))
+    (All-cons ByName e (insert_entry string_cmp es key cookie) (All-head ByName e es h) (by_name_inserted es key cookie own (All-tail ByName e es h)))

@@ -1,0 +1,202 @@
+ghost use Rattle.std.specs.Prelude.{◌≡◌, ◌++◌, ◌∷◌, [], IfOk, OnOk, OnErr, length, option_to_list};
+ghost use Rattle.std.specs.Option.{option_copied};
+ghost use Rattle.rkt_cookie.specs.Jar.{addition, cookie_of, delta, last_change, left_by, pending_changes, removal_of, sent, with_cookie, with_defaults};
+
+use crate::change::Change;
+use crate::cookie::Cookie;
+use crate::same_site::SameSite;
+use rkt_base::NoMemory;
+use std::alloc::Global;
+use std::collections::{BTreeMap, BTreeSet};
+use std::marker::Model;
+
+/// The cookies that came with a request, and what was added and removed since.
+#[derive(Drop)]
+pub struct CookieJar {
+    originals: BTreeMap<String, Cookie>,
+    log: Vec<Change>,
+    floor: usize,
+}
+
+impl Model for CookieJar {
+    ghost use Rattle.std.specs.Prelude.{◌≤◌, length};
+    ghost use Rattle.rkt_cookie.specs.Jar.{JarParts};
+    ghost use Rattle.rkt_cookie.specs.JarEntries.{IsByName, cookies_in};
+
+    ghost Value = { JarParts };
+
+    ghost view = { λ j. record { originals = cookies_in j.originals.entries; log = j.log.items; floor = j.floor } };
+
+    ghost invariant = { λ j. IsByName j.originals.entries × (j.floor ≤ length j.log.items) };
+}
+
+/// A cookie with the defaults of a change: the path `/` and this SameSite, where it has none of its own.
+fn default_cookie(
+    alloc: Global,
+    mut cookie: Cookie,
+    same_site: SameSite,
+) -> Result<Cookie, NoMemory>
+    ensures { IfOk result (λ c. c ≡ with_defaults same_site cookie) }
+{
+    if cookie.path().is_none() {
+        cookie.set_path(alloc, "/")?;
+    }
+    if cookie.same_site().is_none() {
+        cookie.set_same_site(same_site);
+    }
+    Ok(cookie)
+}
+
+fn push_any(cookies: &mut Vec<Cookie>, cookie: Option<Cookie>) -> Result<(), NoMemory>
+    ensures { OnOk result (cookies.new.items ≡ cookies.old.items ++ option_to_list cookie) }
+{
+    match cookie {
+        Some(cookie) => Ok(cookies.push(cookie)?),
+        None => Ok(()),
+    }
+}
+
+impl CookieJar {
+    /// A jar without cookies, which takes no memory until the first one comes.
+    pub fn new(alloc: Global) -> CookieJar
+        ensures { result ≡ record { originals = []; log = []; floor = 0 } }
+    {
+        CookieJar {
+            originals: BTreeMap::new(alloc),
+            log: Vec::new(alloc),
+            floor: 0,
+        }
+    }
+
+    /// The original of a name.
+    pub fn get(&self, name: &str) -> Option<&Cookie>
+        ensures { option_copied result ≡ cookie_of name.now self.now.originals }
+    {
+        self.originals.get(name)
+    }
+
+    fn pending(&self) -> &[Change]
+        ensures { result.now ≡ pending_changes self.now }
+    {
+        &self.log[self.floor..]
+    }
+
+    fn last_change(&self, name: &str) -> Option<&Change>
+        ensures { option_copied result ≡ last_change name.now (pending_changes self.now) }
+    {
+        self.pending()
+            .iter()
+            .rev()
+            .find(|change| change.cookie.is_named(name))
+    }
+
+    /// What the changes above the floor leave of a name, and its original where none of them has it.
+    pub fn get_pending(&self, name: &str) -> Option<&Cookie>
+        ensures { option_copied result
+            ≡ left_by (last_change name.now (pending_changes self.now)) (cookie_of name.now self.now.originals) }
+    {
+        match self.last_change(name) {
+            Some(change) => {
+                if change.removal {
+                    None
+                } else {
+                    Some(&change.cookie)
+                }
+            }
+            None => self.get(name),
+        }
+    }
+
+    /// Keeps a cookie that came with the request, in place of an earlier one of its name.
+    pub fn add_original(&mut self, alloc: Global, cookie: Cookie) -> Result<(), NoMemory>
+        ensures ok { OnOk result (self.new ≡ record self.old { originals = with_cookie self.old.originals cookie }) }
+        ensures err { OnErr result (self.new ≡ self.old) }
+    {
+        let name = String::from_str(alloc, cookie.name())?;
+        self.originals.insert(name, cookie)?;
+        Ok(())
+    }
+
+    /// Logs that a cookie is added.
+    pub fn add(&mut self, alloc: Global, cookie: Cookie) -> Result<(), NoMemory>
+        ensures ok { OnOk result (self.new ≡ record self.old { log = self.old.log ++ addition cookie ∷ [] }) }
+        ensures err { OnErr result (self.new ≡ self.old) }
+    {
+        let cookie = default_cookie(alloc, cookie, SameSite::Strict)?;
+        self.log.push(Change {
+            cookie,
+            removal: false,
+        })?;
+        Ok(())
+    }
+
+    /// Logs that the cookie of this name, path and domain is removed.
+    pub fn remove(&mut self, alloc: Global, cookie: Cookie) -> Result<(), NoMemory>
+        ensures ok { OnOk result (self.new ≡ record self.old { log = self.old.log ++ removal_of cookie ∷ [] }) }
+        ensures err { OnErr result (self.new ≡ self.old) }
+    {
+        let cookie = default_cookie(alloc, cookie, SameSite::Lax)?;
+        self.log.push(Change {
+            cookie,
+            removal: true,
+        })?;
+        Ok(())
+    }
+
+    /// All changes, also those below the floor.
+    pub fn log(&self) -> &[Change]
+        ensures { result.now ≡ self.now.log }
+    {
+        self.log.as_slice()
+    }
+
+    /// What is sent of a change: a removal only where there is an original to remove.
+    fn sent(&self, alloc: Global, change: &Change, moment: u64) -> Result<Option<Cookie>, NoMemory>
+        ensures { IfOk result (λ cookie. option_to_list cookie ≡ sent self.now.originals moment change.now) }
+    {
+        if change.removal && self.get(change.cookie.name()).is_none() {
+            return Ok(None);
+        }
+        let mut cookie = change.cookie.try_clone(alloc)?;
+        if change.removal {
+            cookie.make_removal(moment);
+        }
+        Ok(Some(cookie))
+    }
+
+    fn delta(&self, alloc: Global, moment: u64) -> Result<Vec<Cookie>, NoMemory>
+        ensures { IfOk result (λ cookies. cookies.items ≡ delta self.now.originals self.now.log self.now.floor moment) }
+    {
+        let mut seen = BTreeSet::new(alloc);
+        let mut cookies = Vec::new(alloc);
+        for change in self.pending().iter().rev() {
+            if !seen.insert(change.cookie.name())? {
+                continue;
+            }
+            let cookie = self.sent(alloc, change, moment)?;
+            push_any(&mut cookies, cookie)?;
+        }
+        cookies.reverse();
+        Ok(cookies)
+    }
+
+    /// The cookies to send: of each name that changed since the last time, its last change. The floor rises to the end of
+    /// the log.
+    pub fn take_delta(&mut self, alloc: Global, moment: u64) -> Result<Vec<Cookie>, NoMemory>
+        ensures delta { IfOk result
+            (λ cookies. cookies.items ≡ delta self.old.originals self.old.log self.old.floor moment) }
+        ensures ok { OnOk result (self.new ≡ record self.old { floor = length self.old.log }) }
+        ensures err { OnErr result (self.new ≡ self.old) }
+    {
+        let cookies = self.delta(alloc, moment)?;
+        self.reset_delta();
+        Ok(cookies)
+    }
+
+    /// Forgets the changes so far: the floor rises to the end of the log.
+    pub fn reset_delta(&mut self)
+        ensures { self.new ≡ record self.old { floor = length self.old.log } }
+    {
+        self.floor = self.log.len();
+    }
+}
