@@ -15,3 +15,6 @@ pub use request::{Head, Request};
 pub use response::Response;
 pub use rocket::{Ignite, Rocket, Tables};
 pub use run::{Answer, Call, Run, Which};
+
+#[cfg(test)]
+mod tests;
