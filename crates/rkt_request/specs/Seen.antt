@@ -1,6 +1,9 @@
 -- A request as contracts see it.
-use Rattle.std.specs.Prelude.{◌≡◌, ⊤, ℕ, List, [], Option, Some, None, slice_get, drop}
-use Rattle.std.specs.Option.{option_map_or}
+use Rattle.std.specs.Prelude.{◌≡◌, ℕ, List, Option, Some, None, slice_get, drop, option_and_then, option_map}
+use Rattle.std.specs.Option.{option_map_or, option_or}
+use Rattle.std.specs.Net.Grammar.{IsIpText}
+use Rattle.std.specs.Net.Socket.{socket_ip}
+use Rattle.std.specs.declared.net.ip_addr.IpAddr.{IpAddr}
 use Rattle.std.specs.declared.net.socket_addr.SocketAddr.{SocketAddr}
 use Rattle.rkt_http.specs.Headers.{Group, values_of}
 use Rattle.rkt_http.specs.Host.{Authority}
@@ -54,5 +57,4 @@ IsRealIp seen found = MaybeReadAs IsIpText (real_ip_text seen) found
 
 -- the client's address: that one, or else that of who sent the request
 abbrev pub IsClientIp : {V : Type 0} → Seen V → Option IpAddr → Type 0
-IsClientIp seen (Some address) = IsRealIp seen (Some address) ⊎ (IsRealIp seen None × (option_map socket_ip seen.remote ≡ Some address))
-IsClientIp seen None = IsRealIp seen None × (seen.remote ≡ None)
+IsClientIp seen found = (real : Option IpAddr) × IsRealIp seen real × (found ≡ option_or real (option_map socket_ip seen.remote))

@@ -1,7 +1,7 @@
 ghost use Rattle.std.specs.Prelude.{◌≡◌, [], Some, None, OnOk, OnErr, drop, slice_get, option_copied};
 ghost use Rattle.rkt_http.specs.Headers.{added, replaced};
 ghost use Rattle.rkt_http.specs.Origin.{fields_of};
-ghost use Rattle.rkt_request.specs.Seen.{base_segments, routed};
+ghost use Rattle.rkt_request.specs.Seen.{IsClientIp, IsRealIp, base_segments, routed};
 
 use crate::config::Config;
 use crate::head::Mounted;
@@ -12,7 +12,7 @@ use rkt_base::NoMemory;
 use rkt_http::{Header, HeaderMap, Host, Method, Origin, QueryFields, Segments};
 use std::alloc::Global;
 use std::marker::Model;
-use std::net::SocketAddr;
+use std::net::{IpAddr, SocketAddr};
 use std::ops::RangeFrom;
 
 /// What a client asks, apart from the body, with what the server lends.
@@ -47,7 +47,13 @@ impl<'a, T: Types> Model for Request<'a, T> {
 
 impl<'a, T: Types> Request<'a, T> {
     /// A request without headers.
-    pub fn new(alloc: Global, config: &'a Config, managed: &'a Managed<T::Value>, method: Method, uri: Origin) -> Request<'a, T>
+    pub fn new(
+        alloc: Global,
+        config: &'a Config,
+        managed: &'a Managed<T::Value>,
+        method: Method,
+        uri: Origin,
+    ) -> Request<'a, T>
         ensures { result ≡ record {
           config = config.now;
           managed = managed.now;
@@ -119,6 +125,25 @@ impl<'a, T: Types> Request<'a, T> {
         ensures { self.new ≡ record self.old { remote = Some address } }
     {
         self.remote = Some(address);
+    }
+
+    /// The address that the configured header says.
+    pub fn real_ip(&self) -> Option<IpAddr>
+        ensures { IsRealIp self.now result }
+    {
+        let name = self.config.ip_header.as_ref()?;
+        let text = self.headers.get_one(name.as_str())?;
+        text.parse().ok()
+    }
+
+    /// The address that the configured header says, or else that of who sent the request.
+    pub fn client_ip(&self) -> Option<IpAddr>
+        ensures { IsClientIp self.now result }
+    {
+        match self.real_ip() {
+            Some(address) => Some(address),
+            None => Some(self.remote?.ip()),
+        }
     }
 
     pub fn headers(&self) -> &HeaderMap
