@@ -5,3 +5,4 @@ pub mod Limits
 pub mod SameLimits
 pub mod Numbers
 pub mod Managed
+pub mod Seen

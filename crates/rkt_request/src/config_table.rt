@@ -5,12 +5,12 @@ ghost use Rattle.indexmap.specs.IndexMap.{insert_entry};
 ghost use Rattle.rkt_request.specs.ConfigTable.{text_of};
 ghost use Rattle.rkt_request.specs.Config.{first_bad, limits_in, with_entry};
 
-use rkt_data::ByteUnit;
 use crate::limits::Limits;
 use crate::numbers::number;
 use crate::setting::{fits, limit_name};
 use indexmap::IndexMap;
 use rkt_base::NoMemory;
+use rkt_data::ByteUnit;
 use std::alloc::Global;
 use std::marker::Model;
 

@@ -7,9 +7,9 @@ ghost use Rattle.std.specs.List.{join_with_byte};
 ghost use Rattle.rkt_request.specs.Limits.{IsLimitOf, default_limits};
 ghost use Rattle.rkt_request.specs.Joined.{bytes_of};
 
-use rkt_data::ByteUnit;
 use crate::joined::Joined;
 use rkt_base::NoMemory;
+use rkt_data::ByteUnit;
 use std::alloc::Global;
 use std::collections::BTreeMap;
 use std::fmt;

@@ -5,8 +5,8 @@ ghost use Rattle.std.specs.BTreeMap.{insert_entry};
 ghost use Rattle.rkt_base.specs.Want.{IfRefused};
 ghost use Rattle.rkt_request.specs.Managed.{value_at};
 
-use rkt_http::Key;
 use rkt_base::Want;
+use rkt_http::Key;
 use std::alloc::Global;
 use std::collections::BTreeMap;
 use std::marker::Model;

@@ -2,8 +2,8 @@ ghost use Rattle.std.specs.Prelude.{◌≡◌};
 ghost use Rattle.std.specs.Option.{option_map};
 ghost use Rattle.rkt_request.specs.Managed.{value_at};
 
-use rkt_http::Key;
 use crate::managed::Managed;
+use rkt_http::Key;
 use std::cmp::Ordering;
 use std::fmt;
 use std::hash::{Hash, Hasher};

@@ -1,0 +1,230 @@
+ghost use Rattle.std.specs.Prelude.{◌≡◌, [], Some, None, OnOk, OnErr, drop, slice_get, option_copied};
+ghost use Rattle.rkt_http.specs.Headers.{added, replaced};
+ghost use Rattle.rkt_http.specs.Origin.{fields_of};
+ghost use Rattle.rkt_request.specs.Seen.{IsClientIp, IsRealIp, base_segments, routed};
+
+use crate::config::Config;
+use crate::head::Mounted;
+use crate::limits::Limits;
+use crate::managed::Managed;
+use crate::types::Types;
+use rkt_base::NoMemory;
+use rkt_http::{Header, HeaderMap, Host, Method, Origin, QueryFields, Segments};
+use std::alloc::Global;
+use std::marker::Model;
+use std::net::{IpAddr, SocketAddr};
+use std::ops::RangeFrom;
+
+/// What a client asks, apart from the body, with what the server lends.
+#[derive(Drop)]
+pub struct Request<'a, T: Types> {
+    config: &'a Config,
+    managed: &'a Managed<T::Value>,
+    method: Method,
+    uri: Origin,
+    host: Option<Host>,
+    remote: Option<SocketAddr>,
+    headers: HeaderMap,
+    route: Option<Mounted>,
+}
+
+impl<'a, T: Types> Model for Request<'a, T> {
+    ghost use Rattle.rkt_request.specs.Seen.{Seen};
+
+    ghost Value = { Seen T.Value };
+
+    ghost view = { λ r. record {
+      config = r.config.now;
+      managed = r.managed.now;
+      method = r.method;
+      uri = r.uri;
+      host = r.host;
+      remote = r.remote;
+      headers = r.headers;
+      route = r.route;
+    } };
+}
+
+impl<'a, T: Types> Request<'a, T> {
+    /// A request without headers.
+    pub fn new(
+        alloc: Global,
+        config: &'a Config,
+        managed: &'a Managed<T::Value>,
+        method: Method,
+        uri: Origin,
+    ) -> Request<'a, T>
+        ensures { result ≡ record {
+          config = config.now;
+          managed = managed.now;
+          method = method;
+          uri = uri;
+          host = None;
+          remote = None;
+          headers = [];
+          route = None;
+        } }
+    {
+        Request {
+            config,
+            managed,
+            method,
+            uri,
+            host: None,
+            remote: None,
+            headers: HeaderMap::new(alloc),
+            route: None,
+        }
+    }
+
+    pub fn method(&self) -> Method
+        ensures { result ≡ self.now.method }
+    {
+        self.method
+    }
+
+    pub fn set_method(&mut self, method: Method)
+        ensures { self.new ≡ record self.old { method = method } }
+    {
+        self.method = method;
+    }
+
+    pub fn uri(&self) -> &Origin
+        ensures { result.now ≡ self.now.uri }
+    {
+        &self.uri
+    }
+
+    pub fn set_uri(&mut self, uri: Origin)
+        ensures { self.new ≡ record self.old { uri = uri } }
+    {
+        self.uri = uri;
+    }
+
+    /// The host that the request was sent to.
+    pub fn host(&self) -> Option<&Host>
+        ensures { option_copied result ≡ self.now.host }
+    {
+        self.host.as_ref()
+    }
+
+    pub fn set_host(&mut self, host: Host)
+        ensures { self.new ≡ record self.old { host = Some host } }
+    {
+        self.host = Some(host);
+    }
+
+    /// Who sent the request.
+    pub fn remote(&self) -> Option<SocketAddr>
+        ensures { result ≡ self.now.remote }
+    {
+        self.remote
+    }
+
+    pub fn set_remote(&mut self, address: SocketAddr)
+        ensures { self.new ≡ record self.old { remote = Some address } }
+    {
+        self.remote = Some(address);
+    }
+
+    /// The address that the configured header says.
+    pub fn real_ip(&self) -> Option<IpAddr>
+        ensures { IsRealIp self.now result }
+    {
+        let name = self.config.ip_header.as_ref()?;
+        let text = self.headers.get_one(name.as_str())?;
+        text.parse().ok()
+    }
+
+    /// The address that the configured header says, or else that of who sent the request.
+    pub fn client_ip(&self) -> Option<IpAddr>
+        ensures { IsClientIp self.now result }
+    {
+        match self.real_ip() {
+            Some(address) => Some(address),
+            None => Some(self.remote?.ip()),
+        }
+    }
+
+    pub fn headers(&self) -> &HeaderMap
+        ensures { result.now ≡ self.now.headers }
+    {
+        &self.headers
+    }
+
+    /// Adds a header behind those of its name.
+    pub fn add_header(&mut self, header: Header) -> Result<(), NoMemory>
+        ensures ok { OnOk result (self.new ≡ record self.old { headers = added self.old.headers header }) }
+        ensures err { OnErr result (self.new ≡ self.old) }
+    {
+        self.headers.add(header)
+    }
+
+    /// Puts a header in place of those of its name.
+    pub fn replace_header(&mut self, header: Header) -> Result<(), NoMemory>
+        ensures ok { OnOk result (self.new ≡ record self.old { headers = replaced self.old.headers header }) }
+        ensures err { OnErr result (self.new ≡ self.old) }
+    {
+        self.headers.replace(header)?;
+        Ok(())
+    }
+
+    /// The limits of the configuration.
+    pub fn limits(&self) -> &Limits
+        ensures { result.now ≡ self.now.config.limits }
+    {
+        &self.config.limits
+    }
+
+    pub fn config(&self) -> &'a Config
+        ensures { result.now ≡ self.now.config }
+    {
+        self.config
+    }
+
+    pub fn managed(&self) -> &'a Managed<T::Value>
+        ensures { result.now ≡ self.now.managed }
+    {
+        self.managed
+    }
+
+    /// The route that the request is tried on.
+    pub fn route(&self) -> Option<Mounted>
+        ensures { result ≡ self.now.route }
+    {
+        self.route
+    }
+
+    pub fn set_route(&mut self, route: Mounted)
+        ensures { self.new ≡ record self.old { route = Some route } }
+    {
+        self.route = Some(route);
+    }
+
+    fn base_segments(&self) -> usize
+        ensures { result ≡ base_segments self.now.route }
+    {
+        self.route.map_or(0, |mounted| mounted.base_segments)
+    }
+
+    /// A decoded segment, counted from 0 behind the base of the route.
+    pub fn routed_segment(&self, n: usize) -> Option<&str>
+        ensures { option_copied result ≡ slice_get (routed self.now) n }
+    {
+        self.routed_segments(n..).get(0)
+    }
+
+    /// The decoded segments from one on, counted from 0 behind the base of the route.
+    pub fn routed_segments(&self, n: RangeFrom<usize>) -> Segments<'_>
+        ensures { result ≡ drop n.start (routed self.now) }
+    {
+        self.uri.segments().skip(self.base_segments()).skip(n.start)
+    }
+
+    /// The decoded fields of the query.
+    pub fn query_fields(&self) -> QueryFields<'_>
+        ensures { result ≡ fields_of self.now.uri }
+    {
+        self.uri.query_fields()
+    }
+}
