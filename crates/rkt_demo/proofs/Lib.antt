@@ -1,0 +1,9 @@
+pub mod Answers
+pub mod Cuts
+pub mod Lines
+pub mod PageOrigin
+pub mod Prints
+pub mod Requests
+pub mod Runs
+pub mod Serving
+pub mod StreamLemmas

@@ -1,0 +1,9 @@
+pub mod Entries
+pub mod Output
+pub mod Printed
+pub mod Program
+pub mod Sample
+pub mod Script
+pub mod Shown
+pub mod Streams
+pub mod Words
