@@ -1,11 +1,13 @@
 -- A jar's originals, kept by name in a map, as a list of cookies.
-use Rattle.std.proofs.Common.{◌≡◌, ℕ, cond, List, [], ◌∷◌, Some, String, string_bytes, refl, sym, ap, ◌∙◌}
+use Rattle.std.proofs.Common.{◌≡◌, ℕ, cond, List, [], ◌∷◌, Some, String, string_bytes, map, refl, sym, ap, ◌∙◌}
 use Rattle.std.specs.declared.cmp.Ordering.{Ordering}
 use Rattle.std.specs.declared.cmp.Ordering.TheVariants.{Less, Equal, Greater}
 use Rattle.std.specs.Global.{Global}
 use Rattle.std.specs.BTreeMap.{insert_entry, is_at}
 use Rattle.std.specs.Cmp.Lexicographic.{slice_cmp}
-use Rattle.std.specs.Map.{lookup}
+use Rattle.std.specs.List.{AllByRecursion}
+use Rattle.std.specs.List.Sorted.{IsStrictlySortedBy}
+use Rattle.std.specs.Map.{lookup, keys_of}
 use Rattle.std.specs.Ordering.{match_ordering, nat_cmp, is_eq}
 use Rattle.std.specs.Str.{bytes_eq}
 use Rattle.std.specs.String.{string_cmp}
@@ -13,7 +15,7 @@ use Rattle.std.proofs.lemmas.List.Elements.{All-nil, All-cons, All-head, All-tai
 use Rattle.std.proofs.lemmas.Slice.Eq.{bytes_eq-Decides}
 use Rattle.std.proofs.lemmas.Map.Text.{is_eq-slice_cmp}
 use Rattle.rkt_cookie.specs.Cookie.{Parts}
-use Rattle.rkt_cookie.specs.Jar.{is_named, cookie_of, with_cookie}
+use Rattle.rkt_cookie.specs.Jar.{NamesAscend, is_named, cookie_of, with_cookie}
 use Rattle.rkt_cookie.specs.JarEntries.{IsByName, cookies_in}
 
 abbrev ByName : String Global × Parts → Type 0
@@ -58,3 +60,21 @@ by_name_inserted (e ∷ es) key cookie own h =
     (All-cons ByName (key, cookie) (e ∷ es) own h)
     (λ same. All-cons ByName (e.0, cookie) es (sym (same_bytes (string_bytes key) (string_bytes e.0) same) ∙ own) (All-tail ByName e es h))
     (All-cons ByName e (insert_entry string_cmp es key cookie) (All-head ByName e es h) (by_name_inserted es key cookie own (All-tail ByName e es h)))
+
+-- ---- the order of names
+
+names_above : (key : String Global) (name : List ℕ) (entries : List (String Global × Parts)) → string_bytes key ≡ name → IsByName entries
+    → AllByRecursion (λ other. string_cmp key other ≡ Less) (keys_of entries) → AllByRecursion (λ other. slice_cmp nat_cmp name other ≡ Less) (map (λ cookie. cookie.name) (cookies_in entries))
+names_above key name [] own h below = tt
+names_above key name (e ∷ es) own h below = (
+  ap (slice_cmp nat_cmp name) (sym (All-head ByName e es h)) ∙ ap (λ n. slice_cmp nat_cmp n (string_bytes e.0)) (sym own) ∙ below.0,
+  names_above key name es own (All-tail ByName e es h) below.1,
+)
+
+pub names_ascend : (entries : List (String Global × Parts)) → IsByName entries → IsStrictlySortedBy string_cmp (keys_of entries) → NamesAscend (cookies_in entries)
+unfolding IsStrictlySortedBy
+names_ascend [] h order = tt
+names_ascend (e ∷ es) h order = (
+  names_above e.0 e.1.name es (All-head ByName e es h) (All-tail ByName e es h) order.0,
+  names_ascend es (All-tail ByName e es h) order.1,
+)

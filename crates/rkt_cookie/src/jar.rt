@@ -1,12 +1,14 @@
 ghost use Rattle.std.specs.Prelude.{◌≡◌, ◌++◌, ◌∷◌, [], IfOk, OnOk, OnErr, length, option_to_list};
 ghost use Rattle.std.specs.Option.{option_copied};
-ghost use Rattle.rkt_cookie.specs.Jar.{addition, cookie_of, delta, last_change, left_by, pending_changes, removal_of, sent, with_cookie, with_defaults};
+ghost use Rattle.std.specs.Iterator.{YieldsFirstRef, item_count};
+ghost use Rattle.rkt_cookie.specs.Jar.{NamesAscend, addition, cookie_of, delta, last_change, left_by, pending_changes, removal_of, sent, with_cookie, with_defaults};
 
 use crate::change::Change;
 use crate::cookie::Cookie;
 use crate::same_site::SameSite;
 use rkt_base::NoMemory;
 use std::alloc::Global;
+use std::collections::btree_map::Values;
 use std::collections::{BTreeMap, BTreeSet};
 use std::marker::Model;
 
@@ -143,6 +145,16 @@ impl CookieJar {
         Ok(())
     }
 
+    /// The originals, names ascending.
+    pub fn iter(&self) -> CookieIter<'_>
+        ensures cookies { result ≡ self.now.originals }
+        ensures ascending { NamesAscend self.now.originals }
+    {
+        CookieIter {
+            cookies: self.originals.values(),
+        }
+    }
+
     /// All changes, also those below the floor.
     pub fn log(&self) -> &[Change]
         ensures { result.now ≡ self.now.log }
@@ -198,5 +210,32 @@ impl CookieJar {
         ensures { self.new ≡ record self.old { floor = length self.old.log } }
     {
         self.floor = self.log.len();
+    }
+}
+
+/// The originals of a jar, names ascending.
+#[derive(Drop)]
+pub struct CookieIter<'a> {
+    cookies: Values<'a, String, Cookie>,
+}
+
+impl<'a> Model for CookieIter<'a> {
+    ghost use Rattle.std.specs.Prelude.{List};
+    ghost use Rattle.rkt_cookie.specs.Cookie.{Parts};
+
+    ghost Value = { List Parts };
+
+    ghost view = { λ i. i.cookies };
+}
+
+impl<'a> Iterator for CookieIter<'a> {
+    type Item = &'a Cookie;
+
+    ghost next_gives = { YieldsFirstRef (λ cookies. cookies) };
+
+    ghost remaining = { item_count (λ cookies. cookies) };
+
+    fn next(&mut self) -> Option<&'a Cookie> {
+        self.cookies.next()
     }
 }

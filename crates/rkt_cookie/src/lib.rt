@@ -13,7 +13,7 @@ mod same_site;
 pub use builder::CookieBuilder;
 pub use change::Change;
 pub use cookie::Cookie;
-pub use jar::CookieJar;
+pub use jar::{CookieIter, CookieJar};
 pub use parse::InvalidCookie;
 pub use same_site::SameSite;
 

@@ -155,7 +155,10 @@ fn listed(alloc: Global, cookies: &[Cookie]) -> Result<String, AllocError> {
 fn a_delta_has_the_last_changes(rt: HostRuntime) -> Result<(), Fail> {
     let alloc = rt.alloc();
     let mut jar = CookieJar::new(alloc);
+    jar.add_original(alloc, Cookie::new(alloc, "d", "4")?)?;
     jar.add_original(alloc, Cookie::new(alloc, "a", "1")?)?;
+    jar.add_original(alloc, Cookie::new(alloc, "d", "5")?)?;
+    assert_eq!(rt; jar.iter().count(), 2);
     jar.add(alloc, Cookie::new(alloc, "b", "1")?)?;
     jar.remove(alloc, Cookie::new(alloc, "a", "")?)?;
     jar.add(alloc, Cookie::new(alloc, "b", "2")?)?;
