@@ -6,3 +6,4 @@ pub mod SameLimits
 pub mod Numbers
 pub mod Managed
 pub mod Seen
+pub mod Lent

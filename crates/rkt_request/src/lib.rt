@@ -3,6 +3,7 @@
 
 mod config;
 mod config_table;
+mod ctx;
 mod head;
 mod joined;
 mod limits;
@@ -15,6 +16,7 @@ mod types;
 
 pub use config::{BadConfig, Config};
 pub use config_table::ConfigTable;
+pub use ctx::Ctx;
 pub use head::{Head, Mounted};
 pub use limits::Limits;
 pub use managed::{DuplicateState, Managed};
