@@ -5,3 +5,4 @@ pub mod Normal
 pub mod OriginLemmas
 pub mod Pages
 pub mod Pieces
+pub mod RunLemmas
