@@ -6,3 +6,4 @@ pub mod OriginLemmas
 pub mod Pages
 pub mod Pieces
 pub mod Outcomes
+pub mod RunLemmas

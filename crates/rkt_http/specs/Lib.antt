@@ -5,6 +5,8 @@ pub mod Headers
 pub mod Host
 pub mod HostPlaces
 pub mod Media
+pub mod MediaPlaces
+pub mod MediaText
 pub mod Method
 pub mod Origin
 pub mod OriginPlaces
@@ -12,6 +14,7 @@ pub mod PathBuf
 pub mod Places
 pub mod Reference
 pub mod ReferencePlaces
+pub mod Runs
 pub mod Status
 pub mod Table
 pub mod IntoOutcome

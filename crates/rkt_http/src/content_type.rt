@@ -1,9 +1,12 @@
 ghost use Rattle.std.specs.Prelude.{◌≡◌, IfOk, codes};
+ghost use Rattle.rkt_base.specs.Want.{IfRefused, GivesUnlessNoMemory};
+ghost use Rattle.rkt_http.specs.Grammar.{LeavesAt};
+ghost use Rattle.rkt_http.specs.MediaText.{SpellsMedia, IsMedia};
 ghost use Rattle.rkt_http.specs.Media.{Media, media_text, is_kind, known_media, known_text};
 
 use crate::header::Header;
-use crate::media_type::MediaType;
-use rkt_base::NoMemory;
+use crate::media_type::{InvalidMedia, MediaType};
+use rkt_base::{NoMemory, Want};
 use std::alloc::Global;
 use std::marker::Model;
 
@@ -55,6 +58,16 @@ fn known_media_type(alloc: Global, known: Known) -> Result<MediaType, NoMemory>
 }
 
 impl ContentType {
+    pub fn parse(alloc: Global, text: &str) -> Result<ContentType, Want<InvalidMedia>>
+        ensures accepted { IfOk result (λ t. SpellsMedia text.now t) }
+        ensures complete { (m : Media) → SpellsMedia text.now m → GivesUnlessNoMemory result m }
+        ensures refused { IfRefused result (λ e. LeavesAt IsMedia text.now e.at) }
+    {
+        Ok(ContentType {
+            media_type: MediaType::parse(alloc, text)?,
+        })
+    }
+
     pub fn known(alloc: Global, known: Known) -> Result<ContentType, NoMemory>
         ensures value { IfOk result (λ t. t ≡ known_media known) }
         ensures text { IfOk result (λ t. media_text t ≡ known_text known) }

@@ -1,9 +1,17 @@
 ghost use Rattle.std.specs.Prelude.{◌≡◌, ◌∷◌, ◌++◌, [], IfOk, codes, length, flat_map};
+ghost use Rattle.rkt_base.specs.Want.{IfRefused, GivesUnlessNoMemory};
+ghost use Rattle.rkt_http.specs.Grammar.{LeavesAt};
+ghost use Rattle.rkt_http.specs.MediaText.{SpellsMedia, IsMedia};
 ghost use Rattle.rkt_http.specs.Media.{Media, media_text, parameter_text, is_kind, bare, utf8_text, part_specificity, specificity_of};
 
-use rkt_base::{NoMemory, Text};
+use crate::grammar::first_fault;
+use crate::media_place::MediaPlace;
+use crate::media_read::{read_parameters, token_cut};
+use crate::origin_iter::behind_slash;
+use rkt_base::{NoMemory, Text, Want};
 use std::alloc::Global;
 use std::marker::Model;
+use thiserror::Error;
 
 /// A media type with its parameters. A parameter's value is kept as it is spelled.
 #[derive(Debug, Drop)]
@@ -21,6 +29,26 @@ impl Model for MediaType {
     ghost view = { λ m. record { top = m.top; sub = m.sub; parameters = m.parameters.items } };
 }
 
+/// Where a text leaves the grammar of media types: the place of the first such byte, or the text's length.
+#[derive(Clone, Copy, Debug, PartialEq, Eq, Drop, Error)]
+#[error("invalid media type at byte {at}")]
+pub struct InvalidMedia {
+    pub at: usize,
+}
+
+/// The media type that a text spells.
+fn read(alloc: Global, text: &str) -> Result<MediaType, NoMemory>
+    ensures { (m : Media) → SpellsMedia text.now m → IfOk result (λ r. r ≡ m) }
+{
+    let (top, behind) = token_cut(text);
+    let (sub, behind) = token_cut(behind_slash(behind));
+    Ok(MediaType {
+        top: Text::new(alloc, top)?,
+        sub: Text::new(alloc, sub)?,
+        parameters: read_parameters(alloc, behind)?,
+    })
+}
+
 fn specificity_of_part(part: &str) -> u8
     ensures { result ≡ part_specificity part.now }
 {
@@ -28,6 +56,20 @@ fn specificity_of_part(part: &str) -> u8
 }
 
 impl MediaType {
+    pub fn parse(alloc: Global, text: &str) -> Result<MediaType, Want<InvalidMedia>>
+        // What is accepted is spelled so.
+        ensures accepted { IfOk result (λ m. SpellsMedia text.now m) }
+        // What is spelled so is accepted, unless memory runs out.
+        ensures complete { (m : Media) → SpellsMedia text.now m → GivesUnlessNoMemory result m }
+        // A refusal names the place where the text leaves the grammar.
+        ensures refused { IfRefused result (λ e. LeavesAt IsMedia text.now e.at) }
+    {
+        match first_fault(MediaPlace::TopStart, text) {
+            Some(at) => Err(Want::Refused(InvalidMedia { at })),
+            None => Ok(read(alloc, text)?),
+        }
+    }
+
     /// The type.
     pub fn top(&self) -> &str
         ensures { result.now ≡ self.now.top }

@@ -16,7 +16,7 @@ fn before_slash(text: &str) -> &str
 }
 
 /// What stands behind the first slash.
-fn behind_slash(text: &str) -> &str
+pub(crate) fn behind_slash(text: &str) -> &str
     ensures { result.now ≡ after_first is_slash text.now }
 {
     match text.split_once('/') {

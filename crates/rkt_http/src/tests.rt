@@ -1,8 +1,8 @@
 //! Cases from the RFCs and from the tables of this project.
 
 use crate::{
-    ContentType, Header, HeaderMap, Host, InvalidUri, Known, Method, Origin, PathError, Reference,
-    Status, Uncased, default_page,
+    ContentType, Header, HeaderMap, Host, InvalidMedia, InvalidUri, Known, MediaType, Method,
+    Origin, PathError, Reference, Status, Uncased, default_page,
 };
 use rkt_base::{NoMemory, Want};
 use std::alloc::Global;
@@ -195,5 +195,41 @@ fn pages_have_their_sizes(rt: HostRuntime) -> Result<(), Fail> {
     assert_eq!(rt; page.len(), 128);
     assert_eq!(rt; Status::Ok.reason(), Some("OK"));
     assert_eq!(rt; Status::new(299).reason(), None);
+    Ok(())
+}
+
+#[test]
+fn media_types_are_read_or_refused(rt: HostRuntime) -> Result<(), Fail> {
+    let cases = [
+        // RFC 9110, 8.3.1
+        ("text/html;charset=utf-8", None),
+        ("Text/HTML;Charset=\"utf-8\"", None),
+        ("text/html; charset=\"utf-8\"", None),
+        ("text/html;charset=UTF-8", None),
+        // RFC 9110, 14.6, and RFC 2046, 5.1.1
+        ("multipart/byteranges; boundary=THIS_STRING_SEPARATES", None),
+        ("multipart/mixed; boundary=\"gc0pJq0M:08jU534c0p\"", None),
+        ("application/x-www-form-urlencoded", None),
+        ("a/b ; c=\"d\\\"\"", None),
+        ("text", Some(4)),
+        ("", Some(0)),
+        ("text/", Some(5)),
+        ("text/html ", Some(10)),
+        ("text/html;", Some(10)),
+        ("text/html; charset", Some(18)),
+        ("text/html; charset=", Some(19)),
+        ("a/b; c=\"d", Some(9)),
+        ("a/b c", Some(4)),
+    ];
+    for (text, at) in cases {
+        let found = match MediaType::parse(rt.alloc(), text) {
+            Err(Want::Refused(InvalidMedia { at })) => Some(at),
+            _ => None,
+        };
+        assert_eq!(rt; found, at);
+    }
+    let media = ContentType::parse(rt.alloc(), "text/html ;a=b;\tc=\"d;\\\"\"")?;
+    let text = media.media_type().to_text(rt.alloc())?;
+    assert_eq!(rt; text.as_str(), "text/html; a=b; c=\"d;\\\"\"");
     Ok(())
 }
