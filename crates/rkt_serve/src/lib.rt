@@ -24,3 +24,6 @@ pub use list_listener::ListListener;
 pub use listener::{Accepted, Listener};
 pub use memory_link::MemoryLink;
 pub use system_clock::SystemClock;
+
+#[cfg(test)]
+mod tests;
