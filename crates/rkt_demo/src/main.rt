@@ -7,6 +7,8 @@ mod program;
 mod sample;
 mod script;
 mod stream;
+#[cfg(test)]
+mod tests;
 mod words;
 
 use crate::adapters::{ReaderSource, WriterSink};
