@@ -1,20 +1,19 @@
 -- The sample has one answer to each request, and one text for it.
-use Rattle.std.proofs.Common.{◌≡◌, ◌++◌, ℕ, ◌+◌, ◌⊎◌, inl, inr, List, [], ◌∷◌, Bool, true, false, Option, Some, None, if◌then◌else◌, codes, length, map, flat_map, slice_get, refl, ap, ◌∙◌, sym, subst, append-nil, nat_eq}
+use Rattle.std.proofs.Common.{◌≡◌, ◌++◌, ℕ, inl, inr, List, [], ◌∷◌, Bool, true, false, if◌then◌else◌, codes, length, map, flat_map, refl, ap, ◌∙◌, sym, subst, append-nil, nat_eq}
 use Rattle.std.specs.Fmt.{decimal}
 use Rattle.std.specs.Cmp.Lexicographic.{pointwise}
-use Rattle.std.proofs.lemmas.Option.{none-some, same_Some}
+use Rattle.std.proofs.lemmas.Option.{same_Some}
 use Rattle.rkt_http.specs.DefaultPage.{html_page}
 use Rattle.rkt_http.specs.Origin.{Target, IsOrigin, target_of, segments_of}
 use Rattle.rkt_http.specs.declared.origin_place.Profile.TheVariants.{Request}
 use Rattle.rkt_http.proofs.OriginLemmas.{target_said}
-use Rattle.rkt_life.specs.Lifecycle.{Outcome, Success, Forward, Lifecycle, Served, Walked, Tried, Finished}
-use Rattle.rkt_life.specs.Request.{IsRequest, IsBad}
+use Rattle.rkt_life.specs.Lifecycle.{Outcome, Success, Forward, Lifecycle, Tried, Finished}
+use Rattle.rkt_life.specs.Request.{IsBad}
 use Rattle.rkt_life.specs.Requested.{Requested}
 use Rattle.rkt_life.specs.Response.{typed, default_page, text_page}
 use Rattle.rkt_life.specs.Routes.{matches}
 use Rattle.rkt_life.specs.declared.piece.Piece.{Piece}
 use Rattle.rkt_life.specs.declared.piece.Piece.TheVariants.{Head as HeadPiece, Chunk, End}
-use Rattle.rkt_life.specs.declared.request.Head.{Head}
 use Rattle.rkt_life.specs.declared.response.Response.{Response}
 use Rattle.rkt_life.specs.declared.run.Call.{Call}
 use Rattle.rkt_serve.specs.Sent.{Sent, sent_headers}

@@ -1,10 +1,9 @@
 -- Only the first bytes of a script decide which line is the first bad one.
-use Rattle.std.proofs.Common.{zero, suc, ◌≡◌, ◌≢◌, ◌<◌, ◌≤◌, ◌+◌, ◌-◌, ◌++◌, ◌⊎◌, inl, inr, ℕ, List, [], ◌∷◌, Bool, true, false, ◌==◌, if◌then◌else◌, length, take, drop, refl, ap, ◌∙◌, sym, subst, arith, length-append}
+use Rattle.std.proofs.Common.{zero, suc, ◌≡◌, ◌<◌, ◌≤◌, ◌+◌, ◌-◌, ◌⊎◌, inl, inr, ℕ, List, [], ◌∷◌, Bool, true, false, ◌==◌, length, take, refl, ap, ◌∙◌, sym, subst, arith}
 use Rattle.std.specs.List.{onto_first}
 use Rattle.std.proofs.lemmas.Bool.{cases_lt}
-use Rattle.std.proofs.lemmas.Bool.Decides.{nat_tests}
 use Rattle.std.proofs.lemmas.Grind.{common_steps}
-use Rattle.rkt_demo.specs.Script.{lines_of, IsGood, AreGood, IsFirstBad}
+use Rattle.rkt_demo.specs.Script.{lines_of, AreGood, IsFirstBad}
 
 -- the first line of a text, and what is left of it in each front of the text
 record FirstLine (text : List ℕ) : Type 0 where

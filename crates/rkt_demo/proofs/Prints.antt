@@ -1,14 +1,14 @@
 -- A text that shows a script is the printed one, but for the sections of starved requests.
-use Rattle.std.proofs.Common.{◌≡◌, ◌≢◌, ◌<◌, ◌≤◌, ◌++◌, ℕ, ◌+◌, ◌-◌, ◌⊎◌, inl, inr, List, [], ◌∷◌, Bool, true, false, ◌==◌, Option, if◌then◌else◌, codes, length, map, drop, refl, ap, ◌∙◌, sym, subst, arith}
+use Rattle.std.proofs.Common.{◌≡◌, ◌<◌, ◌≤◌, ◌++◌, ℕ, ◌+◌, ◌-◌, inl, inr, List, [], ◌∷◌, Bool, true, false, ◌==◌, Option, if◌then◌else◌, length, drop, refl, ap, ◌∙◌, sym, subst, arith}
 use Rattle.std.specs.List.{AllByRecursion}
 use Rattle.std.proofs.lemmas.Bool.Decides.{nat_tests}
 use Rattle.rkt_http.specs.Origin.{IsOrigin}
 use Rattle.rkt_http.specs.declared.origin_place.Profile.TheVariants.{Request}
 use Rattle.rkt_demo.proofs.Answers.{one_section}
-use Rattle.rkt_demo.specs.Output.{starved_section, last_line}
+use Rattle.rkt_demo.specs.Output.{starved_section}
 use Rattle.rkt_demo.specs.Printed.{printed_section, printed_from}
-use Rattle.rkt_demo.specs.Script.{content_of, IsRequest, AreGood, targets_of}
-use Rattle.rkt_demo.specs.Shown.{IsAnswered, IsSection, ShownFrom}
+use Rattle.rkt_demo.specs.Script.{content_of, AreGood, targets_of}
+use Rattle.rkt_demo.specs.Shown.{IsSection, ShownFrom}
 
 -- good lines ask for origins
 pub origins : (room : ℕ) (lines : List (List ℕ)) → AreGood room lines → AllByRecursion (IsOrigin Request) (targets_of lines)

@@ -1,5 +1,5 @@
 -- What the program knows of its script from the bytes that it has read.
-use Rattle.std.proofs.Common.{suc, ◌≡◌, ◌≤◌, ◌+◌, ◌++◌, ◌⊎◌, inl, inr, ℕ, List, [], Bool, false, Option, Some, None, take, drop, length, map, add-one, refl, ap, ◌∙◌, sym, subst, append-nil, arith}
+use Rattle.std.proofs.Common.{suc, ◌≡◌, ◌+◌, ◌++◌, ℕ, List, [], Bool, Option, Some, None, take, drop, length, add-one, refl, ap, ◌∙◌, sym, subst, append-nil, arith}
 use Rattle.std.specs.Option.{ForSome, option_map}
 use Rattle.std.proofs.lemmas.List.{length-map}
 use Rattle.std.proofs.lemmas.Grind.{common_steps}

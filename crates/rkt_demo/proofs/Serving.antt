@@ -1,5 +1,5 @@
 -- The entries of a launch over the sample show what its links ask.
-use Rattle.std.proofs.Common.{zero, suc, ◌≡◌, ◌<◌, ◌≤◌, ◌+◌, ◌++◌, ◌⊎◌, inl, inr, ℕ, List, [], ◌∷◌, Bool, true, false, ◌==◌, Option, Some, None, if◌then◌else◌, length, map, slice_get, refl, ap, ◌∙◌, sym, subst, arith}
+use Rattle.std.proofs.Common.{suc, ◌≡◌, ◌<◌, ◌+◌, inl, inr, ℕ, List, [], ◌∷◌, Bool, true, false, ◌==◌, Option, Some, if◌then◌else◌, length, map, slice_get, refl, ap, ◌∙◌, sym, subst, arith}
 use Rattle.std.specs.Option.{ForSome, option_map}
 use Rattle.std.proofs.lemmas.List.{length-map}
 use Rattle.std.proofs.lemmas.Simd.{map-map}
@@ -7,12 +7,11 @@ use Rattle.std.proofs.lemmas.Option.{none-some, same_Some, slice_get-map, slice_
 use Rattle.rkt_http.specs.Origin.{Target}
 use Rattle.rkt_life.specs.Lifecycle.{Lifecycle}
 use Rattle.rkt_life.specs.declared.request.Head.{Head}
-use Rattle.rkt_life.specs.declared.run.Run.{Run}
 use Rattle.rkt_serve.specs.Asked.{Asked}
 use Rattle.rkt_serve.specs.Causes.{Caused, CausedAs}
 use Rattle.rkt_serve.specs.Clock.{IsWithin}
 use Rattle.rkt_serve.specs.Events.{admitted, end_of}
-use Rattle.rkt_serve.specs.Headline.{AllAdmitted, AllTimed, HasEntry, TimedIn}
+use Rattle.rkt_serve.specs.Headline.{AllAdmitted, AllTimed, HasEntry}
 use Rattle.rkt_serve.specs.Memory.{LinkInMemory, asked_of, link_meaning}
 use Rattle.rkt_serve.specs.declared.history.End.{End as Ending}
 use Rattle.rkt_serve.specs.declared.history.End.TheVariants.{Answered, Starved}
@@ -20,10 +19,9 @@ use Rattle.rkt_serve.specs.declared.history.Entry.{Entry}
 use Rattle.rkt_serve.specs.declared.history.Event.{Event}
 use Rattle.rkt_serve.specs.declared.history.Event.TheVariants.{Lift, Admit, End, Close}
 use Rattle.rkt_demo.specs.Entries.{ended_section, entry_section, entries_text, AreEntries}
-use Rattle.rkt_demo.specs.Output.{last_line}
 use Rattle.rkt_demo.specs.Sample.{page_may, IsSample}
 use Rattle.rkt_demo.specs.Script.{head_of}
-use Rattle.rkt_demo.specs.Shown.{IsAnswered, IsSection, ShownFrom}
+use Rattle.rkt_demo.specs.Shown.{IsSection, ShownFrom}
 use Rattle.rkt_demo.specs.declared.sample.Page.{Page}
 
 -- what a link in memory asks that has this head

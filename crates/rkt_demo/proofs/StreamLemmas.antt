@@ -1,15 +1,14 @@
 -- A stream is read and written piece by piece.
-use Rattle.std.proofs.Common.{zero, suc, ◌≡◌, ◌<◌, ◌≤◌, ◌+◌, ◌-◌, ◌++◌, ◌⊎◌, inl, inr, ℕ, List, [], ◌∷◌, Bool, true, false, Option, Some, None, length, take, drop, refl, ap, ◌∙◌, sym, subst, append_assoc, arith, length-append, length-take}
+use Rattle.std.proofs.Common.{◌≡◌, ◌≤◌, ◌+◌, ◌++◌, ◌⊎◌, inl, inr, ℕ, List, [], Bool, true, false, Option, Some, None, length, take, drop, refl, ap, ◌∙◌, sym, append_assoc, arith, length-append}
 use Rattle.std.proofs.Math.Seq.{take-add}
 use Rattle.std.proofs.lemmas.Bool.{false≢true}
 use Rattle.std.proofs.lemmas.List.{drop-drop}
-use Rattle.std.proofs.lemmas.Option.{none-some}
 use Rattle.std.proofs.lemmas.Grind.{common_steps}
 use Rattle.std.specs.Option.{ForSome, IsSome, option_map}
 use Rattle.std.specs.Bool.{IsTrue}
 use Rattle.rkt_data.specs.Sink.{SinkMeaning, Gains}
 use Rattle.rkt_data.specs.Source.{Meaning, Keeps, Gives}
-use Rattle.rkt_demo.specs.Streams.{Reads, IsAtEnd, GainsFront}
+use Rattle.rkt_demo.specs.Streams.{Reads}
 
 no_warning : (warned : Bool) → warned ≡ false → IsTrue warned ⊎ IsSome {T = ℕ} None → ⊥
 no_warning warned is (inl h) = false≢true (sym is ∙ h)

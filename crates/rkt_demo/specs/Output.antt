@@ -1,5 +1,5 @@
 -- The text that tells how requests ended.
-use Rattle.std.specs.Prelude.{ℕ, ◌++◌, List, [], ◌∷◌, codes, flat_map, length}
+use Rattle.std.specs.Prelude.{ℕ, ◌++◌, List, [], codes, flat_map, length}
 use Rattle.std.specs.Fmt.{decimal}
 use Rattle.rkt_life.specs.declared.piece.Piece.{Piece}
 use Rattle.rkt_life.specs.declared.piece.Piece.TheVariants.{Head, Chunk, End}

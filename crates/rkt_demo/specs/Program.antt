@@ -1,13 +1,12 @@
 -- What the program writes, by the script that it reads.
-use Rattle.std.specs.Prelude.{◌≡◌, ◌⊎◌, ℕ, ◌+◌, ◌++◌, List, Bool, codes, drop, length}
+use Rattle.std.specs.Prelude.{◌≡◌, ◌⊎◌, ℕ, ◌+◌, ◌++◌, List, Bool, codes, drop}
 use Rattle.std.specs.Fmt.{decimal}
 use Rattle.std.specs.Option.{ForSome}
-use Rattle.rkt_data.specs.Sink.{SinkMeaning, Gains}
 use Rattle.rkt_data.specs.Source.{Meaning}
 use Rattle.rkt_demo.specs.declared.script.TheConstants.{SCRIPT_LIMIT}
 use Rattle.rkt_demo.specs.Printed.{printed_but}
 use Rattle.rkt_demo.specs.Script.{lines_of, AreGood, IsFirstBad}
-use Rattle.rkt_demo.specs.Streams.{IsReadTo, GainsFront, GainsUnlessRefused}
+use Rattle.rkt_demo.specs.Streams.{IsReadTo}
 
 -- a fact of the script: of what the source has not given yet, where it tells that
 abbrev pub OfScript : Meaning → (List ℕ → Type 0) → Type 0

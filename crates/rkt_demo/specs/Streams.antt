@@ -1,5 +1,5 @@
 -- What whole reads and writes leave.
-use Rattle.std.specs.Prelude.{◌≡◌, ◌≤◌, ◌⊎◌, ℕ, ◌+◌, Bool, false, List, length, take, drop}
+use Rattle.std.specs.Prelude.{◌≡◌, ◌≤◌, ◌⊎◌, ℕ, ◌+◌, false, List, length, take, drop}
 use Rattle.std.specs.Option.{ForSome}
 use Rattle.rkt_base.specs.Counts.{Rose}
 use Rattle.rkt_data.specs.Sink.{SinkMeaning, Gains}

@@ -74,6 +74,19 @@ fn serve_targets<R: Wait + Threads, C: Clock>(
     }
 }
 
+// Says how the program is called.
+fn refuse_words<R: Wait, K: Sink>(rt: &R, sink: &mut K) -> u8
+    ensures known { (result ≡ 2) ⊎ (result ≡ 6) }
+    ensures usage { result ≡ 2 → GainsUnlessRefused (K.meaning sink.old) (K.meaning sink.new) USAGE.now }
+    ensures front { GainsFront (K.meaning sink.old) (K.meaning sink.new) USAGE.now }
+{
+    match write_all(rt, sink, USAGE.as_bytes()) {
+        Ok(()) => 2,
+        Err(StreamError::Fault) => 2,
+        Err(StreamError::NoMemory) => 6,
+    }
+}
+
 // Names the first line that is not of the grammar.
 fn refuse_line<R: Wait, K: Sink>(rt: &R, alloc: Global, sink: &mut K, number: usize) -> u8
     ensures known { (result ≡ 3) ⊎ (result ≡ 6) }
@@ -116,9 +129,10 @@ pub fn run<R: Wait + Threads, S: Source, K: Sink, C: Clock>(
     requires unwarned { (S.meaning source.old).warned ≡ false }
     ensures known { IsStatus result }
 
-    // 2: the words are no command.
-    ensures usage { (result ≡ 2) ↔ ¬ IsCommand (map string_bytes words.now) }
-    ensures usage_text { result ≡ 2 → GainsFront (K.meaning sink.old) (K.meaning sink.new) USAGE.now }
+    // 2: the words are no command, and the usage line says what is one.
+    ensures usage { result ≡ 2 → ¬ IsCommand (map string_bytes words.now) }
+    ensures no_command { ¬ IsCommand (map string_bytes words.now) → (result ≡ 2) ⊎ (result ≡ 6) }
+    ensures usage_text { result ≡ 2 → GainsUnlessRefused (K.meaning sink.old) (K.meaning sink.new) USAGE.now }
 
     // 4: the source refused, and nothing was written.
     ensures read { result ≡ 4 → Rose (S.meaning source.old).faults (S.meaning source.new).faults }
@@ -134,8 +148,9 @@ pub fn run<R: Wait + Threads, S: Source, K: Sink, C: Clock>(
     ensures write_text { result ≡ 5 → OfScript (S.meaning source.old) (λ script. (starved : ℕ → Bool)
         × GainsFront (K.meaning sink.old) (K.meaning sink.new) (printed_but starved script)) }
 
-    // 6: there was no memory, and the sink has taken a front of the text.
-    ensures memory_text { result ≡ 6 → OfScript (S.meaning source.old) (λ script. (text : List ℕ)
+    // 6: there was no memory, and the sink has taken a front of what was to be written.
+    ensures memory_usage { result ≡ 6 → ¬ IsCommand (map string_bytes words.now) → GainsFront (K.meaning sink.old) (K.meaning sink.new) USAGE.now }
+    ensures memory_text { result ≡ 6 → IsCommand (map string_bytes words.now) → OfScript (S.meaning source.old) (λ script. (text : List ℕ)
         × IsText script text × GainsFront (K.meaning sink.old) (K.meaning sink.new) text) }
 
     // 0: the text shows every request of the script, and is the printed one but for the starved.
@@ -149,8 +164,7 @@ pub fn run<R: Wait + Threads, S: Source, K: Sink, C: Clock>(
     ensures bound { (S.meaning source.new).taken ≤ (S.meaning source.old).taken + SCRIPT_LIMIT + 1 }
 {
     if !is_command(words) {
-        let _ = write_all(rt, sink, USAGE.as_bytes());
-        return 2;
+        return refuse_words(rt, sink);
     }
     let script = match read_all(rt, alloc, source, SCRIPT_LIMIT + 1) {
         Ok(script) => script,

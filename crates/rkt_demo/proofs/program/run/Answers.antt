@@ -1,22 +1,21 @@
-use Rattle.std.proofs.Common.{◌≡◌, ◌∙◌, ◌+◌, ◌⊎◌, inl, inr, ap, sym, subst, refl, List, ℕ, Bool, false, drop, take}
+use Rattle.std.proofs.Common.{◌∙◌, inl, inr, sym, subst, refl, false, drop}
 use Rattle.rkt_demo.specs.declared.script.TheConstants.{SCRIPT_LIMIT}
 use Rattle.rkt_data.specs.Sink.{Gains}
 use Rattle.rkt_demo.specs.Printed.{printed_but}
-use Rattle.rkt_demo.specs.Program.{refusal}
 use Rattle.rkt_demo.specs.Streams.{GainsFront}
 use Rattle.rkt_demo.proofs.Runs.{IsRead, first_bad_read, good_script, shown_script, printed_script, gains_nothing}
 use Rattle.rkt_demo.proofs.program.run.Goals as goal
 
 pub returns-in-Err-NoMemory-clause-memory_text : goal.returns-in-Err-NoMemory-clause-memory_text
-returns-in-Err-NoMemory-clause-memory_text g c six w is =
+returns-in-Err-NoMemory-clause-memory_text g c six command w is =
     (printed_but (λ _. false) (drop (g.S.Source.meaning c.args.source.now).taken w), inr (λ _. false, refl), (0, gains_nothing (g.K.Sink.meaning c.args.sink.now)))
 
 pub returns-in-Err-NoMemory-parse_script-clause-memory_text : goal.returns-in-Err-NoMemory-parse_script-clause-memory_text
-returns-in-Err-NoMemory-parse_script-clause-memory_text g c six w is =
+returns-in-Err-NoMemory-parse_script-clause-memory_text g c six command w is =
     (printed_but (λ _. false) (drop (g.S.Source.meaning c.args.source.now).taken w), inr (λ _. false, refl), (0, gains_nothing (g.K.Sink.meaning c.args.sink.now)))
 
 pub returns-clause-memory_text : goal.returns-clause-memory_text
-returns-clause-memory_text g c six w is =
+returns-clause-memory_text g c six command w is =
     (printed_but (λ _. false) (drop (g.S.Source.meaning c.args.source.now).taken w), inr (λ _. false, refl), (0, gains_nothing (g.K.Sink.meaning c.args.sink.now)))
 
 pub returns-in-Err-Refused-clause-script : goal.returns-in-Err-Refused-clause-script
@@ -27,7 +26,7 @@ returns-in-Err-Refused-clause-script g c three w is =
     (_, first_bad_read before.whole before.taken SCRIPT_LIMIT _ c.as_slice.result.now read bad w is, c.refuse_line.ensures.script three)
 
 pub returns-in-Err-Refused-clause-memory_text : goal.returns-in-Err-Refused-clause-memory_text
-returns-in-Err-Refused-clause-memory_text g c six w is =
+returns-in-Err-Refused-clause-memory_text g c six command w is =
     let before = g.S.Source.meaning c.args.source.now in
     let read = subst (IsRead before.whole before.taken SCRIPT_LIMIT) (sym c.as_slice.ensures.value) c.in-Ok.ensures.bytes in
     let bad = rw c.in-Err-Refused.field-0-is at c.in-Err-Refused.ensures.line in
@@ -69,7 +68,7 @@ returns-in-Ok-serve_targets-clause-write_text g c refused w is =
     (printed.0, subst (GainsFront (g.K.Sink.meaning c.args.sink.now) (g.K.Sink.meaning c.write_text.new.sink)) is_text c.write_text.ensures.front)
 
 pub returns-in-Ok-serve_targets-clause-memory_text : goal.returns-in-Ok-serve_targets-clause-memory_text
-returns-in-Ok-serve_targets-clause-memory_text g c refused w is =
+returns-in-Ok-serve_targets-clause-memory_text g c refused command w is =
     let before = g.S.Source.meaning c.args.source.now in
     let read = subst (IsRead before.whole before.taken SCRIPT_LIMIT) (sym c.as_slice.ensures.value) c.in-Ok.ensures.bytes in
     let window = (g.C.Clock.meaning c.args.clock).window in

@@ -1,5 +1,4 @@
 use Rattle.std.proofs.Common.{◌≡◌, ◌∙◌, ap, sym, subst, Some, map, refl, List, ℕ}
-use Rattle.rkt_http.specs.Origin.{Target}
 use Rattle.rkt_serve.specs.Memory.{LinkInMemory, ListenerInMemory, asked_of, listener_meaning}
 use Rattle.rkt_demo.specs.Sample.{IsSample}
 use Rattle.rkt_demo.specs.Shown.{ShownFrom}
@@ -12,7 +11,7 @@ returns-in_ok-text-in-Ok g c =
     let printed = c.in_ok-text-in-Ok.ensures in
     let window = (g.C.Clock.meaning c.args.clock).window in
     let sample : IsSample c.in-Ok.launched.rocket.routes = subst (λ r. IsSample r.routes) (sym launched.tables) c.in_ok-rocket.ensures in
-    let offered : c.in_ok-listener.listener.offered ≡ c.in_ok-links.links.items = ap (λ (l : ListenerInMemory). l.offered) c.in_ok-listener.ensures in
+    let offered : c.in_ok-listener.listener.offered ≡ c.in_ok-links.links.items = ap (λ (l : ListenerInMemory). l.offered) c.in_ok-listener.ensures.made in
     let given = launched.offers (map asked_of c.in_ok-listener.listener.offered) refl ∙ ap (λ (ls : List LinkInMemory). Some (map asked_of ls)) offered in
     let shown = launched_shown window c.in-Ok.launched.rocket.routes (listener_meaning c.in-Ok.launched.listener).given c.in-Ok.launched.history.events printed.0 c.in_ok-links.links.items c.args.targets.items
     sample c.in_ok-links.ensures.heads given launched.requests launched.moments launched.entries printed.1 in

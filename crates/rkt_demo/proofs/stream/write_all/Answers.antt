@@ -1,4 +1,4 @@
-use Rattle.std.proofs.Common.{◌≡◌, ◌+◌, ◌≤◌, ◌-◌, take, drop, length, arith, rules}
+use Rattle.std.proofs.Common.{◌≡◌, ◌+◌, ◌≤◌, ◌-◌, take, drop, length, arith}
 use Rattle.std.proofs.lemmas.Grind.{common_steps}
 use Rattle.rkt_demo.proofs.StreamLemmas.{gains_more}
 use Rattle.rkt_demo.proofs.stream.write_all.Goals as goal
