@@ -6,6 +6,7 @@ mod config_table;
 mod ctx;
 mod head;
 mod joined;
+mod lends;
 mod limits;
 mod managed;
 mod numbers;

@@ -1,8 +1,13 @@
-use crate::{Config, ConfigTable, Limits, Managed, State};
+ghost use Rattle.std.specs.Prelude.{◌≡◌};
+
+use crate::{Config, ConfigTable, Ctx, Limits, Managed, Mounted, Request, State, Types};
 use rkt_base::Want;
-use rkt_data::ByteUnit;
-use rkt_http::Key;
+use rkt_cookie::{Cookie, CookieJar};
+use rkt_data::{ByteUnit, Gate, MemorySource};
+use rkt_http::{Header, Key, Method, Origin};
+use rkt_turn::{Reason, TripWire};
 use std::alloc::Global;
+use std::net::{IpAddr, Ipv4Addr};
 use std::test::Fail;
 
 #[test]
@@ -138,5 +143,80 @@ fn a_key_is_given_once(rt: HostRuntime) -> Result<(), Fail> {
     assert!(rt; state == State::from(&20));
     assert_eq!(rt; state.to_string(rt.alloc())?.as_str(), "20");
     assert_eq!(rt; *state.inner(), 20);
+    Ok(())
+}
+
+/// An application whose bodies lie in memory, and whose server has one reason to stop.
+struct Sample;
+
+#[derive(Clone, Copy)]
+struct Stopped;
+
+impl Reason for Stopped {
+    ghost allowed = { λ word. word ≡ 2 };
+
+    fn word(self) -> u64 {
+        2
+    }
+}
+
+impl Types for Sample {
+    type Source = MemorySource;
+
+    type Stream = MemorySource;
+
+    type Cached = u8;
+
+    type Value = u8;
+
+    type Reason = Stopped;
+}
+
+#[test]
+fn a_request_knows_its_client(rt: HostRuntime) -> Result<(), Fail> {
+    let config = Config::default(rt.alloc())?;
+    let managed = Managed::new(rt.alloc());
+    let Ok(uri) = Origin::parse(rt.alloc(), "/a/b%20c/d?q=1") else {
+        return Err(Fail::from("no origin"));
+    };
+    let mut request = Request::<Sample>::new(rt.alloc(), &config, &managed, Method::Get, uri);
+    request.set_route(Mounted {
+        position: 0,
+        base_segments: 1,
+    });
+    assert_eq!(rt; request.routed_segment(0), Some("b c"));
+    assert_eq!(rt; request.routed_segment(2), None);
+    assert_eq!(rt; request.routed_segments(1..).len(), 1);
+    assert!(rt; request.client_ip().is_none());
+    request.add_header(Header::new(rt.alloc(), "x-real-ip", "127.0.0.1")?)?;
+    request.add_header(Header::new(rt.alloc(), "X-Real-IP", "::1")?)?;
+    assert_eq!(rt;
+        request.client_ip(),
+        Some(IpAddr::V4(Ipv4Addr::new(127, 0, 0, 1)))
+    );
+    request.replace_header(Header::new(rt.alloc(), "X-Real-IP", "nobody")?)?;
+    assert!(rt; request.real_ip().is_none());
+    Ok(())
+}
+
+#[test]
+fn a_value_is_cached_once(rt: HostRuntime) -> Result<(), Fail> {
+    let (_wire, shutdown) = TripWire::<Stopped>::new(rt.alloc())?;
+    let gate = Gate {
+        moment: 0,
+        tripped: None,
+        grace: 2,
+        mercy: 3,
+    };
+    let mut ctx = Ctx::<Sample>::new(rt.alloc(), CookieJar::new(rt.alloc()), shutdown, gate);
+    assert_eq!(rt; ctx.local_cache(Key(1), || 5)?, 5);
+    assert_eq!(rt; ctx.local_cache(Key(1), || 6)?, 5);
+    assert_eq!(rt; ctx.cached(), 1);
+    let cookie = Cookie::new(rt.alloc(), "a", "1")?;
+    ctx.cookies_mut().add(rt.alloc(), cookie)?;
+    assert_eq!(rt; ctx.cookies().log().len(), 1);
+    ctx.shutdown().notify(Stopped);
+    let (_jar, _cache, shutdown) = ctx.into_parts();
+    assert_eq!(rt; shutdown.seen(), 2);
     Ok(())
 }
