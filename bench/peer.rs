@@ -1,7 +1,9 @@
 //! What `rkt_demo serve` is measured against: the same way of a request, as one would write it in plain Rust over
-//! std. A script is read and checked, each request is routed by its decoded segments, the response is sent to a link
-//! that keeps its pieces, every event goes into a history, and the text is printed from what the links hold.
+//! std. A script is read and checked, each head is read as a request with its headers and cookies and routed by its
+//! decoded segments, the response is sent to a link that keeps its pieces, every event goes into a history, and the
+//! text is printed from what the links hold.
 //! Build: rustc -O bench/peer.rs
+use std::collections::BTreeMap;
 use std::io::{self, Read, Write};
 use std::process::ExitCode;
 use std::time::{SystemTime, UNIX_EPOCH};
@@ -9,11 +11,19 @@ use std::time::{SystemTime, UNIX_EPOCH};
 const USAGE: &str = "usage: rkt_demo serve [--workers N] [--summary] [--config NAME=TEXT] | make N\n";
 const SCRIPT_LIMIT: usize = 16_777_216;
 
-#[allow(dead_code)]
 struct Head {
     method: String,
     target: String,
     headers: Vec<(String, Vec<u8>)>,
+}
+
+type Cookies = BTreeMap<String, String>;
+
+#[allow(dead_code)]
+struct Request {
+    origin: Origin,
+    host: Option<String>,
+    headers: Vec<(String, String)>,
 }
 
 #[allow(dead_code)]
@@ -46,6 +56,8 @@ struct Link {
 #[allow(dead_code)]
 struct Run {
     calls: Vec<usize>,
+    jar: Cookies,
+    cache: Vec<(u32, u64)>,
     moment: u64,
 }
 
@@ -64,7 +76,7 @@ enum Event {
     Close { moment: u64 },
 }
 
-type Handler = fn(&Origin) -> String;
+type Handler = fn(&Request) -> String;
 
 struct Route {
     origin: Origin,
@@ -130,23 +142,63 @@ fn content_of(line: &[u8]) -> &[u8] {
     }
 }
 
+const METHODS: [&str; 9] = ["GET", "PUT", "POST", "DELETE", "OPTIONS", "HEAD", "TRACE", "CONNECT", "PATCH"];
+
+fn is_word(word: &str, test: impl Fn(u8) -> bool) -> bool {
+    !word.is_empty() && word.bytes().all(test)
+}
+
+/// The words of a request line.
+fn read_words(content: &[u8]) -> Option<(&str, &str)> {
+    let (method, target) = std::str::from_utf8(content).ok()?.split_once(' ')?;
+    let served = method == "GET" || !METHODS.contains(&method);
+    (is_word(method, |byte| byte.is_ascii_uppercase()) && is_word(target, |byte| byte.is_ascii_graphic()) && served)
+        .then_some((method, target))
+}
+
 /// The heads that a script asks with, or the number of its first bad line.
 fn read_script(script: &[u8]) -> Result<Vec<Head>, usize> {
     let mut heads = Vec::new();
     let mut room = SCRIPT_LIMIT;
     for (index, line) in script.split_inclusive(|byte| *byte == b'\n').enumerate() {
-        let target = content_of(line).strip_prefix(b"GET ").and_then(|target| std::str::from_utf8(target).ok());
-        match target {
-            Some(target) if line.len() <= room && Origin::parse(target).is_some() => heads.push(Head {
-                method: "GET".to_owned(),
+        if line.len() > room {
+            return Err(index + 1);
+        }
+        let content = content_of(line);
+        if !matches!(content, [] | [b'#', ..]) {
+            let (method, target) = read_words(content).ok_or(index + 1)?;
+            heads.push(Head {
+                method: method.to_owned(),
                 target: target.to_owned(),
                 headers: Vec::new(),
-            }),
-            _ => return Err(index + 1),
+            });
         }
         room -= line.len();
     }
     Ok(heads)
+}
+
+/// The request of a head, and its cookies; no request where the head is bad.
+fn read_head(head: &Head) -> (Option<Request>, Cookies) {
+    let mut headers: Vec<(String, String)> = Vec::new();
+    for (name, value) in &head.headers {
+        if let Ok(value) = std::str::from_utf8(value) {
+            headers.push((name.clone(), value.to_owned()));
+        }
+    }
+    let mut jar = Cookies::new();
+    for (_, value) in headers.iter().filter(|(name, _)| name.eq_ignore_ascii_case("Cookie")) {
+        jar.extend(
+            value
+                .split(';')
+                .filter_map(|piece| piece.trim().split_once('='))
+                .map(|(name, value)| (name.to_owned(), value.to_owned())),
+        );
+    }
+    let host = headers.iter().find(|(name, _)| name.eq_ignore_ascii_case("Host")).map(|(_, value)| value.clone());
+    let known = METHODS.contains(&head.method.as_str());
+    let origin = Origin::parse(&head.target).filter(|_| known);
+    (origin.map(|origin| Request { origin, host, headers }), jar)
 }
 
 fn typed(status: u16, content_type: &str, body: String) -> Response {
@@ -183,16 +235,14 @@ fn page(code: u16, reason: &str, description: &str) -> Response {
 
 /// One exchange: the request of a head, the first route that matches, and its answer or a default page.
 fn exchange(routes: &[Route], head: &Head, moment: u64) -> (Run, Response) {
-    let mut run = Run { calls: Vec::new(), moment };
-    let request = match (head.method.as_str(), Origin::parse(&head.target)) {
-        ("GET", Some(request)) => request,
-        _ => {
-            let description = "The request could not be understood by the server due to malformed syntax.";
-            return (run, page(400, "Bad Request", description));
-        }
+    let (request, jar) = read_head(head);
+    let mut run = Run { calls: Vec::new(), jar, cache: Vec::new(), moment };
+    let Some(request) = request else {
+        let description = "The request could not be understood by the server due to malformed syntax.";
+        return (run, page(400, "Bad Request", description));
     };
     for (position, route) in routes.iter().enumerate() {
-        if route.origin.segments == request.segments {
+        if route.origin.segments == request.origin.segments {
             run.calls.push(position);
             return (run, typed(200, "text/plain; charset=utf-8", (route.handler)(&request)));
         }

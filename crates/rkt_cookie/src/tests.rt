@@ -41,6 +41,10 @@ fn texts_are_read(rt: HostRuntime) -> Result<(), Fail> {
             "SID=31d4d96e407aad42; HttpOnly; Secure; Path=/",
         ),
         (
+            "lang=en-US; Path=/; Domain=example.com",
+            "lang=en-US; Path=/; Domain=example.com",
+        ),
+        (
             "lang=en-US; Expires=Wed, 09 Jun 2021 10:18:14 GMT",
             "lang=en-US; Expires=Wed, 09 Jun 2021 10:18:14 GMT",
         ),
@@ -48,6 +52,10 @@ fn texts_are_read(rt: HostRuntime) -> Result<(), Fail> {
             "lang=; Expires=Sun, 06 Nov 1994 08:49:37 GMT",
             "lang=; Expires=Sun, 06 Nov 1994 08:49:37 GMT",
         ),
+        // RFC 6265, section 5.2: a later piece without an equals sign has an empty value, and one whose name is not known
+        // is passed over. A dot at the front of a domain stays here.
+        ("a=b; Path; ; x=y; =z", "a=b"),
+        ("a=b; DOMAIN=.example.com", "a=b; Domain=.example.com"),
         // The same second in the other formats of RFC 9110, section 5.6.7.
         (
             "a=b; expires=Sunday, 06-Nov-94 08:49:37 GMT",
@@ -174,5 +182,58 @@ fn a_delta_has_the_last_changes(rt: HostRuntime) -> Result<(), Fail> {
     let cookies = jar.take_delta(alloc, 1_700_000_000)?;
     assert_eq!(rt; cookies.len(), 0);
     assert_eq!(rt; jar.log().len(), 4);
+    Ok(())
+}
+
+#[test]
+fn a_cookie_tells_what_it_says(rt: HostRuntime) -> Result<(), Fail> {
+    let alloc = rt.alloc();
+    let text = " a = b%20c ; Path=/x; domain=e.org; SameSite=Lax; secure; HttpOnly; max-age=9; \
+         Expires=Sun, 06 Nov 1994 08:49:37 GMT";
+    let cookie = Cookie::parse_encoded(alloc, text)?;
+    assert_eq!(rt; cookie.name(), "a");
+    assert_eq!(rt; cookie.value(), "b c");
+    assert_eq!(rt; cookie.path(), Some("/x"));
+    assert_eq!(rt; cookie.domain(), Some("e.org"));
+    assert_eq!(rt; cookie.same_site(), Some(SameSite::Lax));
+    assert_eq!(rt; cookie.secure(), Some(true));
+    assert_eq!(rt; cookie.http_only(), Some(true));
+    assert_eq!(rt; cookie.max_age(), Some(9));
+    // RFC 9110, section 5.6.7, as seconds since 1970
+    assert_eq!(rt; cookie.expires(), Some(784_111_777));
+    let mut bare = Cookie::new(alloc, "a", "")?;
+    assert_eq!(rt; bare.path(), None);
+    bare.set_secure(true);
+    bare.set_http_only(false);
+    bare.set_max_age(0);
+    bare.set_expires(0);
+    assert_eq!(rt;
+        bare.encoded(alloc)?.as_str(),
+        "a=; Secure; Max-Age=0; Expires=Thu, 01 Jan 1970 00:00:00 GMT"
+    );
+    Ok(())
+}
+
+#[test]
+fn a_jar_keeps_originals_and_changes(rt: HostRuntime) -> Result<(), Fail> {
+    let alloc = rt.alloc();
+    let mut jar = CookieJar::new(alloc);
+    jar.add_original(alloc, Cookie::new(alloc, "b", "1")?)?;
+    jar.add_original(alloc, Cookie::new(alloc, "a", "2")?)?;
+    assert_eq!(rt; jar.iter().next().map(|cookie| cookie.name()), Some("a"));
+    jar.add(alloc, Cookie::new(alloc, "b", "3")?)?;
+    assert_eq!(rt;
+        jar.get_pending("b").map(|cookie| cookie.value()),
+        Some("3")
+    );
+    assert_eq!(rt; jar.get("b").map(|cookie| cookie.value()), Some("1"));
+    jar.reset_delta();
+    assert_eq!(rt;
+        jar.get_pending("b").map(|cookie| cookie.value()),
+        Some("1")
+    );
+    assert_eq!(rt; jar.take_delta(alloc, 0)?.len(), 0);
+    assert_eq!(rt; jar.log().len(), 1);
+    assert!(rt; !jar.log()[0].removal);
     Ok(())
 }

@@ -1,12 +1,11 @@
 -- The machine of an object that a trip cuts off.
 use Rattle.std.proofs.Common.{◌≡◌, ◌++◌, List, [], ◌∷◌, ℕ, ◌-◌, ◌<◌, ◌⊎◌, inl, inr, ⊎_elim, Bool, true, false, Option, None, Some, IsSome, IsTrue, if◌then◌else◌, refl, subst, rules}
 use Rattle.std.specs.Prelude.{nat_le}
-use Rattle.std.proofs.lemmas.Bool.{leb-false, or_left}
+use Rattle.std.proofs.lemmas.Bool.{leb-false, or_cases, or_left, or_right}
 use Rattle.rkt_data.specs.declared.source.Gate.{Gate}
 use Rattle.rkt_data.specs.declared.stage.Stage.{Stage}
 use Rattle.rkt_data.specs.declared.stage.Stage.TheVariants.{Active, Grace, Mercy, Gone}
 use Rattle.rkt_data.specs.Source.{Meaning, Keeps}
-use Rattle.rkt_data.specs.CancelLaws.{or_cases, or_right}
 use Rattle.rkt_data.specs.Cancel.{Steps, Runs, noticed, run_out, advanced, is_warned, is_gone, cut_meaning}
 
 grace_by : (b : Bool) (grace now old saw : ℕ) → nat_le grace (now - old) ≡ b → (if b then Mercy old now else Grace old) ≡ Grace saw → now - saw < grace

@@ -1,6 +1,9 @@
 pub mod Cancels
+pub mod Chains
 pub mod Drains
+pub mod Flats
 pub mod Flows
+pub mod Joinings
 pub mod MemoryLemmas
 pub mod Pulls
 pub mod Sends

@@ -1,21 +1,12 @@
 -- What a source that is cut off means keeps the laws of a source.
-use Rattle.std.proofs.Common.{Bool, true, false, IsTrue, ◌⊎◌, inl, inr, ⊎_elim, refl, ap}
-use Rattle.std.specs.Prelude.{◌||◌}
-use Rattle.std.proofs.lemmas.Bool.{or_left}
+use Rattle.std.proofs.Common.{IsTrue, ⊎_elim, refl, ap}
+use Rattle.std.proofs.lemmas.Bool.{or_cases, or_left, or_right}
 use Rattle.rkt_data.specs.declared.stage.Stage.{Stage}
 use Rattle.rkt_data.specs.declared.stage.Stage.TheVariants.{Active, Grace, Mercy, Gone}
 use Rattle.rkt_data.specs.Source.{Meaning, Shuts}
 use Rattle.rkt_base.specs.declared.poll.Poll.{Poll}
 use Rattle.rkt_base.specs.declared.poll.Poll.TheVariants.{Ready, Pending}
 use Rattle.rkt_data.specs.Cancel.{is_warned, is_gone, cut_meaning}
-
-pub or_cases : (a b : Bool) → IsTrue (a || b) → IsTrue a ⊎ IsTrue b
-or_cases true b h = inl refl
-or_cases false b h = inr h
-
-pub or_right : (a b : Bool) → IsTrue b → IsTrue (a || b)
-or_right true b h = refl
-or_right false b h = h
 
 pub gone_is_warned : (s : Stage) → IsTrue (is_gone s) → IsTrue (is_warned s)
 gone_is_warned Active h = h

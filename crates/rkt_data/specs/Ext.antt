@@ -1,13 +1,12 @@
 -- What the chunks of a source and a mapped answer are.
 use Rattle.std.specs.Option.{ForSome}
-use Rattle.std.specs.Prelude.{◌≡◌, ⊤, ℕ, ◌+◌, ◌<◌, ◌≤◌, ◌⊎◌, Bool, true, false, length, take, drop, Option, None, Some, Result, Ok, Err, Vec}
+use Rattle.std.specs.Prelude.{◌≡◌, ⊤, ℕ, ◌+◌, ◌<◌, ◌≤◌, Bool, true, false, length, take, drop, Option, None, Some, Result, Ok, Err, Vec}
 use Rattle.std.specs.declared.alloc.Global.{Global}
 use Rattle.rkt_base.specs.declared.poll.Poll.{Poll}
 use Rattle.rkt_base.specs.declared.poll.Poll.TheVariants.{Ready, Pending}
 use Rattle.rkt_data.specs.Source.{Meaning, Keeps, Waits, Errs}
 use Rattle.rkt_data.specs.declared.error.DataError.{DataError}
 use Rattle.rkt_data.specs.declared.error.DataError.TheVariants as error
-use Rattle.rkt_data.specs.declared.source.Gate.{Gate}
 use Rattle.rkt_data.specs.declared.source.SourceError.TheVariants as source_error
 
 pub record Chunks (R : Type 0) : Type 0 where
@@ -42,10 +41,6 @@ GivesUnlessEnded meaning trip false a b answer = Keeps trip (meaning a.reader) (
 -- what a poll for the next chunk answers; once it has ended it answers None
 abbrev pub GivesChunk : {R : Type 0} → (R → Meaning) → Option ℕ → Chunks R → Chunks R → Poll (Option (Result (Vec ℕ Global) DataError)) → Type 0
 GivesChunk meaning trip a b answer = GivesUnlessEnded meaning trip a.ended a b answer
-
--- the source was left alone, or read under this Gate
-abbrev pub ChunkByGate : {R : Type 0} → (R → Gate → R → Type 0) → Gate → R → R → Type 0
-ChunkByGate polled gate a b = (b ≡ a) ⊎ polled a gate b
 
 -- the closure may be called on the error, where there is one
 abbrev pub CanMapErr : {T E : Type 0} → (E → Type 0) → Poll (Option (Result T E)) → Type 0

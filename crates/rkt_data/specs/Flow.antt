@@ -31,6 +31,12 @@ Flows m Pending n = (n ≡ record m { pended = n.pended }) × (m.ended ≡ false
 Flows m (Ready None) n = Waited m n × (n.ended ≡ true) × (n.rest ≡ m.rest) × (n.left ≤ m.left) × ForSome m.rest (λ xs. xs ≡ [])
 Flows m (Ready (Some x)) n = Waited m n × (m.ended ≡ false) × (n.ended ≡ false) × (n.left < m.left) × Shifts m.rest x n.rest
 
+-- an item is one that it might give, and what it might give now it might give before
+abbrev pub GivesOf : {X : Type 0} → (X → Type 0) → (X → Type 0) → Poll (Option X) → Type 0
+GivesOf before now Pending = (x : _) → now x → before x
+GivesOf before now (Ready None) = (x : _) → now x → before x
+GivesOf before now (Ready (Some item)) = before item × ((x : _) → now x → before x)
+
 -- items of two lists in turn, the first list's first; it ends where the one whose turn it is has none
 abbrev pub alternate : {X : Type 0} → List X → List X → List X
 alternate [] ys = []
@@ -41,6 +47,10 @@ alternate (x ∷ xs) (y ∷ ys) = x ∷ (y ∷ alternate xs ys)
 abbrev pub Asks : {X : Type 0} → Flow X → Flow X → Flow X → Flow X → Poll (Option X) → Type 0
 Asks a a' b b' Pending = Flows a Pending a' × Flows b Pending b'
 Asks a a' b b' (Ready item) = ((b' ≡ b) × Flows a (Ready item) a') ⊎ (Flows a Pending a' × Flows b (Ready item) b')
+
+-- what the two of them may give: an item is one that either might give
+abbrev pub AsksOf : {X : Type 0} → (X → Type 0) → (X → Type 0) → (X → Type 0) → (X → Type 0) → Poll (Option X) → Type 0
+AsksOf a a' b b' answer = GivesOf (λ x. a x ⊎ b x) (λ x. a' x ⊎ b' x) answer
 
 pub record Joined (A B : Type 0) : Type 0 where
   pub first : A

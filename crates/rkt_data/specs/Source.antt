@@ -1,9 +1,10 @@
 -- What a source means, and what one poll of it may do.
 use Rattle.std.specs.Option.{ForSome}
-use Rattle.std.specs.Prelude.{◌≡◌, ℕ, ◌+◌, ◌<◌, ◌≤◌, ◌⊎◌, Bool, false, IsTrue, List, length, take, drop, Option, IsSome, Result, Ok, Err}
+use Rattle.std.specs.Prelude.{◌≡◌, ℕ, ◌+◌, ◌<◌, ◌≤◌, ◌⊎◌, Bool, false, IsTrue, List, length, take, drop, ◌++◌, Option, None, Some, option_map, IsSome, Result, Ok, Err}
 use Rattle.rkt_base.specs.Counts.{Rose}
 use Rattle.rkt_base.specs.declared.poll.Poll.{Poll}
 use Rattle.rkt_base.specs.declared.poll.Poll.TheVariants.{Ready, Pending}
+use Rattle.rkt_data.specs.declared.source.Gate.{Gate}
 use Rattle.rkt_data.specs.declared.source.SourceError.{SourceError}
 use Rattle.rkt_data.specs.declared.source.SourceError.TheVariants.{SourceFault, Gone, TimedOut}
 
@@ -34,6 +35,20 @@ pub record Keeps (trip : Option ℕ) (m n : Meaning) : Type 0 where
   pub warned : IsTrue n.warned → IsTrue m.warned ⊎ IsSome trip
   pub still_warned : IsTrue m.warned → IsTrue n.warned
   pub still_shut : IsTrue m.shut → IsTrue n.shut
+
+-- the source was left alone, or read under this Gate
+abbrev pub LeftOrRead : {S : Type 0} → (S → Gate → S → Type 0) → Gate → S → S → Type 0
+LeftOrRead polled gate s t = (t ≡ s) ⊎ polled s gate t
+
+-- the bytes that a source has still to give
+abbrev pub left_of : Meaning → Option (List ℕ)
+left_of m = option_map (drop m.taken) m.whole
+
+-- bytes behind others, told where both are
+abbrev pub both : Option (List ℕ) → Option (List ℕ) → Option (List ℕ)
+both None y = None
+both (Some a) None = None
+both (Some a) (Some b) = Some (a ++ b)
 
 -- one poll more was Pending
 abbrev pub Waits : Meaning → Meaning → Type 0

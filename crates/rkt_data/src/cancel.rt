@@ -169,6 +169,8 @@ impl<I: Source> Source for CancellableIo<I> {
     ghost shut_is_warned = { λ c. cut_shut_is_warned c.stage (I.meaning c.io) (I.shut_is_warned c.io) };
 
     ghost shutdown_keeps = { λ c d answer e. Prim.rw e.0 (cut_shuts c.stage (I.meaning c.io) (I.meaning d.io) answer (I.shutdown_keeps c.io d.io answer e.1)) };
+
+    ghost waits_within = { λ c. I.waits_within c.io };
 }
 
 fn within<T>(answer: Poll<T>) -> Poll<Result<T, Refused>>

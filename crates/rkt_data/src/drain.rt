@@ -82,7 +82,8 @@ pub(crate) fn resume(room: &mut Option<Vec<u8>>, alloc: Global) -> Vec<u8>
     }
 }
 
-// Makes room for at least one byte more, by doubling the buffer, but for no more than are left.
+// Makes room for at least one byte more, but for no more than are left: as many as there are at first, then a block. So
+// no room is written to that the body does not need; the capacity behind it doubles by itself.
 fn make_room(room: &mut Vec<u8>, count: usize, left: u64) -> Result<(), NoMemory>
     requires within { count ≤ vec_len room.old }
     requires some { 0 < left }
@@ -93,11 +94,11 @@ fn make_room(room: &mut Vec<u8>, count: usize, left: u64) -> Result<(), NoMemory
     if count < room.len() {
         return Ok(());
     }
-    let more = count
-        .max(ROOM_BYTES)
-        .min(left.min(usize::MAX as u64) as usize);
+    let more = count.max(LEAST_ROOM).min(MOST_ROOM).min(left as usize);
     room.resize(count.saturating_add(more), 0)
 }
 
-/// How many bytes a buffer has at first.
-const ROOM_BYTES: usize = 512;
+/// The least and the most bytes by which a buffer grows.
+const LEAST_ROOM: usize = 512;
+
+const MOST_ROOM: usize = 64 * 1024;

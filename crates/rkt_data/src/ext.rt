@@ -51,7 +51,8 @@ impl<R: Source> AsyncReadExt for R {
 }
 
 impl<R: Source> ReaderStream<R> {
-    ghost use Rattle.rkt_data.specs.Ext.{GivesChunk, ChunkByGate};
+    ghost use Rattle.rkt_data.specs.Ext.{GivesChunk};
+    ghost use Rattle.rkt_data.specs.Source.{LeftOrRead};
 
     /// The next chunk, which is not empty. After a fault or the end there is none.
     pub fn poll_next(
@@ -60,7 +61,7 @@ impl<R: Source> ReaderStream<R> {
         gate: Gate,
     ) -> Poll<Option<Result<Vec<u8>, DataError>>>
         ensures cap { self.new.cap ≡ self.old.cap }
-        ensures by_gate { ChunkByGate R.polled gate self.old.reader self.new.reader }
+        ensures by_gate { LeftOrRead R.polled gate self.old.reader self.new.reader }
         ensures answer { GivesChunk R.meaning gate.tripped self.old self.new result }
     {
         if self.ended {

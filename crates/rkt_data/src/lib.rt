@@ -3,6 +3,7 @@
 
 mod cancel;
 mod capped;
+mod chain;
 mod data;
 mod data_stream;
 mod drain;
@@ -12,6 +13,7 @@ mod into_bytes;
 mod into_string;
 mod memory;
 mod peek;
+mod piece;
 mod pipe;
 mod pump;
 mod sender;
@@ -19,11 +21,14 @@ mod sink;
 mod source;
 mod stage;
 pub mod stream;
+mod stream_reader;
 mod stream_to;
+mod tally;
 mod tap;
 
 pub use cancel::CancellableIo;
 pub use capped::{Capped, N};
+pub use chain::Chain;
 pub use data::{Data, PEEK_BYTES};
 pub use data_stream::{ByteUnit, DataStream};
 pub use error::DataError;
@@ -35,6 +40,7 @@ pub use sink::{Sink, SinkError};
 pub use source::{Gate, Shut, Source, SourceError};
 pub use stage::{Refused, Stage};
 pub use stream::{Join, One, Stream, StreamExt};
+pub use stream_reader::StreamReader;
 pub use stream_to::{StreamPrecise, StreamTo};
 
 #[cfg(test)]

@@ -77,6 +77,7 @@ impl Shut for MemorySource {
 
 impl Source for MemorySource {
     ghost use Rattle.std.specs.Prelude.{refl};
+    ghost use Rattle.std.proofs.Common.{le_refl};
     ghost use Rattle.rkt_data.specs.Memory.{source_meaning};
 
     ghost meaning = { source_meaning };
@@ -93,6 +94,8 @@ impl Source for MemorySource {
     ghost shut_is_warned = { λ s h. h };
 
     ghost shutdown_keeps = { λ s t answer e. Prim.rw (e.1, e.0) refl };
+
+    ghost waits_within = { λ s. le_refl 0 };
 }
 
 /// A sink that keeps its bytes in memory. Each write looks through the whole list of the calls that fail.

@@ -23,3 +23,12 @@ pub trait Sink: Drop {
         ensures kept { SinkKeeps (meaning self.old) (meaning self.new) }
         ensures answer { Writes (meaning self.old) (meaning self.new) buf.now result };
 }
+
+/// A sink that is lent takes bytes as it does itself.
+impl<K: Sink> Sink for &mut K {
+    ghost meaning = { λ k. K.meaning k.now };
+
+    fn poll_write(&mut self, buf: &[u8]) -> Poll<Result<usize, SinkError>> {
+        Sink::poll_write(&mut **self, buf)
+    }
+}

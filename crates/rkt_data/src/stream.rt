@@ -1,7 +1,10 @@
 //! Streams of items.
-ghost use Rattle.rkt_data.specs.Flow.{Flow, Flows, Asks};
+ghost use Rattle.rkt_data.specs.Flow.{Flow, Flows, GivesOf, Asks, AsksOf};
+
+mod reader_stream;
 
 use crate::source::Gate;
+pub use reader_stream::ReaderStream;
 use rkt_base::Poll;
 use std::marker::Model;
 
@@ -12,9 +15,13 @@ pub trait Stream: Drop {
     /// What contracts see of a stream.
     ghost flow: { Self → Flow Self.Item };
 
+    /// Whether it might still give an item.
+    ghost may_give: { Self → Self.Item → Type 0 } = { λ _ _. Unit {0} };
+
     /// The next item. Once it has answered None it answers None again.
     fn poll_next(&mut self, gate: Gate) -> Poll<Option<Self::Item>>
-        ensures { Flows (flow self.old) result (flow self.new) };
+        ensures flows { Flows (flow self.old) result (flow self.new) }
+        ensures gives { GivesOf (may_give self.old) (may_give self.new) result };
 }
 
 /// One item.
@@ -51,9 +58,12 @@ impl<T: Drop> One<T> {
 impl<T: Drop> Stream for One<T> {
     type Item = T;
 
+    ghost use Rattle.std.specs.Prelude.{◌≡◌, Some};
     ghost use Rattle.rkt_data.specs.Flow.{one_flow};
 
     ghost flow = { one_flow };
+
+    ghost may_give = { λ s x. s.value ≡ Some x };
 
     fn poll_next(&mut self, _gate: Gate) -> Poll<Option<T>> {
         let item = self.value.take();
@@ -107,9 +117,12 @@ impl<A, B> Model for Join<A, B> {
 impl<A: Stream, B: Stream<Item = A::Item>> Stream for Join<A, B> {
     type Item = A::Item;
 
+    ghost use Rattle.std.specs.Prelude.{◌⊎◌};
     ghost use Rattle.rkt_data.specs.Flow.{join_flow};
 
     ghost flow = { λ j. join_flow j.turn j.ended (A.flow j.first) (B.flow j.second) };
+
+    ghost may_give = { λ j x. A.may_give j.first x ⊎ B.may_give j.second x };
 
     fn poll_next(&mut self, gate: Gate) -> Poll<Option<A::Item>> {
         if self.ended {
@@ -145,7 +158,8 @@ fn ask<A: Stream, B: Stream<Item = A::Item>>(
     other: &mut B,
     gate: Gate,
 ) -> Poll<Option<A::Item>>
-    ensures { Asks (A.flow one.old) (A.flow one.new) (B.flow other.old) (B.flow other.new) result }
+    ensures asks { Asks (A.flow one.old) (A.flow one.new) (B.flow other.old) (B.flow other.new) result }
+    ensures gives { AsksOf (A.may_give one.old) (A.may_give one.new) (B.may_give other.old) (B.may_give other.new) result }
 {
     match one.poll_next(gate) {
         Poll::Pending => other.poll_next(gate),

@@ -1,6 +1,12 @@
+//! Bodies and streams in memory.
+mod joining;
+mod limits;
+mod objects;
+mod waiting;
+
 use crate::{
-    AsyncReadExt, ByteUnit, CancellableIo, Capped, Data, DataError, Gate, MemorySink, MemorySource,
-    N, One, PollExt, Refused, Source, SourceError, Stream, StreamExt,
+    AsyncReadExt, ByteUnit, CancellableIo, Capped, Data, DataError, Gate, Join, MemorySink,
+    MemorySource, N, One, PollExt, Refused, Source, SourceError, Stream, StreamExt, ext,
 };
 use rkt_base::Poll;
 use std::alloc::Global;
@@ -16,76 +22,23 @@ fn gate(moment: u64, tripped: Option<u64>) -> Gate {
     }
 }
 
-#[test]
-fn peeks_and_gathers_up_to_the_limit(rt: HostRuntime) -> Result<(), Fail> {
-    let bytes = b"twenty bytes, exact.".to_vec(rt.alloc())?;
-    let source = MemorySource::new(bytes, 5, Vec::new(rt.alloc()));
-    let mut body = Data::from_source(rt.alloc(), source)?;
-    assert!(rt; body.peek(gate(0, None), 14) == Poll::Ready(b"twenty bytes, ".as_slice()));
-    assert!(rt; !body.peek_complete());
-    let stream = body.open(ByteUnit(3));
-    assert_eq!(rt; stream.hint(), 3);
-    let mut all = stream.into_bytes();
-    let Poll::Ready(Ok(capped)) = all.poll(rt.alloc(), gate(0, None)) else {
-        panic!(rt; "not ready")
-    };
-    assert_eq!(rt; capped.value.as_slice(), b"twe".as_slice());
-    assert!(rt;
-        capped.n
-            == N {
-                written: 3,
-                complete: false
-            }
-    );
-    Ok(())
+fn memory(alloc: Global, text: &str, chunk: usize) -> Result<MemorySource, Fail> {
+    let bytes = text.as_bytes().to_vec(alloc)?;
+    Ok(MemorySource::new(bytes, chunk, Vec::new(alloc)))
 }
 
-fn gathered(
+fn gathered_from<S: Source>(
     rt: &impl Abort,
     alloc: Global,
-    bytes: &[u8],
+    source: S,
     limit: u64,
 ) -> Result<Capped<Vec<u8>>, Fail> {
-    let source = MemorySource::new(bytes.to_vec(alloc)?, 3, Vec::new(alloc));
     let body = Data::from_source(alloc, source)?;
     let mut all = body.open(ByteUnit(limit)).into_bytes();
     match all.poll(alloc, gate(0, None)) {
         Poll::Ready(Ok(capped)) => Ok(capped),
         _ => panic!(rt; "not ready"),
     }
-}
-
-#[test]
-fn a_limit_cuts_the_bytes(rt: HostRuntime) -> Result<(), Fail> {
-    let alloc = rt.alloc();
-    let cut = gathered(&rt, alloc, b"hello", 3)?;
-    assert!(rt;
-        cut.value.as_slice() == b"hel".as_slice()
-            && cut.n
-                == N {
-                    written: 3,
-                    complete: false
-                }
-    );
-    let whole = gathered(&rt, alloc, b"hello", 5)?;
-    assert!(rt;
-        whole.value.as_slice() == b"hello".as_slice()
-            && whole.n
-                == N {
-                    written: 5,
-                    complete: true
-                }
-    );
-    let none = gathered(&rt, alloc, b"", 0)?;
-    assert!(rt;
-        none.value.is_empty()
-            && none.n
-                == N {
-                    written: 0,
-                    complete: true
-                }
-    );
-    Ok(())
 }
 
 #[test]
@@ -192,34 +145,70 @@ fn a_trip_cuts_off(rt: HostRuntime) -> Result<(), Fail> {
 }
 
 #[test]
-fn a_capped_value_is_mapped() {
-    let mut capped = Capped::from(b"ab".as_slice());
-    *capped = b"abc".as_slice();
-    let n = capped.map(|value| value.len()).n;
-    let _ = *n;
+fn a_capped_value_tells_how_much_it_is(rt: HostRuntime) -> Result<(), Fail> {
+    let n = N {
+        written: 2,
+        complete: false,
+    };
+    let again = n;
+    assert!(rt; *n == 2 && again == n);
+    assert_eq!(rt; format!(in rt.alloc(); "{n}")?.as_str(), "2");
+    let mut capped = Capped::new(7u8, n);
+    let copied = capped;
+    *capped = 8;
+    assert!(rt; *capped == 8 && copied.value == 7 && capped.n == n);
+    assert_eq!(rt; capped.map(|x| x as u16 + 1).into_inner(), 9);
+    assert!(rt; !capped.is_complete() && !capped.is_empty());
+    let whole = Capped::from(b"ab".as_slice());
+    assert!(rt; whole.is_complete() && whole.n.written == 2);
+    let none = Capped::complete((), 0);
+    assert!(rt; none.is_complete() && none.is_empty());
+    Ok(())
+}
+
+// The chunks of a source, of at most two bytes each.
+fn in_twos<R: AsyncReadExt>(source: R) -> ext::ReaderStream<R> {
+    source.into_bytes_stream(2)
+}
+
+// Whether a mapped answer is the end.
+fn is_end<T: Drop, E: Drop, P: PollExt<T, E>>(answer: P) -> bool {
+    matches!(answer.map_err_ext(|_| 0u8), Poll::Ready(None))
 }
 
 #[test]
 fn chunks_end_with_the_source(rt: HostRuntime) -> Result<(), Fail> {
     let alloc = rt.alloc();
-    let source = MemorySource::new(b"hello".to_vec(alloc)?, 9, Vec::new(alloc));
-    let mut chunks = source.into_bytes_stream(2);
-    for want in [b"he".as_slice(), b"ll".as_slice(), b"o".as_slice()] {
+    let mut chunks = in_twos(memory(alloc, "hello", 9)?);
+    for want in ["he", "ll", "o"] {
         let Poll::Ready(Some(Ok(chunk))) = chunks.poll_next(alloc, gate(0, None)) else {
             panic!(rt; "no chunk")
         };
-        assert_eq!(rt; chunk.as_slice(), want);
+        assert_eq!(rt; chunk.as_slice(), want.as_bytes());
     }
-    let Poll::Ready(None) = chunks.poll_next(alloc, gate(0, None)).map_err_ext(|_| 0u8) else {
-        panic!(rt; "no end")
-    };
+    assert!(rt; is_end(chunks.poll_next(alloc, gate(0, None))));
+    let failing = MemorySource::new(b"hello".to_vec(alloc)?, 9, [0u64].to_vec(alloc)?);
+    let mut chunks = in_twos(failing);
+    let answer = chunks
+        .poll_next(alloc, gate(0, None))
+        .map_err_ext(|e| e == DataError::SourceFault);
+    assert!(rt; matches!(answer, Poll::Ready(Some(Err(true)))));
+    assert!(rt; is_end(chunks.poll_next(alloc, gate(0, None))));
     Ok(())
+}
+
+fn in_turn<A: StreamExt, B: Stream<Item = A::Item>>(first: A, second: B) -> Join<A, B> {
+    first.join(second)
+}
+
+fn next<T: Stream>(stream: &mut T) -> Poll<Option<T::Item>> {
+    stream.poll_next(gate(0, None))
 }
 
 #[test]
 fn joined_streams_take_turns(rt: HostRuntime) {
-    let mut both = One::from(1u8).join(One::from(2u8));
+    let mut both = in_turn(One::from(1u8), One::from(2u8));
     for want in [Some(1u8), Some(2), None, None] {
-        assert!(rt; both.poll_next(gate(0, None)) == Poll::Ready(want));
+        assert!(rt; next(&mut both) == Poll::Ready(want));
     }
 }

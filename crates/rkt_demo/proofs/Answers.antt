@@ -1,25 +1,31 @@
 -- The sample has one answer to each request, and one text for it.
-use Rattle.std.proofs.Common.{◌≡◌, ◌++◌, ℕ, inl, inr, List, [], ◌∷◌, Bool, true, false, if◌then◌else◌, codes, length, map, flat_map, refl, ap, ◌∙◌, sym, subst, append-nil, nat_eq}
+use Rattle.std.proofs.Common.{◌≡◌, ◌++◌, ◌&&◌, ℕ, List, [], ◌∷◌, Bool, true, false, Option, Some, None, is_some, unwrap_or, if◌then◌else◌, codes, length, map, flat_map, refl, ap, ◌∙◌, sym, subst, append-nil, nat_eq}
 use Rattle.std.specs.Fmt.{decimal}
 use Rattle.std.specs.Cmp.Lexicographic.{pointwise}
-use Rattle.std.proofs.lemmas.Option.{same_Some}
+use Rattle.std.proofs.lemmas.Bool.{false≢true}
 use Rattle.rkt_http.specs.DefaultPage.{html_page}
-use Rattle.rkt_http.specs.Origin.{Target, IsOrigin, target_of, segments_of}
+use Rattle.rkt_http.specs.Method.{method_of}
+use Rattle.rkt_http.specs.Origin.{Target, Spells, target_of, segments_of}
+use Rattle.rkt_http.specs.declared.method.Method.{Method}
 use Rattle.rkt_http.specs.declared.origin_place.Profile.TheVariants.{Request}
 use Rattle.rkt_http.proofs.OriginLemmas.{target_said}
-use Rattle.rkt_life.specs.Lifecycle.{Outcome, Success, Forward, Lifecycle, Tried, Finished}
-use Rattle.rkt_life.specs.Request.{IsBad}
-use Rattle.rkt_life.specs.Requested.{Requested}
-use Rattle.rkt_life.specs.Response.{typed, default_page, text_page}
-use Rattle.rkt_life.specs.Routes.{matches}
+use Rattle.rkt_request.specs.Incoming.{faults_of, root}
+use Rattle.rkt_request.specs.Seen.{Seen, ReadAs}
+use Rattle.rkt_request.specs.declared.bad.Bad.{Bad}
+use Rattle.rkt_request.specs.declared.head.Head.{Head}
+use Rattle.rkt_life.specs.Lifecycle.{Outcome, Success, Forward, Lifecycle, Responds, Served, Tried, Finished}
+use Rattle.rkt_life.specs.Response.{typed, text_page}
+use Rattle.rkt_life.specs.Rocket.{SeenTables}
+use Rattle.rkt_life.specs.Routes.{matches, tries}
 use Rattle.rkt_life.specs.declared.piece.Piece.{Piece}
 use Rattle.rkt_life.specs.declared.piece.Piece.TheVariants.{Head as HeadPiece, Chunk, End}
 use Rattle.rkt_life.specs.declared.response.Response.{Response}
 use Rattle.rkt_life.specs.declared.run.Call.{Call}
+use Rattle.rkt_life.specs.declared.run.RunOf.{RunOf}
 use Rattle.rkt_serve.specs.Sent.{Sent, sent_headers}
 use Rattle.rkt_demo.specs.Output.{head_text, body_bytes, answered_section, sent_section}
-use Rattle.rkt_demo.specs.Printed.{asks_page, typed_section, printed_section}
-use Rattle.rkt_demo.specs.Script.{head_of}
+use Rattle.rkt_demo.proofs.Origins.{is_origin-read}
+use Rattle.rkt_demo.specs.Printed.{asks_page, is_good, is_origin, page_section, typed_section, printed_section}
 use Rattle.rkt_demo.specs.Sample.{page_may, page_target, IsSample}
 use Rattle.rkt_demo.specs.declared.sample.Page.{Page}
 
@@ -50,53 +56,85 @@ section_of_typed k code content_type body pieces sent =
     section_of_sent k (typed code content_type body) pieces sent
     ∙ ap (λ (headers : List (List ℕ × List ℕ)). answered_section k (head_text (HeadPiece code headers)) body) (typed_headers code content_type body)
 
-abbrev sample_response : Bool → Response
-sample_response true = text_page (codes "hello")
-sample_response false = default_page 404
+abbrev page : ℕ → Response
+page code = typed code (codes "text/html; charset=utf-8") (html_page code)
 
-section_by_test : (t : Bool) (k : ℕ) (pieces : List Piece) → Sent (sample_response t) pieces
-    → sent_section k pieces ≡ (if t then typed_section k 200 (codes "text/plain; charset=utf-8") (codes "hello") else typed_section k 404 (codes "text/html; charset=utf-8") (html_page 404))
-section_by_test true k pieces sent = section_of_typed k 200 (codes "text/plain; charset=utf-8") (codes "hello") pieces sent
-section_by_test false k pieces sent = section_of_typed k 404 (codes "text/html; charset=utf-8") (html_page 404) pieces sent
+-- whether the head is good, and whether it asks for the page
+abbrev sample_response : Bool → Bool → Response
+sample_response true true = text_page (codes "hello")
+sample_response true false = page 404
+sample_response false _ = page 400
 
-abbrev sample_of : Page → List (Target × Page)
-sample_of page = (page_target, page) ∷ []
+section_by_tests : (good asks : Bool) (k : ℕ) (pieces : List Piece) → Sent (sample_response good asks) pieces
+    → sent_section k pieces ≡ (if good then (if asks then typed_section k 200 (codes "text/plain; charset=utf-8") (codes "hello") else page_section k 404) else page_section k 400)
+section_by_tests true true k pieces sent = section_of_typed k 200 (codes "text/plain; charset=utf-8") (codes "hello") pieces sent
+section_by_tests true false k pieces sent = section_of_typed k 404 (codes "text/html; charset=utf-8") (html_page 404) pieces sent
+section_by_tests false _ k pieces sent = section_of_typed k 400 (codes "text/html; charset=utf-8") (html_page 400) pieces sent
 
-finished_as : (page : Page) (outcome expected : Outcome) (response : Response) → outcome ≡ expected → Finished page_may (sample_of page) outcome response → Finished page_may (sample_of page) expected response
-finished_as page outcome expected response is finished = subst (λ (o : Outcome). Finished page_may (sample_of page) o response) is finished
+module _ {V : Type 0} (tables : SeenTables Page V) where
+  finished_as : (request : Seen V) (outcome expected : Outcome) (response : Response) → outcome ≡ expected → Finished page_may tables request outcome response → Finished page_may tables request expected response
+  finished_as request outcome expected response is finished = subst (λ (o : Outcome). Finished page_may tables request o response) is finished
 
--- by whether the one route matches
-by_match : (t : Bool) (page : Page) (request : Requested) (calls : List Call) (outcome : Outcome) (response : Response)
-    → Tried page_may (sample_of page) (if t then 0 ∷ [] else []) request calls outcome → Finished page_may (sample_of page) outcome response → response ≡ sample_response t
-by_match true page request calls outcome response tried finished =
-    let answers = tried.1 in
-    let route : answers.0 ≡ (page_target, page) = sym (same_Some _ _ answers.1) in
-    let text : tried.0 ≡ codes "hello" = answers.2 in
-    finished_as page outcome (Success (text_page tried.0)) response tried.3 finished ∙ ap text_page text
-by_match false page request calls outcome response tried finished = finished_as page outcome (Forward 404) response tried.1 finished
+  -- by whether the one route matches
+  by_match : (asks : Bool) (one : Page) (request : Seen V) (calls : List Call) (outcome : Outcome) (response : Response) → tables.routes ≡ (page_target, one) ∷ []
+      → Tried page_may tables (if asks then 0 ∷ [] else []) request calls outcome → Finished page_may tables request outcome response → response ≡ sample_response true asks
+  by_match true one request calls outcome response routes tried finished =
+      let text : tried.0 ≡ codes "hello" = tried.1.2 in
+      finished_as request outcome (Success (text_page tried.0)) response tried.3 finished ∙ ap text_page text
+  by_match false one request calls outcome response routes tried finished = finished_as request outcome (Forward 404) response tried.1 finished
 
--- the request asks for what its target says
-asks : (target : List ℕ) (request : Requested) → target_of target ≡ request.uri → matches page_target request ≡ asks_page target
-asks target request is = ap (λ (uri : Target). pointwise (pointwise nat_eq) (segments_of page_target) (segments_of uri)) (sym is)
+  -- a request for an origin is tried on the one route where it asks for the page
+  tries_page : (one : Page) (request : Seen V) → tables.routes ≡ (page_target, one) ∷ [] → tries tables.routes request ≡ (if matches page_target request then 0 ∷ [] else [])
+  tries_page one request routes = ap (λ (rs : List (Target × Page)). tries rs request) routes
 
-one_response : (page : Page) (target : List ℕ) (calls : List Call) (response : Response) → IsOrigin Request target
-    → Lifecycle page_may (sample_of page) (head_of target) calls response → response ≡ sample_response (asks_page target)
-one_response page target calls response origin (inl bad) = absurd (not_bad bad.0)
-  where
-    not_bad : IsBad (head_of target) → ⊥
-    not_bad (inl unknown) = cc
-    not_bad (inr refused) = refused origin
-one_response page target calls response origin (inr served) =
-    let request = served.0 in
-    let said : target_of target ≡ request.uri = target_said Request target request.uri served.1.uri in
-    let test = asks target request said in
-    let walked : Tried page_may (sample_of page) (if asks_page target then 0 ∷ [] else []) request calls served.2.0 =
-    subst (λ (t : Bool). Tried page_may (sample_of page) (if t then 0 ∷ [] else []) request calls served.2.0) test served.2.1 in
-    by_match (asks_page target) page request calls served.2.0 response walked served.2.2
+  served_as : (asks : Bool) (one : Page) (request : Seen V) (calls : List Call) (response : Response) → tables.routes ≡ (page_target, one) ∷ [] → matches page_target request ≡ asks
+      → Served page_may tables request calls response → response ≡ sample_response true asks
+  served_as asks one request calls response routes test served =
+      let tried = tries_page one request routes ∙ ap (λ (t : Bool). if t then 0 ∷ [] else []) test in
+      by_match asks one request calls served.0 response routes (subst (λ (ks : List ℕ). Tried page_may tables ks request calls served.0) tried served.1) served.2
 
-pub one_section : (k : ℕ) (routes : List (Target × Page)) (target : List ℕ) (calls : List Call) (response : Response) (pieces : List Piece) → IsSample routes → IsOrigin Request target
-    → Lifecycle page_may routes (head_of target) calls response → Sent response pieces → sent_section k pieces ≡ printed_section k target
+  -- a head without faults is served, and any other is answered by the page of 400
+  responds_good : (method : Option Method) (target : Option Target) (request : Seen V) (calls : List Call) (response : Response) → (is_some method && is_some target) ≡ true
+      → Responds page_may tables (faults_of method target) request calls response → Served page_may tables request calls response
+  responds_good None target request calls response good responds = absurd (false≢true good)
+  responds_good (Some m) None request calls response good responds = absurd (false≢true good)
+  responds_good (Some m) (Some t) request calls response good responds = responds
+
+  responds_bad : (method : Option Method) (target : Option Target) (request : Seen V) (calls : List Call) (response : Response) → (is_some method && is_some target) ≡ false
+      → Responds page_may tables (faults_of method target) request calls response → response ≡ page 400
+  responds_bad None None request calls response bad responds = responds.1
+  responds_bad None (Some t) request calls response bad responds = responds.1
+  responds_bad (Some m) None request calls response bad responds = responds.1
+  responds_bad (Some m) (Some t) request calls response bad responds = absurd (false≢true (sym bad))
+
+  -- the request asks for what the target of its head says
+  asks_as : (head : Head) (target : Option Target) (uri : Target) → is_some target ≡ true → ReadAs (Spells Request) head.target target → uri ≡ unwrap_or target root → target_of head.target ≡ uri
+  asks_as head None uri some read is = absurd (false≢true some)
+  asks_as head (Some t) uri some read is = target_said Request head.target t read ∙ sym is
+
+  by_good : (good : Bool) (head : Head) (one : Page) (method : Option Method) (target : Option Target) (request : Seen V) (calls : List Call) (response : Response)
+      → tables.routes ≡ (page_target, one) ∷ [] → (is_some method && is_some target) ≡ good → ReadAs (Spells Request) head.target target → request.uri ≡ unwrap_or target root
+      → Responds page_may tables (faults_of method target) request calls response → response ≡ sample_response good (asks_page head)
+  by_good true head one method target request calls response routes good read uri responds =
+      let said : target_of head.target ≡ request.uri = asks_as head target request.uri (both (is_some method) (is_some target) good) read uri in
+      let test : matches page_target request ≡ asks_page head = ap (λ (t : Target). pointwise (pointwise nat_eq) (segments_of page_target) (segments_of t)) (sym said) in
+      served_as (asks_page head) one request calls response routes test (responds_good method target request calls response good responds)
+    where
+      both : (a b : Bool) → (a && b) ≡ true → b ≡ true
+      both true b e = e
+      both false b e = absurd (false≢true e)
+  by_good false head one method target request calls response routes bad read uri responds = responds_bad method target request calls response bad responds
+
+one_response : (head : Head) (tables : SeenTables Page ℕ) (run : RunOf ℕ) (response : Response) → IsSample tables → Lifecycle page_may tables head run response
+    → response ≡ sample_response (is_good head) (asks_page head)
+one_response head tables run response sample life =
+    let came = life.incoming in
+    let good : (is_some (method_of head.method) && is_some came.target) ≡ is_good head = ap (λ (t : Bool). is_some (method_of head.method) && t) (sym (is_origin-read head.target came.target came.target_read)) in
+    let responds = subst (λ (fs : List Bad). Responds page_may tables fs life.request run.calls response) came.faults_are life.leads.answered in
+    by_good tables (is_good head) head sample.page (method_of head.method) came.target life.request run.calls response sample.routes good came.target_read came.uri responds
+
+pub one_section : (k : ℕ) (tables : SeenTables Page ℕ) (head : Head) (run : RunOf ℕ) (response : Response) (pieces : List Piece) → IsSample tables
+    → Lifecycle page_may tables head run response → Sent response pieces → sent_section k pieces ≡ printed_section k head
 unfolding printed_section
-one_section k routes target calls response pieces sample origin life sent =
-    let life' = subst (λ (rs : List (Target × Page)). Lifecycle page_may rs (head_of target) calls response) sample.1 life in
-    section_by_test (asks_page target) k pieces (subst (λ (r : Response). Sent r pieces) (one_response sample.0 target calls response origin life') sent)
+one_section k tables head run response pieces sample life sent =
+    section_by_tests (is_good head) (asks_page head) k pieces (subst (λ (r : Response). Sent r pieces) (one_response head tables run response sample life) sent)

@@ -7,3 +7,4 @@ pub mod Requests
 pub mod Runs
 pub mod Serving
 pub mod StreamLemmas
+pub mod Origins

@@ -1,35 +1,86 @@
--- Every origin is text.
-use Rattle.std.proofs.Common.{zero, suc, ◌≡◌, ◌<◌, ℕ, List, [], ◌∷◌, ◌++◌, Bool, true, sym, subst, Option, Some, None, IfSome, arith}
+-- A request is text, and is cut at its first space.
+use Rattle.std.proofs.Common.{zero, suc, ◌≡◌, ◌<◌, ◌+◌, ◌==◌, ◌&&◌, ℕ, List, [], ◌∷◌, ◌++◌, Bool, true, false, None, inl, inr, length, not, take, drop, add-one, refl, ap, ◌∙◌, sym, subst, arith}
+use Rattle.std.specs.List.{list_all, before_first, after_first, position_or_len}
 use Rattle.std.specs.Str.{IsAscii, IsUtf8}
-use Rattle.std.proofs.lemmas.Str.{IsUtf8-from_ascii}
+use Rattle.std.proofs.lemmas.Bool.{false≢true}
 use Rattle.std.proofs.lemmas.Bool.Decides.{nat_tests}
-use Rattle.rkt_http.specs.Grammar.{OnlyOf}
-use Rattle.rkt_http.specs.Origin.{IsOrigin, is_path_byte, is_query_byte, query_text}
-use Rattle.rkt_http.specs.declared.origin_place.Profile.TheVariants.{Request}
+use Rattle.std.proofs.lemmas.Str.{IsAscii-append, IsUtf8-from_ascii}
+use Rattle.rkt_request.specs.declared.head.Head.{Head}
+use Rattle.rkt_demo.proofs.Origins.{first_of_both, second_of_both}
+use Rattle.rkt_demo.specs.Script.{is_capital, is_visible, is_space, is_word, is_skipped, IsRequest, IsContent, head_of, asked_by}
 
-IsAscii-only : (test : ℕ → Bool) → ((b : ℕ) → test b ≡ true → b < 128) → (bs : List ℕ) → OnlyOf test bs → IsAscii bs
-IsAscii-only test below [] only i = omega arith
-IsAscii-only test below (b ∷ bs) only zero = below b only.0
-IsAscii-only test below (b ∷ bs) only (suc i) = IsAscii-only test below bs only.1 i
+ascii_of_all : (test : ℕ → Bool) → ((b : ℕ) → test b ≡ true → b < 128) → (bs : List ℕ) → list_all test bs ≡ true → IsAscii bs
+ascii_of_all test below [] all i = omega arith
+ascii_of_all test below (b ∷ bs) all zero = below b (first_of_both (test b) (list_all test bs) all)
+ascii_of_all test below (b ∷ bs) all (suc i) = ascii_of_all test below bs (second_of_both (test b) (list_all test bs) all) i
 
-IsAscii-append : (a b : List ℕ) → IsAscii a → IsAscii b → IsAscii (a ++ b)
-IsAscii-append [] b first second i = second i
-IsAscii-append (x ∷ a) b first second zero = first zero
-IsAscii-append (x ∷ a) b first second (suc i) = IsAscii-append a b (λ k. first (suc k)) second i
+capital_below : (b : ℕ) → is_capital b ≡ true → b < 128
+capital_below b is = grind (arith, nat_tests)
 
-path_below : (b : ℕ) → is_path_byte Request b ≡ true → b < 128
-path_below b is = grind (arith, nat_tests)
+visible_below : (b : ℕ) → is_visible b ≡ true → b < 128
+visible_below b is = grind (arith, nat_tests)
 
-query_below : (b : ℕ) → is_query_byte Request b ≡ true → b < 128
-query_below b is = grind (arith, nat_tests)
+space_below : (b : ℕ) → is_space b ≡ true → b < 128
+space_below b is = grind (arith, nat_tests)
 
-query_ascii : (query : Option (List ℕ)) → IfSome query (OnlyOf (is_query_byte Request)) → IsAscii (query_text query)
-query_ascii None only i = omega arith
-query_ascii (Some query) only zero = omega arith
-query_ascii (Some query) only (suc i) = IsAscii-only (is_query_byte Request) query_below query only i
+all_of_word : (test : ℕ → Bool) (word : List ℕ) → is_word test word ≡ true → list_all test word ≡ true
+all_of_word test word is = second_of_both (not (length word == 0)) (list_all test word) is
 
-pub IsUtf8-origin : (text : List ℕ) → IsOrigin Request text → IsUtf8 text
-IsUtf8-origin text origin =
-    let spells = origin.1 in
-    IsUtf8-from_ascii text (subst IsAscii (sym spells.spelled) (IsAscii-append origin.0.path (query_text origin.0.query)
-    (IsAscii-only (is_path_byte Request) path_below origin.0.path spells.fits.path) (query_ascii origin.0.query spells.fits.query)))
+pub IsUtf8-request : (content method target : List ℕ) → IsRequest content method target → IsUtf8 content
+IsUtf8-request content method target request =
+    let letters = ascii_of_all is_capital capital_below method (all_of_word is_capital method request.letters) in
+    let visible = ascii_of_all is_visible visible_below target (all_of_word is_visible target request.visible) in
+    let space = ascii_of_all is_space space_below (32 ∷ []) refl in
+    IsUtf8-from_ascii content (subst IsAscii (sym request.spelled) (IsAscii-append method (32 ∷ target) letters (IsAscii-append (32 ∷ []) target space visible)))
+
+no_space : (b : ℕ) → is_capital b ≡ true → (b == 32) ≡ false
+no_space b is = grind (arith, nat_tests)
+
+position_more : (b : ℕ) (bs : List ℕ) → (b == 32) ≡ false → position_or_len is_space (b ∷ bs) ≡ suc (position_or_len is_space bs)
+position_more b bs is = rw is (omega arith)
+
+before_more : (b : ℕ) (bs : List ℕ) → (b == 32) ≡ false → before_first is_space (b ∷ bs) ≡ b ∷ before_first is_space bs
+before_more b bs is = ap (λ (n : ℕ). take n (b ∷ bs)) (position_more b bs is)
+
+after_more : (b : ℕ) (bs : List ℕ) → (b == 32) ≡ false → after_first is_space (b ∷ bs) ≡ after_first is_space bs
+after_more b bs is =
+    ap (λ (n : ℕ). drop (n + 1) (b ∷ bs)) (position_more b bs is) ∙ rw (add-one (suc (position_or_len is_space bs)), add-one (position_or_len is_space bs)) refl
+
+cut_word : (word rest : List ℕ) → list_all is_capital word ≡ true → (before_first is_space (word ++ 32 ∷ rest) ≡ word) × (after_first is_space (word ++ 32 ∷ rest) ≡ rest)
+cut_word [] rest all = (refl, refl)
+cut_word (b ∷ word) rest all =
+    let other = no_space b (first_of_both (is_capital b) (list_all is_capital word) all) in
+    let later = cut_word word rest (second_of_both (is_capital b) (list_all is_capital word) all) in
+    (before_more b (word ++ 32 ∷ rest) other ∙ ap (λ (w : List ℕ). b ∷ w) later.0, after_more b (word ++ 32 ∷ rest) other ∙ later.1)
+
+-- the words of a request stand before and behind its first space
+pub request_cut : (content method target : List ℕ) → IsRequest content method target → (before_first is_space content ≡ method) × (after_first is_space content ≡ target)
+request_cut content method target request =
+    let cut = cut_word method target (all_of_word is_capital method request.letters) in
+    (ap (before_first is_space) request.spelled ∙ cut.0, ap (after_first is_space) request.spelled ∙ cut.1)
+
+space_within : (word rest : List ℕ) → position_or_len is_space (word ++ 32 ∷ rest) < length (word ++ 32 ∷ rest)
+space_within [] rest = omega arith
+space_within (b ∷ word) rest = by_test (b == 32) refl (space_within word rest)
+  where
+    by_test : (t : Bool) → (b == 32) ≡ t → position_or_len is_space (word ++ 32 ∷ rest) < length (word ++ 32 ∷ rest)
+        → position_or_len is_space (b ∷ (word ++ 32 ∷ rest)) < length (b ∷ (word ++ 32 ∷ rest))
+    by_test true is later = rw is (omega arith)
+    by_test false is later = rw (position_more b (word ++ 32 ∷ rest) is) (omega (arith, later))
+
+-- a request has a space
+pub request_within : (content method target : List ℕ) → IsRequest content method target → position_or_len is_space content < length content
+request_within content method target request = subst (λ (t : List ℕ). position_or_len is_space t < length t) (sym request.spelled) (space_within method target)
+
+pub head_of-request : (content method target : List ℕ) → IsRequest content method target → head_of content ≡ record { method = method; target = target; headers = []; remote = None }
+head_of-request content method target request =
+    let cut = request_cut content method target request in
+    rw (cut.0, cut.1) refl
+
+-- a line that is not skipped asks what it has as a request
+pub asked_by-request : (content : List ℕ) (head : Head) → is_skipped content ≡ false → head_of content ≡ head → asked_by content ≡ head ∷ []
+asked_by-request content head is same = rw is (ap (λ (h : Head). h ∷ []) same)
+
+pub not_content : (content : List ℕ) → is_skipped content ≡ false → ((method target : List ℕ) → ¬ IsRequest content method target) → ¬ IsContent content
+not_content content is none (inl skipped) = false≢true (sym is ∙ skipped)
+not_content content is none (inr request) = none request.0 request.1 request.2

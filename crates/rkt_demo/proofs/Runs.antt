@@ -1,13 +1,16 @@
 -- What the program knows of its script from the bytes that it has read.
-use Rattle.std.proofs.Common.{suc, ◌≡◌, ◌+◌, ◌++◌, ℕ, List, [], Bool, Option, Some, None, take, drop, length, add-one, refl, ap, ◌∙◌, sym, subst, append-nil, arith}
+use Rattle.std.proofs.Common.{suc, ◌≡◌, ◌+◌, ◌-◌, ◌++◌, ℕ, inl, inr, List, [], ◌∷◌, Bool, Option, Some, None, take, drop, length, add-one, refl, ap, ◌∙◌, sym, subst, append-nil}
+use Rattle.std.proofs.Math.Seq.{take-length}
 use Rattle.std.specs.Option.{ForSome, option_map}
-use Rattle.std.proofs.lemmas.List.{length-map}
-use Rattle.std.proofs.lemmas.Grind.{common_steps}
 use Rattle.rkt_data.specs.Sink.{SinkMeaning, Gains}
+use Rattle.rkt_data.specs.Source.{Meaning}
+use Rattle.rkt_request.specs.declared.head.Head.{Head}
 use Rattle.rkt_demo.proofs.Cuts.{bad_front, good_front}
-use Rattle.rkt_demo.proofs.Prints.{origins, printed_but_starved}
+use Rattle.rkt_demo.proofs.Prints.{printed_but_starved}
 use Rattle.rkt_demo.specs.Printed.{printed_but}
-use Rattle.rkt_demo.specs.Script.{lines_of, AreGood, IsFirstBad, targets_of}
+use Rattle.rkt_demo.specs.Program.{IsScript, IsGoodScript}
+use Rattle.rkt_demo.specs.Script.{lines_of, IsGood, AreGood, IsFirstBad, heads_of}
+use Rattle.rkt_demo.specs.declared.script.TheConstants.{SCRIPT_LIMIT}
 use Rattle.rkt_demo.specs.Shown.{Shown, ShownFrom}
 
 -- the front of a script that is read
@@ -38,19 +41,28 @@ pub good_script : (whole : Option (List ℕ)) (taken room : ℕ) (bytes : List �
 good_script whole taken room bytes read good w is = subst (λ (t : List ℕ). AreGood room (lines_of t)) (good_read whole taken room bytes read good w is) good
 
 -- a text that shows what was read shows all requests of the script
-pub shown_script : (whole : Option (List ℕ)) (taken room : ℕ) (bytes : List ℕ) (window : Option (ℕ × ℕ)) (targets : List (List ℕ)) (text : List ℕ) → IsRead whole taken room bytes
-    → AreGood room (lines_of bytes) → targets ≡ targets_of (lines_of bytes) → ShownFrom window 0 targets text → ForSome whole (λ w. Shown window (drop taken w) (length (lines_of (drop taken w))) text)
-shown_script whole taken room bytes window targets text read good targets_are shown w is =
-    let script = drop taken w in
-    let same : targets ≡ targets_of (lines_of script) = targets_are ∙ ap (λ (t : List ℕ). targets_of (lines_of t)) (good_read whole taken room bytes read good w is) in
-    let all : take (length (lines_of script)) (targets_of (lines_of script)) ≡ targets_of (lines_of script) = grind (arith, common_steps, length-map) in
-    subst (λ (ts : List (List ℕ)). ShownFrom window 0 ts text) (same ∙ sym all) shown
+pub shown_script : (whole : Option (List ℕ)) (taken room : ℕ) (bytes : List ℕ) (window : Option (ℕ × ℕ)) (heads : List Head) (text : List ℕ) → IsRead whole taken room bytes
+    → AreGood room (lines_of bytes) → heads ≡ heads_of (lines_of bytes) → ShownFrom window 0 heads text
+    → ForSome whole (λ w. Shown window (drop taken w) (length (heads_of (lines_of (drop taken w)))) text)
+shown_script whole taken room bytes window heads text read good heads_are shown w is =
+    let asked : List Head = heads_of (lines_of (drop taken w)) in
+    let same : heads ≡ asked = heads_are ∙ ap (λ (t : List ℕ). heads_of (lines_of t)) (good_read whole taken room bytes read good w is) in
+    subst (λ (hs : List Head). ShownFrom window 0 hs text) (same ∙ sym (take-length asked)) shown
 
 -- and it is the printed one but for the starved
-pub printed_script : (whole : Option (List ℕ)) (taken room : ℕ) (bytes : List ℕ) (window : Option (ℕ × ℕ)) (targets : List (List ℕ)) (text : List ℕ) → IsRead whole taken room bytes
-    → AreGood room (lines_of bytes) → targets ≡ targets_of (lines_of bytes) → ShownFrom window 0 targets text → ForSome whole (λ w. (starved : ℕ → Bool) × (text ≡ printed_but starved (drop taken w)))
-printed_script whole taken room bytes window targets text read good targets_are shown w is =
-    let script = drop taken w in
-    let same : targets ≡ targets_of (lines_of script) = targets_are ∙ ap (λ (t : List ℕ). targets_of (lines_of t)) (good_read whole taken room bytes read good w is) in
-    printed_but_starved window 0 (targets_of (lines_of script)) text (origins room (lines_of script) (good_script whole taken room bytes read good w is))
-    (subst (λ (ts : List (List ℕ)). ShownFrom window 0 ts text) same shown)
+pub printed_script : (whole : Option (List ℕ)) (taken room : ℕ) (bytes : List ℕ) (window : Option (ℕ × ℕ)) (heads : List Head) (text : List ℕ) → IsRead whole taken room bytes
+    → AreGood room (lines_of bytes) → heads ≡ heads_of (lines_of bytes) → ShownFrom window 0 heads text → ForSome whole (λ w. (starved : ℕ → Bool) × (text ≡ printed_but starved (drop taken w)))
+printed_script whole taken room bytes window heads text read good heads_are shown w is =
+    let same : heads ≡ heads_of (lines_of (drop taken w)) = heads_are ∙ ap (λ (t : List ℕ). heads_of (lines_of t)) (good_read whole taken room bytes read good w is) in
+    printed_but_starved window 0 (heads_of (lines_of (drop taken w))) text (subst (λ (hs : List Head). ShownFrom window 0 hs text) same shown)
+
+-- no line is bad of lines that are good
+good_not_bad : (from room number : ℕ) (lines : List (List ℕ)) → AreGood room lines → IsFirstBad from room lines number → ⊥
+good_not_bad from room number [] good bad = bad
+good_not_bad from room number (line ∷ lines) good (inl here) = here.1 good.0
+good_not_bad from room number (line ∷ lines) good (inr later) = good_not_bad (from + 1) (room - length line) number lines good.1 later.1
+
+pub not_bad : (source : Meaning) (script : List ℕ) (number : ℕ) → IsScript source script → IsGoodScript script
+    → ForSome source.whole (λ w. IsFirstBad 1 SCRIPT_LIMIT (lines_of (drop source.taken w)) number) → ⊥
+not_bad source script number is good bad =
+    good_not_bad 1 SCRIPT_LIMIT number (lines_of script) good (subst (λ (t : List ℕ). IsFirstBad 1 SCRIPT_LIMIT (lines_of t) number) (sym is.2) (bad is.0 is.1))

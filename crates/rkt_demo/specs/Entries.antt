@@ -5,8 +5,8 @@ use Rattle.rkt_serve.specs.Events.{admitted, end_of}
 use Rattle.rkt_serve.specs.Memory.{LinkInMemory}
 use Rattle.rkt_serve.specs.declared.history.End.{End}
 use Rattle.rkt_serve.specs.declared.history.End.TheVariants.{Answered, Starved}
-use Rattle.rkt_serve.specs.declared.history.Entry.{Entry}
-use Rattle.rkt_serve.specs.declared.history.Event.{Event}
+use Rattle.rkt_serve.specs.declared.history.EntryOf.{EntryOf}
+use Rattle.rkt_serve.specs.declared.history.EventOf.{EventOf}
 use Rattle.rkt_demo.specs.Output.{sent_section, starved_section, last_line}
 
 -- the section of a request that ended so, with what its link holds
@@ -15,16 +15,16 @@ ended_section k Answered pieces = sent_section k pieces
 ended_section k Starved pieces = starved_section k
 
 -- the section of an entry, and none where there is none
-abbrev pub entry_section : ℕ → Option (Entry LinkInMemory) → List ℕ
+abbrev pub entry_section : ℕ → Option (EntryOf ℕ LinkInMemory) → List ℕ
 entry_section k None = []
 entry_section k (Some entry) = ended_section k entry.end entry.link.held
 
 -- the sections of the entries, which are numbered from k on, and the last line
-abbrev pub entries_text : ℕ → List (Option (Entry LinkInMemory)) → List ℕ
+abbrev pub entries_text : ℕ → List (Option (EntryOf ℕ LinkInMemory)) → List ℕ
 entries_text k [] = last_line k
 entries_text k (entry ∷ entries) = entry_section k entry ++ entries_text (k + 1) entries
 
 -- these are the entries of a history, by number
-pub record AreEntries (events : List (Event LinkInMemory)) (entries : List (Option (Entry LinkInMemory))) : Type 0 where
+pub record AreEntries (events : List (EventOf ℕ LinkInMemory)) (entries : List (Option (EntryOf ℕ LinkInMemory))) : Type 0 where
   pub count : length entries ≡ admitted events
   pub each : (k : ℕ) → k < admitted events → slice_get entries k ≡ Some (end_of k events)

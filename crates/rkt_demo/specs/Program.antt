@@ -1,5 +1,5 @@
 -- What the program writes, by the script that it reads.
-use Rattle.std.specs.Prelude.{◌≡◌, ◌⊎◌, ℕ, ◌+◌, ◌++◌, List, Bool, codes, drop}
+use Rattle.std.specs.Prelude.{◌≡◌, ◌⊎◌, ℕ, ◌+◌, ◌++◌, List, Bool, Some, codes, drop}
 use Rattle.std.specs.Fmt.{decimal}
 use Rattle.std.specs.Option.{ForSome}
 use Rattle.rkt_data.specs.Source.{Meaning}
@@ -11,6 +11,10 @@ use Rattle.rkt_demo.specs.Streams.{IsReadTo}
 -- a fact of the script: of what the source has not given yet, where it tells that
 abbrev pub OfScript : Meaning → (List ℕ → Type 0) → Type 0
 OfScript source P = ForSome source.whole (λ whole. P (drop source.taken whole))
+
+-- the source tells its content, and this is what it has not given yet
+abbrev pub IsScript : Meaning → List ℕ → Type 0
+IsScript source script = (whole : List ℕ) × (source.whole ≡ Some whole) × (script ≡ drop source.taken whole)
 
 -- every line is of the grammar
 abbrev pub IsGoodScript : List ℕ → Type 0

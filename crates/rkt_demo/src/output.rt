@@ -5,6 +5,7 @@ ghost use Rattle.std.specs.Option.{option_copied};
 ghost use Rattle.rkt_demo.specs.Entries.{ended_section, entries_text, AreEntries};
 ghost use Rattle.rkt_demo.specs.Output.{header_line, head_text, body_bytes, label, sent_section, starved_section, last_line};
 
+use crate::sample::Sample;
 use rkt_base::{NoMemory, Text};
 use rkt_life::Piece;
 use rkt_serve::{End, Entry, History, MemoryLink};
@@ -128,7 +129,7 @@ fn push_section(
     alloc: Global,
     out: &mut Vec<u8>,
     number: usize,
-    entry: &Entry<MemoryLink>,
+    entry: &Entry<Sample, MemoryLink>,
 ) -> Result<(), NoMemory>
     ensures { OnOk result (out.new.items ≡ out.old.items ++ ended_section number entry.now.end entry.now.link.held) }
 {
@@ -138,7 +139,10 @@ fn push_section(
     }
 }
 
-fn print_entries(alloc: Global, entries: &[Option<&Entry<MemoryLink>>]) -> Result<Vec<u8>, NoMemory>
+fn print_entries(
+    alloc: Global,
+    entries: &[Option<&Entry<Sample, MemoryLink>>],
+) -> Result<Vec<u8>, NoMemory>
     ensures { IfOk result (λ text. text.items ≡ entries_text 0 (map (λ entry. option_copied entry) entries.now)) }
 {
     let mut out = Vec::new(alloc);
@@ -152,7 +156,10 @@ fn print_entries(alloc: Global, entries: &[Option<&Entry<MemoryLink>>]) -> Resul
 }
 
 /// The text of a history, by the numbers of its entries.
-pub fn print_history(alloc: Global, history: &History<MemoryLink>) -> Result<Vec<u8>, NoMemory>
+pub fn print_history(
+    alloc: Global,
+    history: &History<Sample, MemoryLink>,
+) -> Result<Vec<u8>, NoMemory>
     ensures { IfOk result (λ text. (entries : _) × AreEntries history.now.events entries × (text.items ≡ entries_text 0 entries)) }
 {
     let entries = history.entries(alloc)?;

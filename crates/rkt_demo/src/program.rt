@@ -5,8 +5,8 @@ ghost use Rattle.rkt_base.specs.Counts.{Rose};
 ghost use Rattle.rkt_data.specs.Sink.{Gains};
 ghost use Rattle.rkt_serve.specs.Memory.{HoldsNothing};
 ghost use Rattle.rkt_demo.specs.Printed.{printed_but};
-ghost use Rattle.rkt_demo.specs.Program.{OfScript, IsGoodScript, IsFirstBadLine, IsText, IsAllRead, refusal};
-ghost use Rattle.rkt_demo.specs.Script.{lines_of, head_of};
+ghost use Rattle.rkt_demo.specs.Program.{OfScript, IsScript, IsGoodScript, IsFirstBadLine, IsText, IsAllRead, refusal};
+ghost use Rattle.rkt_demo.specs.Script.{lines_of, heads_of};
 ghost use Rattle.rkt_demo.specs.Shown.{Shown, ShownFrom};
 ghost use Rattle.rkt_demo.specs.Streams.{GainsFront, GainsUnlessRefused};
 ghost use Rattle.rkt_demo.specs.Words.{IsCommand, IsStatus};
@@ -16,59 +16,46 @@ use crate::sample::Sample;
 use crate::script::{SCRIPT_LIMIT, parse_script};
 use crate::stream::{StreamError, read_all, write_all};
 use crate::words::{USAGE, is_command};
-use rkt_base::{NoMemory, Seq, Text, Want};
+use rkt_base::{NoMemory, Want};
 use rkt_data::{Sink, Source};
-use rkt_life::Head;
-use rkt_serve::{Clock, ErrorKind, Launch, Launched, ListListener, MemoryLink};
+use rkt_request::Head;
+use rkt_serve::{Clock, ErrorKindOf, Launch, LaunchedOf, ListListener, MemoryLink};
 use std::alloc::{AllocError, Global};
 use std::sync::Wait;
 use std::thread::Threads;
 
-// The head of a request for a target.
-fn head_for(alloc: Global, target: Text) -> Result<Head, NoMemory>
-    ensures { IfOk result (λ head. head ≡ head_of target) }
-{
-    Ok(Head {
-        method: Text::new(alloc, "GET")?,
-        target,
-        headers: Seq::new(alloc),
-        remote: None,
-    })
-}
-
-// A link for each target.
-fn links_for(alloc: Global, targets: Vec<Text>) -> Result<Vec<MemoryLink>, NoMemory>
-    ensures heads { IfOk result (λ links. map (λ link. link.head) links.items ≡ map head_of targets.items) }
+// A link for each head.
+fn links_for(alloc: Global, heads: Vec<Head>) -> Result<Vec<MemoryLink>, NoMemory>
+    ensures heads { IfOk result (λ links. map (λ link. link.head) links.items ≡ heads.items) }
     ensures fresh { IfOk result (λ links. AllByRecursion HoldsNothing links.items) }
 {
     let mut links = Vec::new(alloc);
-    for target in targets {
-        let head = head_for(alloc, target)?;
+    for head in heads {
         links.push(MemoryLink::new(alloc, head))?;
     }
     Ok(links)
 }
 
-// Serves requests for the targets, and tells how they ended.
-fn serve_targets<R: Wait + Threads, C: Clock>(
+// Serves requests with these heads, and tells how they ended.
+fn serve_heads<R: Wait + Threads, C: Clock>(
     rt: &R,
     alloc: Global,
-    targets: Vec<Text>,
+    heads: Vec<Head>,
     clock: C,
 ) -> Result<Vec<u8>, NoMemory>
-    ensures { IfOk result (λ text. ShownFrom (C.meaning clock).window 0 targets.items text.items) }
+    ensures { IfOk result (λ text. ShownFrom (C.meaning clock).window 0 heads.items text.items) }
 {
     let rocket = Sample::rocket(alloc)?;
-    let links = links_for(alloc, targets)?;
+    let links = links_for(alloc, heads)?;
     let listener = ListListener::new(alloc, links, Vec::new(alloc))?;
     match rocket.launch(rt, alloc, listener, clock, 0) {
         Ok(launched) => {
-            let Launched { history, .. } = launched;
+            let LaunchedOf { history, .. } = launched;
             let text = print_history(alloc, &history)?;
             Ok(text)
         }
         Err(error) => {
-            let ErrorKind::NoMemory { kept: _ } = error.kind();
+            let ErrorKindOf::NoMemory { kept: _ } = error.kind();
             Err(AllocError)
         }
     }
@@ -155,9 +142,14 @@ pub fn run<R: Wait + Threads, S: Source, K: Sink, C: Clock>(
 
     // 0: the text shows every request of the script, and is the printed one but for the starved.
     ensures text { result ≡ 0 → OfScript (S.meaning source.old) (λ script. (text : List ℕ)
-        × Shown (C.meaning clock).window script (length (lines_of script)) text × Gains (K.meaning sink.old) (K.meaning sink.new) text) }
+        × Shown (C.meaning clock).window script (length (heads_of (lines_of script))) text × Gains (K.meaning sink.old) (K.meaning sink.new) text) }
     ensures printed { result ≡ 0 → OfScript (S.meaning source.old) (λ script. (starved : ℕ → Bool)
         × Gains (K.meaning sink.old) (K.meaning sink.new) (printed_but starved script)) }
+
+    // Words and script of the grammar, and no fault of a stream: nothing but want of memory is in the way.
+    ensures complete { (script : List ℕ) → IsCommand (map string_bytes words.now) → IsScript (S.meaning source.old) script → IsGoodScript script
+        → ¬ Rose (S.meaning source.old).faults (S.meaning source.new).faults → ¬ Rose (K.meaning sink.old).faults (K.meaning sink.new).faults
+        → (result ≡ 0) ⊎ (result ≡ 6) }
 
     // How much was read.
     ensures taken { (result ≡ 0) ⊎ (result ≡ 3) ⊎ (result ≡ 5) → IsAllRead (S.meaning source.old) (S.meaning source.new) }
@@ -171,12 +163,12 @@ pub fn run<R: Wait + Threads, S: Source, K: Sink, C: Clock>(
         Err(StreamError::Fault) => return 4,
         Err(StreamError::NoMemory) => return 6,
     };
-    let targets = match parse_script(alloc, script.as_slice()) {
-        Ok(targets) => targets,
+    let heads = match parse_script(alloc, script.as_slice()) {
+        Ok(heads) => heads,
         Err(Want::Refused(bad)) => return refuse_line(rt, alloc, sink, bad.number),
         Err(Want::NoMemory) => return 6,
     };
-    match serve_targets(rt, alloc, targets, clock) {
+    match serve_heads(rt, alloc, heads, clock) {
         Ok(text) => write_text(rt, sink, text.as_slice()),
         Err(_) => 6,
     }

@@ -3,23 +3,50 @@ ghost use Rattle.std.specs.Prelude.{◌≡◌, IfOk};
 ghost use Rattle.rkt_demo.specs.Sample.{IsSample, page_target};
 
 use rkt_base::{NoMemory, Want};
+use rkt_data::MemorySource;
 use rkt_http::Origin;
-use rkt_life::{App, Handler, Ignite, Request, Rocket};
+use rkt_life::{App, Handler, Ignite, Rocket};
+use rkt_request::{Config, Managed, Request, Types};
+use rkt_turn::Reason;
 use std::alloc::{AllocError, Global};
 
 /// An application with one route.
 pub struct Sample;
 
+/// The sample shuts down for no reason.
+#[derive(Clone, Copy)]
+pub enum NoReason {}
+
+impl Reason for NoReason {
+    ghost allowed = { λ word. ⊥ };
+
+    fn word(self) -> u64 {
+        match self {}
+    }
+}
+
+impl Types for Sample {
+    type Source = MemorySource;
+
+    type Stream = MemorySource;
+
+    type Cached = u64;
+
+    type Value = u64;
+
+    type Reason = NoReason;
+}
+
 /// What answers `/page`.
 #[derive(Clone, Copy)]
 pub struct Page;
 
-impl Handler for Page {
+impl<T: Types> Handler<T> for Page {
     ghost use Rattle.rkt_demo.specs.Sample.{page_may};
 
     ghost may = { page_may };
 
-    fn respond(&self, alloc: Global, _request: &Request) -> Result<String, NoMemory> {
+    fn respond(&self, alloc: Global, _request: &Request<'_, T>) -> Result<String, NoMemory> {
         String::from_str(alloc, "hello")
     }
 }
@@ -39,14 +66,16 @@ fn page_origin(alloc: Global) -> Result<Origin, NoMemory>
 }
 
 impl Sample {
-    /// The application, ready to be launched.
+    /// The application with the default configuration, ready to be launched.
     pub fn rocket(alloc: Global) -> Result<Rocket<Ignite, Sample>, NoMemory>
-        ensures { IfOk result (λ rocket. IsSample rocket.routes) }
+        ensures { IfOk result (λ rocket. IsSample rocket.tables) }
     {
         let page = page_origin(alloc)?;
         let mut routes = Vec::new(alloc);
         routes.push((page, Page))?;
-        let rocket = Rocket::<Ignite, Sample>::assemble(alloc, routes)?;
+        let config = Config::default(alloc)?;
+        let managed = Managed::new(alloc);
+        let rocket = Rocket::<Ignite, Sample>::assemble(alloc, routes, config, managed)?;
         Ok(rocket)
     }
 }

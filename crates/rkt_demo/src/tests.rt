@@ -69,9 +69,13 @@ fn scripts_have_their_status_and_text(rt: HostRuntime) -> Result<(), Fail> {
         ("GET /page?x=1\n", 0, PAGE),
         ("GET /page\r\n", 0, PAGE),
         ("GET /%70age\n", 0, PAGE),
-        ("GET page\n", 3, "script line 1\n"),
+        ("\n# one\r\n\r\nGET /page\n#GET /page\n#", 0, PAGE),
         ("GET /page\noops\n", 3, "script line 2\n"),
-        ("GET /page\n\nGET /page\n", 3, "script line 2\n"),
+        ("\n#\nget /page\n", 3, "script line 3\n"),
+        ("POST /page\n", 3, "script line 1\n"),
+        ("GET  /page\n", 3, "script line 1\n"),
+        ("GET \n", 3, "script line 1\n"),
+        ("GET /\u{e9}\n", 3, "script line 1\n"),
         ("GET /page\r", 3, "script line 1\n"),
     ];
     for (script, wanted, text) in rows {
@@ -86,6 +90,32 @@ fn scripts_have_their_status_and_text(rt: HostRuntime) -> Result<(), Fail> {
         assert_eq!(rt; status, wanted);
         assert_eq!(rt; str::from_utf8(written.as_slice())?, text);
     }
+    Ok(())
+}
+
+#[test]
+fn a_bad_request_is_answered_with_the_page_of_400(rt: HostRuntime) -> Result<(), Fail> {
+    let alloc = rt.alloc();
+    let script = "FOO /page\nGET page\n";
+    let (status, written) = serve(
+        &rt,
+        alloc,
+        &["serve"],
+        script,
+        Vec::new(alloc),
+        Vec::new(alloc),
+    )?;
+    let text = str::from_utf8(written.as_slice())?;
+    assert_eq!(rt; status, 0);
+    assert_eq!(rt; text.len(), 1123);
+    for label in ["#0", "#1"] {
+        let head = format!(in alloc;
+            "{label} Answered 400\nContent-Type: text/html; charset=utf-8\nContent-Length: 471\n471 bytes\n<!DOCTYPE html>\n"
+        )?;
+        assert!(rt; text.contains(head.as_str()));
+    }
+    assert!(rt; text.contains("<title>400 Bad Request</title>"));
+    assert!(rt; text.ends_with("</html>\nserved 2\n"));
     Ok(())
 }
 

@@ -1,7 +1,11 @@
 -- A group by its place, and by its name.
-use Rattle.std.proofs.Common.{◌≡◌, ℕ, zero, suc, ◌<◌, ◌≤◌, nat_lt, cond, Bool, true, false, if◌then◌else◌, List, [], ◌∷◌, ◌++◌, length, set, get_or, refl, sym, ◌∙◌, ap, arith, Option, Some, None, is_some, find}
+use Rattle.std.proofs.Common.{◌≡◌, ℕ, zero, suc, ◌<◌, ◌≤◌, nat_lt, cond, Bool, true, false, if◌then◌else◌, List, [], ◌∷◌, ◌++◌, length, set, get_or, refl, sym, ◌∙◌, ap, subst, arith, String, Option, Some, None, is_some, find}
 use Rattle.std.specs.List.{position, position_or_len, remove}
 use Rattle.std.proofs.lemmas.Bool.Decides.{nat_tests}
+use Rattle.std.specs.Global.{Global}
+use Rattle.rkt_http.specs.HeaderGroups.{changed_at, IsSpot}
+use Rattle.rkt_http.specs.declared.header_groups.Spot.{Spot}
+use Rattle.rkt_http.specs.declared.header_groups.Spot.TheVariants.{At, Free}
 use Rattle.rkt_http.specs.Headers.{Group, is_named, with_group, removed}
 
 cond_some : (t : Bool) (n i : ℕ) → cond t (Some n) None ≡ Some i → (t ≡ true) × (n ≡ i)
@@ -36,19 +40,19 @@ place_later : (name : List ℕ) (g : Group) (gs : List Group) → is_named name 
     → position_or_len (is_named name) (g ∷ gs) ≡ suc (position_or_len (is_named name) gs)
 place_later name g gs is = rw is (omega arith)
 
-set_first : (change : Group → Group) (groups : List Group) (made : Group) (n : ℕ) (d : Group) → n ≡ position_or_len (is_named made.name) groups
-    → n < length groups → d ≡ get_or groups n d → set groups n (change d) ≡ with_group change made groups
-set_first change [] made n d is within item = absurd (omega arith)
-set_first change (g ∷ gs) made n d is within item = by_test (is_named made.name g) n refl is within item (λ m. set_first change gs made m d)
+changed_first : (change : Group → Group) (groups : List Group) (made : Group) (n : ℕ) → n ≡ position_or_len (is_named made.name) groups → n < length groups
+    → changed_at n change groups ≡ with_group change made groups
+changed_first change [] made n is within = absurd (omega arith)
+changed_first change (g ∷ gs) made n is within = by_test (is_named made.name g) n refl is within (λ m. changed_first change gs made m)
   where
-    by_test : (t : Bool) (n : ℕ) → is_named made.name g ≡ t → n ≡ position_or_len (is_named made.name) (g ∷ gs) → n < length (g ∷ gs) → d ≡ get_or (g ∷ gs) n d
-        → ((m : ℕ) → m ≡ position_or_len (is_named made.name) gs → m < length gs → d ≡ get_or gs m d → set gs m (change d) ≡ with_group change made gs)
-        → set (g ∷ gs) n (change d) ≡ (if t then change g ∷ gs else g ∷ with_group change made gs)
-    by_test true zero test is within item more = ap (λ (x : Group). change x ∷ gs) item
-    by_test true (suc n) test is within item more = absurd (omega (arith, place_here made.name g gs test))
-    by_test false zero test is within item more = absurd (omega (arith, place_later made.name g gs test))
-    by_test false (suc n) test is within item more =
-        ap (λ (xs : List Group). g ∷ xs) (more n (omega (arith, place_later made.name g gs test)) (omega arith) item)
+    by_test : (t : Bool) (n : ℕ) → is_named made.name g ≡ t → n ≡ position_or_len (is_named made.name) (g ∷ gs) → n < length (g ∷ gs)
+        → ((m : ℕ) → m ≡ position_or_len (is_named made.name) gs → m < length gs → changed_at m change gs ≡ with_group change made gs)
+        → changed_at n change (g ∷ gs) ≡ (if t then change g ∷ gs else g ∷ with_group change made gs)
+    by_test true zero test is within more = refl
+    by_test true (suc n) test is within more = absurd (omega (arith, place_here made.name g gs test))
+    by_test false zero test is within more = absurd (omega (arith, place_later made.name g gs test))
+    by_test false (suc n) test is within more =
+        ap (λ (xs : List Group). g ∷ xs) (more n (omega (arith, place_later made.name g gs test)) (omega arith))
 
 push_last : (change : Group → Group) (groups : List Group) (made : Group) → length groups ≤ position_or_len (is_named made.name) groups
     → groups ++ made ∷ [] ≡ with_group change made groups
@@ -80,33 +84,27 @@ remove_none (g ∷ gs) name none = by_test (is_named name g) refl (remove_none g
     by_test true test more = absurd (omega (arith, place_here name g gs test))
     by_test false test more = ap (λ (xs : List Group). g ∷ xs) (more (omega (arith, place_later name g gs test)))
 
--- what a look-up by place has found
-found_in : (name name' : List ℕ) (groups groups' : List Group) (found : Option ℕ) (o : Option ℕ) → found ≡ position (is_named name') groups' → name' ≡ name → groups' ≡ groups
-    → found ≡ o → position (is_named name) groups ≡ o
-found_in name name' groups groups' found o call n g is =
-    sym (call ∙ ap (λ (x : List ℕ). position (is_named x) groups') n ∙ ap (position (is_named name)) g) ∙ is
+-- a group that was changed at its spot
+pub changed_there : (change : Group → Group) (made : Group) (groups groups' : List Group) (name : List ℕ) (spot : Spot) (at : ℕ) (new : List Group)
+    → IsSpot name groups' spot → name ≡ made.name → groups' ≡ groups → spot ≡ At at → new ≡ changed_at at change groups' → new ≡ with_group change made groups
+changed_there change made groups groups' name spot at new found named view is changed =
+    let here : IsSpot name groups' (At at) = subst (IsSpot name groups') is found in
+    let place = at_place made.name groups' at (ap (λ (n : List ℕ). position (is_named n) groups') (sym named) ∙ here.0) in
+    changed ∙ changed_first change groups' made at place.0 place.1 ∙ ap (with_group change made) view
 
-pub changed_at : (change : Group → Group) (groups groups' : List Group) (made : Group) (name' : List ℕ) (found : Option ℕ) (i : ℕ) (d new : Group)
-    → found ≡ position (is_named name') groups' → name' ≡ made.name → groups' ≡ groups → found ≡ Some i → d ≡ get_or groups i d → new ≡ change d
-    → set groups i new ≡ with_group change made groups
-changed_at change groups groups' made name' found i d new call n g is item changed =
-    let at = at_place made.name groups i (found_in _ _ _ _ _ _ call n g is) in
-    ap (set groups i) changed ∙ set_first change groups made i d at.0 at.1 item
+-- one that was put behind the others
+pub put_last : (change : Group → Group) (made : Group) (groups groups' : List Group) (name : List ℕ) (spot : Spot) (key : String Global) (entry : Group) (new : List Group)
+    → IsSpot name groups' spot → name ≡ made.name → groups' ≡ groups → spot ≡ Free key → entry ≡ made → new ≡ groups' ++ entry ∷ [] → new ≡ with_group change made groups
+put_last change made groups groups' name spot key entry new found named view is same pushed =
+    let here : IsSpot name groups' (Free key) = subst (IsSpot name groups') is found in
+    let none = no_place made.name groups' (ap (λ (n : List ℕ). position (is_named n) groups') (sym named) ∙ here.0) in
+    pushed ∙ ap (λ (e : Group). groups' ++ e ∷ []) same ∙ push_last change groups' made none ∙ ap (with_group change made) view
 
-pub pushed_last : (change : Group → Group) (groups groups' : List Group) (made : Group) (name' : List ℕ) (found : Option ℕ) (new : Group)
-    → found ≡ position (is_named name') groups' → name' ≡ made.name → groups' ≡ groups → found ≡ None → new ≡ made
-    → groups ++ new ∷ [] ≡ with_group change made groups
-pushed_last change groups groups' made name' found new call n g is same =
-    ap (λ (x : Group). groups ++ x ∷ []) same ∙ push_last change groups made (no_place made.name groups (found_in _ _ _ _ _ _ call n g is))
+pub removed_there : (groups : List Group) (name : List ℕ) (at : ℕ) → position (is_named name) groups ≡ Some at → remove groups at ≡ removed groups name
+removed_there groups name at is = let place = at_place name groups at is in remove_first groups name at place.0 place.1
 
-pub removed_at : (groups groups' : List Group) (name : List ℕ) (found : Option ℕ) (i : ℕ) → found ≡ position (is_named name) groups' → groups' ≡ groups → found ≡ Some i
-    → remove groups i ≡ removed groups name
-removed_at groups groups' name found i call g is =
-    let at = at_place name groups i (found_in _ _ _ _ _ _ call refl g is) in remove_first groups name i at.0 at.1
-
-pub removed_none : (groups groups' : List Group) (name : List ℕ) (found : Option ℕ) → found ≡ position (is_named name) groups' → groups' ≡ groups → found ≡ None
-    → groups ≡ removed groups name
-removed_none groups groups' name found call g is = remove_none groups name (no_place name groups (found_in _ _ _ _ _ _ call refl g is))
+pub removed_none : (groups : List Group) (name : List ℕ) → position (is_named name) groups ≡ None → groups ≡ removed groups name
+removed_none groups name is = remove_none groups name (no_place name groups is)
 
 zero_lt_suc : (n : ℕ) → nat_lt 0 (suc n) ≡ true
 zero_lt_suc n = grind (arith, nat_tests)
@@ -128,8 +126,18 @@ some_cond : (t : Bool) (n : ℕ) → is_some (cond t (Some n) None) ≡ t
 some_cond true n = refl
 some_cond false n = refl
 
--- whether a look-up by place has found the group
-pub there_found : (groups groups' : List Group) (name name' : List ℕ) (found o : Option ℕ) → found ≡ position (is_named name') groups' → name' ≡ name → groups' ≡ groups → found ≡ o
-    → is_some o ≡ is_some (find (is_named name) groups)
-there_found groups groups' name name' found o call n g is =
-    ap is_some (sym (found_in name name' groups groups' found o call n g is)) ∙ some_cond _ _ ∙ sym (is_some-find name groups)
+-- whether a group is there, by its spot
+is_there : (groups : List Group) (name : List ℕ) (place : Option ℕ) → position (is_named name) groups ≡ place → is_some place ≡ is_some (find (is_named name) groups)
+is_there groups name place is = ap is_some (sym is) ∙ some_cond _ _ ∙ sym (is_some-find name groups)
+
+pub there_found : (groups groups' : List Group) (name name' : List ℕ) (spot : Spot) (at : ℕ) → IsSpot name' groups' spot → name' ≡ name → groups' ≡ groups → spot ≡ At at
+    → true ≡ is_some (find (is_named name) groups)
+there_found groups groups' name name' spot at found named view is =
+    let here : IsSpot name' groups' (At at) = subst (IsSpot name' groups') is found in
+    is_there groups name (Some at) (ap (λ (n : List ℕ). position (is_named n) groups) (sym named) ∙ ap (position (is_named name')) (sym view) ∙ here.0)
+
+pub none_found : (groups groups' : List Group) (name name' : List ℕ) (spot : Spot) (key : String Global) → IsSpot name' groups' spot → name' ≡ name → groups' ≡ groups → spot ≡ Free key
+    → false ≡ is_some (find (is_named name) groups)
+none_found groups groups' name name' spot key found named view is =
+    let here : IsSpot name' groups' (Free key) = subst (IsSpot name' groups') is found in
+    is_there groups name None (ap (λ (n : List ℕ). position (is_named n) groups) (sym named) ∙ ap (position (is_named name')) (sym view) ∙ here.0)

@@ -1,9 +1,15 @@
+pub mod AcceptReads
+pub mod Cuts
 pub mod Faults
 pub mod Groups
 pub mod Joins
+pub mod MediaParts
+pub mod MediaReads
+pub mod Kept
 pub mod Normal
 pub mod OriginLemmas
 pub mod Pages
 pub mod Pieces
 pub mod Outcomes
+pub mod Ranks
 pub mod RunLemmas

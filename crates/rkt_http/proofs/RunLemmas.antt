@@ -1,15 +1,17 @@
 -- Where a run of ASCII bytes ends, a text may be cut.
-use Rattle.std.proofs.Common.{◌≡◌, ℕ, zero, suc, ◌+◌, ◌<◌, ◌≤◌, Bool, true, false, ◌==◌, ◌||◌, nat_lt, add-one, append_assoc, length-append, ◌++◌, ◌-◌, Option, Some, None, if◌then◌else◌, List, [], ◌∷◌, length, take, drop, get_or, refl, sym, ◌∙◌, ap, subst, arith, lit<, codes, inl, inr, ◌⊎◌}
+use Rattle.std.proofs.Common.{◌≡◌, ℕ, zero, suc, ◌+◌, ◌<◌, ◌≤◌, Bool, true, false, ◌==◌, ◌||◌, nat_lt, add-one, length-append, ◌++◌, ◌-◌, Some, None, if◌then◌else◌, List, [], ◌∷◌, length, take, drop, get_or, refl, sym, ◌∙◌, ap, subst, arith, lit<, codes, inl, inr, ◌⊎◌}
 use Rattle.std.proofs.lemmas.Bool.{false≢true}
 use Rattle.std.proofs.lemmas.Bool.Decides.{nat_tests}
 use Rattle.std.proofs.lemmas.Str.{IsCharBoundary-start, IsCharBoundary-end, IsCharBoundary-after_ascii}
 use Rattle.std.specs.Str.{IsUtf8, IsCharBoundary}
-use Rattle.std.specs.List.{list_any, position_or_len}
+use Rattle.std.specs.List.{list_any}
 use Rattle.rkt_http.specs.Runs.{run, behind_run}
 use Rattle.rkt_http.specs.Origin.{is_alphanumeric}
-use Rattle.rkt_http.specs.MediaText.{is_token_byte, is_blank, behind_quoted, quote_step, is_quoted_byte, is_escapable, is_semicolon, is_equals, ValueThen, SemicolonThen, SpellsParameters}
-use Rattle.rkt_http.specs.Media.{Parameter}
-use Rattle.rkt_http.specs.Grammar.{behind_first}
+use Rattle.rkt_http.specs.ByteClass.{is_of}
+use Rattle.rkt_http.specs.MediaRests.{head_same, tail_same}
+use Rattle.rkt_http.specs.declared.byte_run.ByteClass.{ByteClass}
+use Rattle.rkt_http.specs.declared.byte_run.ByteClass.TheVariants.{Token, Blank, Gap}
+use Rattle.rkt_http.specs.MediaText.{is_token_byte, is_blank, behind_quoted, quote_step, is_quoted_byte, is_escapable, ValueThen, Exactly}
 use Rattle.std.proofs.Math.Seq.{drop-cons}
 
 either : (s t : Bool) → (s || t) ≡ true → (s ≡ true) ⊎ (t ≡ true)
@@ -41,6 +43,12 @@ token_ascii b e = elim (either (is_alphanumeric b) (list_any (λ c. c == b) (cod
   | inl letter ↦ letter_ascii b letter
   | inr mark ↦ some_ascii b (codes "!#$%&'*+-.^_`|~") (lit< tt, (lit< tt, (lit< tt, (lit< tt, (lit< tt, (lit< tt, (lit< tt, (lit< tt, (lit< tt, (lit< tt, (lit< tt, (lit< tt, (lit< tt, (lit< tt, (lit< tt, tt))))))))))))))) mark
 ]
+
+-- a run of a class is ASCII
+pub class_ascii : (class : ByteClass) (b : ℕ) → is_of class b ≡ true → b < 128
+class_ascii Token b e = token_ascii b e
+class_ascii Blank b e = blank_ascii b e
+class_ascii Gap b e = grind (arith, nat_tests, e)
 
 run_at : (test : ℕ → Bool) (xs : List ℕ) (n : ℕ) → n < length (run test xs) → test (get_or xs n 0) ≡ true
 run_at test [] n h = absurd (omega arith)
@@ -143,7 +151,7 @@ boundary-quoted inside n within closes utf8 = by_case (nat_lt n (length inside))
         let end : length (34 ∷ inside) ≡ n + 1 = omega arith in
         subst P end (IsCharBoundary-end (34 ∷ inside))
 
-cancel : (xs ys zs : List ℕ) → xs ++ zs ≡ ys ++ zs → xs ≡ ys
+pub cancel : (xs ys zs : List ℕ) → xs ++ zs ≡ ys ++ zs → xs ≡ ys
 cancel [] [] zs e = refl
 cancel [] (y ∷ ys) zs e = let long : length zs ≡ length (y ∷ (ys ++ zs)) = ap length e in absurd (omega (arith, length-append ys zs))
 cancel (x ∷ xs) [] zs e = let long : length (x ∷ (xs ++ zs)) ≡ length zs = ap length e in absurd (omega (arith, length-append xs zs))
@@ -160,89 +168,24 @@ take_drop (suc n) (x ∷ xs) = ap (λ (ys : List ℕ). x ∷ ys) (take_drop n xs
 no_mark_token : is_token_byte 34 ≡ false
 no_mark_token = refl
 
-tail_is : (a b : ℕ) (xs ys : List ℕ) → a ∷ xs ≡ b ∷ ys → xs ≡ ys
-tail_is a b xs ys e = cc
-
-head_is : (a b : ℕ) (xs ys : List ℕ) → a ∷ xs ≡ b ∷ ys → a ≡ b
-head_is a b xs ys e = cc
-
-along : (R : List ℕ → Type 0) (x y : List ℕ) → x ≡ y → R x → R y
-along R x y e h = subst R e h
-
 -- a value that is quoted, cut behind its closing mark
-pub value_quoted : (inside value : List ℕ) (ps : List Parameter) (n : ℕ) → ((more : List ℕ) → behind_quoted false inside ≡ Some more → more ≡ drop n inside)
-    → ValueThen (34 ∷ inside) value (SpellsParameters ps) → (take (n + 1) (34 ∷ inside) ≡ value) × SpellsParameters ps (drop (n + 1) (34 ∷ inside))
-value_quoted inside value ps n ends (inl token) = absurd (false≢true (sym no_mark_token ∙ token.starts))
-value_quoted inside value ps n ends (inr quoted) =
-    let more : quoted.more ≡ drop n inside = ends quoted.more (ap (behind_quoted false) (tail_is _ _ _ _ quoted.opened) ∙ quoted.closed) in
+pub value_quoted : (inside value more : List ℕ) (n : ℕ) → ((m : List ℕ) → behind_quoted false inside ≡ Some m → m ≡ drop n inside)
+    → ValueThen (34 ∷ inside) value (Exactly more) → (take (n + 1) (34 ∷ inside) ≡ value) × (drop (n + 1) (34 ∷ inside) ≡ more)
+value_quoted inside value more n ends (inl token) = absurd (false≢true (sym no_mark_token ∙ token.starts))
+value_quoted inside value more n ends (inr quoted) =
+    let left : quoted.more ≡ drop n inside = ends quoted.more (ap (behind_quoted false) (tail_same _ _ _ _ quoted.opened) ∙ quoted.closed) in
     let split : (34 ∷ take n inside) ++ drop n inside ≡ value ++ drop n inside =
-    ap (λ (xs : List ℕ). 34 ∷ xs) (take_drop n inside) ∙ quoted.is ∙ ap (λ (xs : List ℕ). value ++ xs) more in
-    rw (add-one n) (cancel (34 ∷ take n inside) value (drop n inside) split, along (SpellsParameters ps) _ _ more quoted.rest)
+    ap (λ (xs : List ℕ). 34 ∷ xs) (take_drop n inside) ∙ quoted.is ∙ ap (λ (xs : List ℕ). value ++ xs) left in
+    rw (add-one n) (cancel (34 ∷ take n inside) value (drop n inside) split, sym left ∙ quoted.rest)
 
 -- a value that is a token, cut where the token ends
-pub value_token : (bytes value : List ℕ) (ps : List Parameter) (first : ℕ) (inside : List ℕ) (n : ℕ) → bytes ≡ first ∷ inside → ¬ (first ≡ 34) → n ≡ length (run is_token_byte bytes)
-    → ValueThen bytes value (SpellsParameters ps) → (take n bytes ≡ value) × SpellsParameters ps (drop n bytes)
-value_token bytes value ps first inside n is other len (inl token) = (
+pub value_token : (bytes value more : List ℕ) (first : ℕ) (inside : List ℕ) (n : ℕ) → bytes ≡ first ∷ inside → ¬ (first ≡ 34) → n ≡ length (run is_token_byte bytes)
+    → ValueThen bytes value (Exactly more) → (take n bytes ≡ value) × (drop n bytes ≡ more)
+value_token bytes value more first inside n is other len (inl token) = (
   ap (λ (k : ℕ). take k bytes) len ∙ take-run is_token_byte bytes ∙ sym token.is,
-  along (SpellsParameters ps) _ _ (sym (ap (λ (k : ℕ). drop k bytes) len ∙ drop-run is_token_byte bytes)) token.rest,
+  ap (λ (k : ℕ). drop k bytes) len ∙ drop-run is_token_byte bytes ∙ token.rest,
 )
-value_token bytes value ps first inside n is other len (inr quoted) = absurd (other (head_is _ _ _ _ (sym is ∙ quoted.opened)))
-
-pub value_none : (bytes value : List ℕ) (ps : List Parameter) → length bytes ≡ 0 → ¬ ValueThen bytes value (SpellsParameters ps)
-value_none [] value ps is (inl token) = token.starts
-value_none [] value ps is (inr quoted) = cc quoted.opened
-value_none (b ∷ bs) value ps is h = absurd (omega arith)
-
-zero_lt_suc : (n : ℕ) → nat_lt 0 (suc n) ≡ true
-zero_lt_suc n = grind (arith, nat_tests)
-
-lt_suc : (m n : ℕ) → nat_lt (suc m) (suc n) ≡ nat_lt m n
-lt_suc m n = grind (arith, nat_tests)
-
-behind_at : List ℕ → ℕ → Option (List ℕ)
-behind_at text n = if nat_lt n (length text) then Some (drop (n + 1) text) else None
-
-behind_moved : (b : ℕ) (bs : List ℕ) (n : ℕ) → behind_at (b ∷ bs) (suc n) ≡ behind_at bs n
-unfolding behind_at
-behind_moved b bs n = rw (lt_suc n (length bs), add-one (suc n), add-one n) refl
-
-place_more : (test : ℕ → Bool) (b : ℕ) (bs : List ℕ) → test b ≡ false → position_or_len test (b ∷ bs) ≡ suc (position_or_len test bs)
-place_more test b bs is = rw is (omega arith)
-
-place_here : (test : ℕ → Bool) (b : ℕ) (bs : List ℕ) → test b ≡ true → position_or_len test (b ∷ bs) ≡ 0
-place_here test b bs is = rw is
-
-pub behind_first-more : (test : ℕ → Bool) (b : ℕ) (bs : List ℕ) → test b ≡ false → behind_first test (b ∷ bs) ≡ behind_first test bs
-unfolding behind_at
-behind_first-more test b bs is = ap (behind_at (b ∷ bs)) (place_more test b bs is) ∙ behind_moved b bs (position_or_len test bs)
-
-pub behind_first-here : (test : ℕ → Bool) (b : ℕ) (bs : List ℕ) → test b ≡ true → behind_first test (b ∷ bs) ≡ Some bs
-unfolding behind_at
-behind_first-here test b bs is = ap (behind_at (b ∷ bs)) (place_here test b bs is) ∙ rw (zero_lt_suc (length bs)) refl
-
-blank_no_semicolon : (b : ℕ) → is_blank b ≡ true → is_semicolon b ≡ false
-blank_no_semicolon b e = grind (arith, nat_tests, e)
-
--- behind blanks, the first semicolon is the one that comes next
-pub semicolon_found : (text behind : List ℕ) → behind_run is_blank text ≡ 59 ∷ behind → behind_first is_semicolon text ≡ Some behind
-semicolon_found [] behind e = absurd (cc e)
-semicolon_found (b ∷ bs) behind e = by_test (is_blank b) refl e (semicolon_found bs behind)
-  where
-    by_test : (t : Bool) → is_blank b ≡ t → (if t then behind_run is_blank bs else b ∷ bs) ≡ 59 ∷ behind → (behind_run is_blank bs ≡ 59 ∷ behind → behind_first is_semicolon bs ≡ Some behind)
-        → behind_first is_semicolon (b ∷ bs) ≡ Some behind
-    by_test true is e more = behind_first-more is_semicolon b bs (blank_no_semicolon b is) ∙ more e
-    by_test false is e more = behind_first-here is_semicolon b bs (ap is_semicolon (head_is _ _ _ _ e)) ∙ ap Some (tail_is _ _ _ _ e)
-
-pub equals_found : (text v : List ℕ) → text ≡ 61 ∷ v → behind_first is_equals text ≡ Some v
-equals_found text v e = ap (behind_first is_equals) e ∙ behind_first-here is_equals 61 v refl
-
-pub length-behind_first : (test : ℕ → Bool) (text behind : List ℕ) → behind_first test text ≡ Some behind → length behind < length text
-length-behind_first test [] behind e = absurd (cc e)
-length-behind_first test (b ∷ bs) behind e = by_test (test b) refl (length-behind_first test bs behind)
-  where
-    by_test : (t : Bool) → test b ≡ t → (behind_first test bs ≡ Some behind → length behind < length bs) → length behind < length (b ∷ bs)
-    by_test true is more = let same : Some bs ≡ Some behind = sym (behind_first-here test b bs is) ∙ e in let long : length bs ≡ length behind = ap length (cc same) in omega arith
-    by_test false is more = let h : length behind < length bs = more (sym (behind_first-more test b bs is) ∙ e) in omega arith
+value_token bytes value more first inside n is other len (inr quoted) = absurd (other (head_same _ _ _ _ (sym is ∙ quoted.opened)))
 
 pub length-behind_run : (test : ℕ → Bool) (text : List ℕ) → length (behind_run test text) ≤ length text
 length-behind_run test [] = omega arith
@@ -251,27 +194,3 @@ length-behind_run test (b ∷ bs) = by_test (test b) (length-behind_run test bs)
     by_test : (t : Bool) → length (behind_run test bs) ≤ length bs → length (if t then behind_run test bs else b ∷ bs) ≤ length (b ∷ bs)
     by_test true more = omega arith
     by_test false more = omega arith
-
--- one more parameter is read
-pub read_on : (items items' : List Parameter) (name value name' value' rest behind : List ℕ) → (rest ≡ [] → ⊥)
-    → ((p : Parameter) (ps : List Parameter) → SemicolonThen rest p (SpellsParameters ps) → (name ≡ p.0) × (value ≡ p.1) × SpellsParameters ps behind)
-    → name' ≡ name → value' ≡ value → items' ≡ items ++ (name', value') ∷ [] → (ps qs : List Parameter) → ps ≡ items ++ qs → SpellsParameters qs rest
-    → (x : List Parameter) × (ps ≡ items' ++ x) × SpellsParameters x behind
-read_on items items' name value name' value' rest behind some reads is_name is_value pushed ps [] e h = absurd (some h)
-read_on items items' name value name' value' rest behind some reads is_name is_value pushed ps (q ∷ qs) e h =
-    let r = reads q qs h in
-    let pair : (name', value') ≡ q = ap (λ (n : List ℕ). let p : Parameter = (n, value') in p) (is_name ∙ r.0) ∙ ap (λ (v : List ℕ). let p : Parameter = (q.0, v) in p) (is_value ∙ r.1) in (
-      qs,
-      e ∙ sym (ap (λ (xs : List Parameter). xs ++ qs) (pushed ∙ ap (λ (p : Parameter). items ++ p ∷ []) pair) ∙ append_assoc items (q ∷ []) qs),
-      r.2,
-    )
-
-append_nil : (xs : List Parameter) → xs ++ [] ≡ xs
-append_nil [] = refl
-append_nil (x ∷ xs) = ap (λ (ys : List Parameter). x ∷ ys) (append_nil xs)
-
--- no parameter is left
-pub all_read : (items : List Parameter) (rest : List ℕ) → ((p : Parameter) (ps : List Parameter) → SemicolonThen rest p (SpellsParameters ps) → ⊥)
-    → (ps qs : List Parameter) → ps ≡ items ++ qs → SpellsParameters qs rest → items ≡ ps
-all_read items rest none ps [] e h = sym (e ∙ append_nil items)
-all_read items rest none ps (q ∷ qs) e h = absurd (none q qs h)

@@ -45,6 +45,10 @@ Address Rest text = Many is_address_byte (Then 93 Rest) text
 abbrev pub End : List ℕ → Type 0
 End text = text ≡ []
 
+-- a host that may be empty, and maybe a port, and then the rest
+abbrev pub MaybeHost : (List ℕ → Type 0) → List ℕ → Type 0
+MaybeHost Rest text = Many is_name_byte (MaybePort Rest) text ⊎ Then 91 (Address (MaybePort Rest)) text
+
 -- the text is a host that is not empty, and maybe a port
 abbrev pub IsHost : List ℕ → Type 0
 IsHost text = Many1 is_name_byte (MaybePort End) text ⊎ Then 91 (Address (MaybePort End)) text
@@ -69,8 +73,14 @@ pub record Authority : Type 0 where
   pub domain : List ℕ
   pub port : Option ℕ
 
--- what a text says: an address goes as far as its closing bracket, and a name as far as the first colon
+-- an address goes as far as its closing bracket, and a name as far as the first colon
+abbrev pub domain_in : List ℕ → List ℕ
+domain_in text = if has_byte is_close text then before_first is_close text ++ 93 ∷ [] else before_first is_colon text
+
+-- the port is behind the address or the name
+abbrev pub port_behind : List ℕ → Option ℕ
+port_behind text = if has_byte is_close text then port_in (after_first is_close text) else port_in text
+
+-- what a text says
 abbrev pub authority_of : List ℕ → Authority
-authority_of text = if has_byte is_close text
-    then record { domain = before_first is_close text ++ 93 ∷ []; port = port_in (after_first is_close text) }
-    else record { domain = before_first is_colon text; port = port_in text }
+authority_of text = record { domain = domain_in text; port = port_behind text }

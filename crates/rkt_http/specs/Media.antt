@@ -27,6 +27,14 @@ media_text media = media.top ++ codes "/" ++ media.sub ++ flat_map parameter_tex
 abbrev pub is_kind : List ℕ → List ℕ → Media → Bool
 is_kind top sub media = str_eq_ignore_ascii_case media.top top && str_eq_ignore_ascii_case media.sub sub
 
+-- the two parameters have one name and one value, in any case
+abbrev pub same_parameter : Parameter → Parameter → Bool
+same_parameter p q = str_eq_ignore_ascii_case p.0 q.0 && str_eq_ignore_ascii_case p.1 q.1
+
+-- the two media types are the same in any case, with the same parameters in the same order
+abbrev pub same_media : Media → Media → Bool
+same_media m n = is_kind n.top n.sub m && pointwise same_parameter m.parameters n.parameters
+
 -- 1 unless the part is a star
 abbrev pub part_specificity : List ℕ → ℕ
 part_specificity part = if pointwise nat_eq part (codes "*") then 0 else 1

@@ -1,5 +1,5 @@
 -- The grammar of a media type (RFC 9110, 8.3.1 and 5.6).
-use Rattle.std.specs.Prelude.{ℕ, ◌≡◌, ◌⊎◌, List, [], ◌∷◌, ◌++◌, Bool, true, false, ◌==◌, ◌||◌, ◌&&◌, nat_le, not, codes, Option, Some, None, if◌then◌else◌}
+use Rattle.std.specs.Prelude.{ℕ, ◌≡◌, ◌≢◌, ◌⊎◌, ⊤, List, [], ◌∷◌, ◌++◌, Bool, true, false, ◌==◌, ◌||◌, ◌&&◌, nat_le, not, codes, Option, Some, None, if◌then◌else◌}
 use Rattle.std.specs.List.{list_any}
 use Rattle.rkt_http.specs.Origin.{is_alphanumeric}
 use Rattle.rkt_http.specs.Runs.{run, behind_run, Starts}
@@ -30,12 +30,6 @@ behind_quoted false (b ∷ bs) = if b == 34 then Some bs else (if b == 92 then b
 abbrev pub quote_step : Bool → ℕ → Option Bool
 quote_step true b = Some false
 quote_step false b = if b == 34 then None else Some (b == 92)
-
-abbrev pub is_semicolon : ℕ → Bool
-is_semicolon b = b == 59
-
-abbrev pub is_equals : ℕ → Bool
-is_equals b = b == 61
 
 -- a token, and then the rest
 pub record TokenThen (text token : List ℕ) (Rest : List ℕ → Type 0) : Type 0 where
@@ -70,14 +64,37 @@ ParameterThen text p Rest = TokenThen text p.0 (λ text. ByteThen 61 text (λ te
 abbrev pub SemicolonThen : List ℕ → Parameter → (List ℕ → Type 0) → Type 0
 SemicolonThen text p Rest = ByteThen 59 (behind_run is_blank text) (λ text. ParameterThen (behind_run is_blank text) p Rest)
 
--- these parameters, and no more
-abbrev pub SpellsParameters : List Parameter → List ℕ → Type 0
-SpellsParameters [] text = text ≡ []
-SpellsParameters (p ∷ ps) text = SemicolonThen text p (SpellsParameters ps)
+-- these parameters, and then the rest
+abbrev pub ParametersThen : List Parameter → (List ℕ → Type 0) → List ℕ → Type 0
+ParametersThen [] Rest text = Rest text
+ParametersThen (p ∷ ps) Rest text = SemicolonThen text p (ParametersThen ps Rest)
+
+-- this media type, and then the rest
+abbrev pub MediaThen : List ℕ → Media → (List ℕ → Type 0) → Type 0
+MediaThen text m Rest = TokenThen text m.top (λ text. ByteThen 47 text (λ text. TokenThen text m.sub (ParametersThen m.parameters Rest)))
+
+-- behind blanks no semicolon comes
+abbrev pub NoSemicolon : List ℕ → Type 0
+NoSemicolon text = (more : List ℕ) → behind_run is_blank text ≢ 59 ∷ more
+
+-- just this
+abbrev pub Exactly : List ℕ → List ℕ → Type 0
+Exactly more text = text ≡ more
 
 -- the text spells this media type
 abbrev pub SpellsMedia : List ℕ → Media → Type 0
-SpellsMedia text m = TokenThen text m.top (λ text. ByteThen 47 text (λ text. TokenThen text m.sub (SpellsParameters m.parameters)))
+SpellsMedia text m = MediaThen text m (Exactly [])
 
 abbrev pub IsMedia : List ℕ → Type 0
 IsMedia text = (m : Media) × SpellsMedia text m
+
+-- each of these parameters is spelled by its name and its value as they stand
+abbrev pub AreSpelled : List Parameter → Type 0
+AreSpelled [] = ⊤
+AreSpelled (p ∷ ps) = (TokenThen p.0 p.0 (Exactly []) × ValueThen p.1 p.1 (Exactly [])) × AreSpelled ps
+
+-- the parts of a media type are spelled as they stand
+pub record IsSpelled (m : Media) : Type 0 where
+  pub top : TokenThen m.top m.top (Exactly [])
+  pub sub : TokenThen m.sub m.sub (Exactly [])
+  pub parameters : AreSpelled m.parameters

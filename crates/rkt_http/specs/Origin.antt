@@ -62,6 +62,10 @@ query_in text = behind_first is_question text
 abbrev pub target_of : List ℕ → Target
 target_of text = record { path = before_first is_question text; query = query_in text }
 
+-- a text says what it spells, so it spells one origin at most
+abbrev pub SaysWhatItSpells : Type 0
+SaysWhatItSpells = (profile : Profile) (text : List ℕ) (target : Target) → Spells profile text target → target_of text ≡ target
+
 abbrev pub is_slash : ℕ → Bool
 is_slash b = b == 47
 

@@ -66,7 +66,7 @@ behind_slash profile b rest o = record {
   spelled = tail_same _ _ _ _ (with_slash profile _ o);
 }
 
-from_start : (profile : Profile) (b : ℕ) (rest : List ℕ) (t : Bool) → (b == 47) ≡ t
+pub from_start : (profile : Profile) (b : ℕ) (rest : List ℕ) (t : Bool) → (b == 47) ≡ t
     → MatchOption (if t then Some (InPath profile) else None) (¬ IsOrigin profile (b ∷ rest)) (λ next. rest_of next rest ↔ IsOrigin profile (b ∷ rest))
 from_start profile b rest true is = (opened profile b rest (equal b 47 is), behind_slash profile b rest)
 from_start profile b rest false is = λ o. differ b 47 is (head_same _ _ _ _ (with_slash profile _ o))

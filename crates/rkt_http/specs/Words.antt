@@ -15,3 +15,8 @@ Many test Rest (c ∷ cs) = Rest (c ∷ cs) ⊎ ((test c ≡ true) × Many test 
 abbrev pub Many1 : (ℕ → Bool) → (List ℕ → Type 0) → List ℕ → Type 0
 Many1 test Rest [] = ⊥
 Many1 test Rest (c ∷ cs) = (test c ≡ true) × Many test Rest cs
+
+-- one byte that passes the test, and then the rest
+abbrev pub One : (ℕ → Bool) → (List ℕ → Type 0) → List ℕ → Type 0
+One test Rest [] = ⊥
+One test Rest (c ∷ cs) = (test c ≡ true) × Rest cs

@@ -77,6 +77,15 @@ impl ContentType {
         })
     }
 
+    /// A copy, by an allocator that is handed in.
+    pub fn try_clone(&self, alloc: Global) -> Result<ContentType, NoMemory>
+        ensures { IfOk result (λ t. t ≡ self.now) }
+    {
+        Ok(ContentType {
+            media_type: self.media_type.try_clone(alloc)?,
+        })
+    }
+
     pub fn media_type(&self) -> &MediaType
         ensures { result.now ≡ self.now }
     {
@@ -93,9 +102,31 @@ impl ContentType {
 
     /// The header of this content type.
     pub fn header(&self, alloc: Global) -> Result<Header, NoMemory>
-        ensures { IfOk result (λ h. h ≡ record { name = codes "Content-Type"; value = media_text self.now }) }
+        ensures header { IfOk result (λ h. h ≡ record { name = codes "Content-Type"; value = media_text self.now }) }
+        // The header's value is read again as the same content type.
+        ensures read_again { IfOk result (λ h. SpellsMedia h.value self.now) }
     {
         let text = self.media_type.to_text(alloc)?;
         Header::new(alloc, "Content-Type", text.as_str())
     }
+}
+
+impl PartialEq for ContentType {
+    ghost use Rattle.std.specs.Cmp.{partial_equiv_from_equiv};
+    ghost use Rattle.rkt_http.specs.Media.{same_media};
+    ghost use Rattle.rkt_http.specs.MediaEquality.{same_media_equiv};
+
+    ghost eq = { same_media };
+
+    ghost laws = { partial_equiv_from_equiv same_media_equiv };
+
+    fn eq(&self, other: &ContentType) -> bool {
+        self.media_type == other.media_type
+    }
+}
+
+impl Eq for ContentType {
+    ghost use Rattle.rkt_http.specs.MediaEquality.{same_media_equiv};
+
+    ghost laws = { same_media_equiv };
 }

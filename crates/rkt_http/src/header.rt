@@ -42,6 +42,16 @@ impl Header {
         self.value.as_str()
     }
 
+    /// The same header, in texts of its own.
+    pub fn try_clone(&self, alloc: Global) -> Result<Header, NoMemory>
+        ensures { IfOk result (λ h. h ≡ self.now) }
+    {
+        Ok(Header {
+            name: self.name.try_clone(alloc)?,
+            value: self.value.try_clone(alloc)?,
+        })
+    }
+
     /// The name and the value, which takes no memory.
     pub(crate) fn into_parts(self) -> (Uncased, Text)
         ensures name { result.0 ≡ self.name }

@@ -1,7 +1,7 @@
 ghost use Rattle.std.specs.Prelude.{◌≡◌, ◌∷◌, ◌++◌, [], List, ℕ, map, length};
 ghost use Rattle.rkt_http.specs.Headers.{Field, Group, fields_of};
 
-use crate::header_map::Entry;
+use crate::header_entry::Entry;
 use rkt_base::Text;
 use std::marker::Model;
 

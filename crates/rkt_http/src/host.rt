@@ -1,8 +1,8 @@
 ghost use Rattle.std.specs.Prelude.{◌≡◌, IfOk, option_copied};
-ghost use Rattle.std.specs.List.{before_first, after_first};
+ghost use Rattle.std.specs.List.{before_first};
 ghost use Rattle.rkt_base.specs.Want.{IfRefused, GivesUnlessNoMemory};
 ghost use Rattle.rkt_http.specs.Grammar.{LeavesAt};
-ghost use Rattle.rkt_http.specs.Host.{IsHost, authority_of, is_colon, port_on, port_in};
+ghost use Rattle.rkt_http.specs.Host.{IsHost, authority_of, domain_in, port_behind, is_colon, port_on, port_in};
 
 use crate::grammar::first_fault;
 use crate::host_place::{HostPlace, more_port};
@@ -50,34 +50,44 @@ fn port_of_text(text: &str) -> Option<u16>
     }
 }
 
-fn read_name(alloc: Global, text: &str) -> Result<Host, NoMemory>
-    ensures { IfOk result (λ h. h ≡ record { domain = before_first is_colon text.now; port = port_in text.now }) }
+/// What stands before the first colon.
+pub(crate) fn before_colon(text: &str) -> &str
+    ensures { result.now ≡ before_first is_colon text.now }
 {
-    let domain = match text.split_once(':') {
-        Some((name, _)) => name,
+    match text.split_once(':') {
+        Some((front, _)) => front,
         None => text,
-    };
-    Ok(Host {
-        domain: Text::new(alloc, domain)?,
-        port: port_of_text(text),
-    })
+    }
+}
+
+/// A name, or an address with its brackets.
+pub(crate) fn domain_of_text(text: &str) -> &str
+    ensures { result.now ≡ domain_in text.now }
+{
+    match text.find(']') {
+        Some(at) => &text[..at + 1],
+        None => before_colon(text),
+    }
+}
+
+/// The port behind it.
+pub(crate) fn port_of_authority(text: &str) -> Option<u16>
+    ensures { result ≡ port_behind text.now }
+{
+    match text.split_once(']') {
+        Some((_, behind)) => port_of_text(behind),
+        None => port_of_text(text),
+    }
 }
 
 /// What a text says as a host.
 fn read(alloc: Global, text: &str) -> Result<Host, NoMemory>
     ensures { IfOk result (λ h. h ≡ authority_of text.now) }
 {
-    match text.split_once(']') {
-        Some((front, behind)) => {
-            let mut domain = Text::new(alloc, front)?;
-            domain.push_str("]")?;
-            Ok(Host {
-                domain,
-                port: port_of_text(behind),
-            })
-        }
-        None => read_name(alloc, text),
-    }
+    Ok(Host {
+        domain: Text::new(alloc, domain_of_text(text))?,
+        port: port_of_authority(text),
+    })
 }
 
 impl Host {
@@ -106,5 +116,15 @@ impl Host {
         ensures { result ≡ self.now.port }
     {
         self.port
+    }
+
+    /// The same host, in a text of its own.
+    pub fn try_clone(&self, alloc: Global) -> Result<Host, NoMemory>
+        ensures { IfOk result (λ h. h ≡ self.now) }
+    {
+        Ok(Host {
+            domain: self.domain.try_clone(alloc)?,
+            port: self.port,
+        })
     }
 }

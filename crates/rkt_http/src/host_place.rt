@@ -8,6 +8,8 @@ use crate::grammar::Place;
 #[derive(Clone, Copy)]
 pub(crate) enum HostPlace {
     Start,
+    /// Before a host that may be empty.
+    MaybeEmpty,
     Name,
     Address,
     Closed,
@@ -60,10 +62,11 @@ impl Place for HostPlace {
 
     fn after(self, byte: u8) -> Option<HostPlace> {
         match self {
-            HostPlace::Start if byte == b'[' => Some(HostPlace::Address),
-            HostPlace::Start if is_name(byte) => Some(HostPlace::Name),
-            HostPlace::Name if byte == b':' => Some(HostPlace::Colon),
-            HostPlace::Name if is_name(byte) => Some(HostPlace::Name),
+            HostPlace::Start | HostPlace::MaybeEmpty if byte == b'[' => Some(HostPlace::Address),
+            HostPlace::MaybeEmpty | HostPlace::Name if byte == b':' => Some(HostPlace::Colon),
+            HostPlace::Start | HostPlace::MaybeEmpty | HostPlace::Name if is_name(byte) => {
+                Some(HostPlace::Name)
+            }
             HostPlace::Address if byte == b']' => Some(HostPlace::Closed),
             HostPlace::Address if is_address(byte) => Some(HostPlace::Address),
             HostPlace::Closed if byte == b':' => Some(HostPlace::Colon),
@@ -76,7 +79,7 @@ impl Place for HostPlace {
     fn can_end(self) -> bool {
         matches!(
             self,
-            HostPlace::Name | HostPlace::Closed | HostPlace::Port(_)
+            HostPlace::MaybeEmpty | HostPlace::Name | HostPlace::Closed | HostPlace::Port(_)
         )
     }
 

@@ -45,7 +45,7 @@ pub(crate) fn can_quote(byte: u8) -> bool
     can_escape(byte) && byte != b'"' && byte != b'\\'
 }
 
-fn behind_value(byte: u8) -> Option<MediaPlace>
+pub(crate) fn behind_value(byte: u8) -> Option<MediaPlace>
     ensures { result ≡ after_value byte }
 {
     if is_space(byte) {

@@ -1,50 +1,27 @@
 //! The parts of a media type's text.
 
-ghost use Rattle.std.specs.Prelude.{◌≡◌, ◌<◌, ◌≤◌, ◌-◌, List, ℕ, [], false, Some, length, take, drop, slice_index, option_copied, IsNone, IfSome, IsSomeAnd, IfOk};
+ghost use Rattle.std.specs.Prelude.{◌≡◌, ◌≢◌, ◌∷◌, ◌<◌, ◌≤◌, ◌-◌, List, ℕ, [], false, Some, length, take, drop, slice_index, IsNone, IfSome, IsSomeAnd, IfOk, MatchOption};
 ghost use Rattle.std.specs.Str.{IsUtf8, IsCharBoundary};
-ghost use Rattle.rkt_http.specs.Grammar.{behind_first};
 ghost use Rattle.rkt_http.specs.Runs.{run, behind_run};
 ghost use Rattle.rkt_http.specs.Media.{Media, Parameter};
-ghost use Rattle.rkt_http.specs.MediaText.{is_token_byte, is_blank, behind_quoted, quote_step, is_semicolon, is_equals, ValueThen, SemicolonThen, SpellsParameters};
+ghost use Rattle.rkt_http.specs.MediaText.{is_token_byte, is_blank, behind_quoted, quote_step, ValueThen, SemicolonThen, ParametersThen, MediaThen, Exactly, NoSemicolon};
 
-use crate::media_place::{is_space, is_token};
+use crate::byte_run::{ByteClass, run_cut, run_len};
 use rkt_base::{NoMemory, Text};
 use std::alloc::Global;
 
-fn token_len(bytes: &[u8]) -> usize
-    ensures { result ≡ length (run is_token_byte bytes.now) }
-{
-    for (at, byte) in bytes.iter().enumerate() {
-        if !is_token(*byte) {
-            return at;
-        }
-    }
-    bytes.len()
-}
-
-fn blank_len(bytes: &[u8]) -> usize
-    ensures { result ≡ length (run is_blank bytes.now) }
-{
-    for (at, byte) in bytes.iter().enumerate() {
-        if !is_space(*byte) {
-            return at;
-        }
-    }
-    bytes.len()
-}
-
 /// The token that a text begins with, and the rest.
-pub(crate) fn token_cut(text: &str) -> (&str, &str)
+fn token_cut(text: &str) -> (&str, &str)
     ensures token { result.0.now ≡ run is_token_byte text.now }
     ensures rest { result.1.now ≡ behind_run is_token_byte text.now }
 {
-    text.split_at(token_len(text.as_bytes()))
+    run_cut(ByteClass::Token, text)
 }
 
 fn skip_blanks(text: &str) -> &str
     ensures { result.now ≡ behind_run is_blank text.now }
 {
-    text.split_at(blank_len(text.as_bytes())).1
+    run_cut(ByteClass::Blank, text).1
 }
 
 /// Whether a byte stands behind a backslash, one byte on in a quoted string; nothing at the closing mark.
@@ -79,70 +56,61 @@ fn quoted_len(inside: &[u8]) -> usize
 /// How long the value is that bytes begin with.
 fn value_len(bytes: &[u8]) -> usize
     ensures boundary { IsUtf8 bytes.now → IsCharBoundary bytes.now result }
-    ensures value { (value : List ℕ) (ps : List Parameter) → ValueThen bytes.now value (SpellsParameters ps) →
-        (take result bytes.now ≡ value) × SpellsParameters ps (drop result bytes.now) }
+    ensures value { (value more : List ℕ) → ValueThen bytes.now value (Exactly more) →
+        (take result bytes.now ≡ value) × (drop result bytes.now ≡ more) }
 {
     let Some((first, inside)) = bytes.split_first() else {
         return 0;
     };
     if *first != b'"' {
-        return token_len(bytes);
+        return run_len(ByteClass::Token, bytes);
     }
     quoted_len(inside) + 1
 }
 
 /// The value that a text begins with, and the rest.
 fn value_cut(text: &str) -> (&str, &str)
-    ensures value { (value : List ℕ) (ps : List Parameter) → ValueThen text.now value (SpellsParameters ps) →
-        (result.0.now ≡ value) × SpellsParameters ps result.1.now }
+    ensures value { (value more : List ℕ) → ValueThen text.now value (Exactly more) →
+        (result.0.now ≡ value) × (result.1.now ≡ more) }
     ensures shorter { length result.1.now ≤ length text.now }
 {
     text.split_at(value_len(text.as_bytes()))
 }
 
-fn behind_semicolon(text: &str) -> Option<&str>
-    ensures { option_copied result ≡ behind_first is_semicolon text.now }
+/// What follows a mark that a text begins with.
+fn behind_mark(text: &str, mark: char) -> Option<&str>
+    requires { mark < 128 }
+    ensures { MatchOption result ((rest : List ℕ) → text.now ≢ mark ∷ rest) (λ x. text.now ≡ mark ∷ x.now) }
 {
-    match text.split_once(';') {
-        Some((_, behind)) => Some(behind),
-        None => None,
-    }
-}
-
-fn behind_equals(text: &str) -> Option<&str>
-    ensures { option_copied result ≡ behind_first is_equals text.now }
-{
-    match text.split_once('=') {
-        Some((_, behind)) => Some(behind),
-        None => None,
-    }
+    text.strip_prefix(mark)
 }
 
 /// The first parameter's name and value, and the rest.
-fn parameter_cut(text: &str) -> Option<(&str, &str, &str)>
-    ensures reads { (p : Parameter) (ps : List Parameter) → SemicolonThen text.now p (SpellsParameters ps) →
-        IsSomeAnd result (λ x. (x.0.now ≡ p.0) × (x.1.now ≡ p.1) × SpellsParameters ps x.2.now) }
-    ensures none { text.now ≡ [] → IsNone result }
+pub(crate) fn parameter_cut(text: &str) -> Option<(&str, &str, &str)>
+    ensures reads { (p : Parameter) (more : List ℕ) → SemicolonThen text.now p (Exactly more) →
+        IsSomeAnd result (λ x. (x.0.now ≡ p.0) × (x.1.now ≡ p.1) × (x.2.now ≡ more)) }
+    ensures none { NoSemicolon text.now → IsNone result }
     ensures shorter { IfSome result (λ x. length x.2.now < length text.now) }
 {
-    match behind_semicolon(text) {
-        Some(behind) => {
-            let (name, behind) = token_cut(skip_blanks(behind));
-            match behind_equals(behind) {
-                Some(behind) => {
-                    let (value, rest) = value_cut(behind);
-                    Some((name, value, rest))
-                }
-                None => None,
-            }
-        }
-        None => None,
-    }
+    let behind = behind_mark(skip_blanks(text), ';')?;
+    let (name, behind) = token_cut(skip_blanks(behind));
+    let (value, rest) = value_cut(behind_mark(behind, '=')?);
+    Some((name, value, rest))
+}
+
+/// The type, the subtype, and what is behind them.
+pub(crate) fn kind_cut(text: &str) -> (&str, &str, &str)
+    ensures { (m : Media) (more : List ℕ) → MediaThen text.now m (Exactly more) →
+        (result.0.now ≡ m.top) × (result.1.now ≡ m.sub) × ParametersThen m.parameters (Exactly more) result.2.now }
+{
+    let (top, behind) = token_cut(text);
+    let (sub, rest) = token_cut(behind_mark(behind, '/').unwrap_or(""));
+    (top, sub, rest)
 }
 
 /// The parameters that a text spells.
 pub(crate) fn read_parameters(alloc: Global, text: &str) -> Result<Vec<(Text, Text)>, NoMemory>
-    ensures { (ps : List Parameter) → SpellsParameters ps text.now → IfOk result (λ v. v.items ≡ ps) }
+    ensures { (ps : List Parameter) → ParametersThen ps (Exactly []) text.now → IfOk result (λ v. v.items ≡ ps) }
 {
     let mut parameters = Vec::new(alloc);
     let mut rest = text;

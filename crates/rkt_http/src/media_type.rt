@@ -1,13 +1,13 @@
 ghost use Rattle.std.specs.Prelude.{◌≡◌, ◌∷◌, ◌++◌, [], IfOk, codes, length, flat_map};
+ghost use Rattle.std.specs.Cmp.Lexicographic.{pointwise};
 ghost use Rattle.rkt_base.specs.Want.{IfRefused, GivesUnlessNoMemory};
 ghost use Rattle.rkt_http.specs.Grammar.{LeavesAt};
-ghost use Rattle.rkt_http.specs.MediaText.{SpellsMedia, IsMedia};
-ghost use Rattle.rkt_http.specs.Media.{Media, media_text, parameter_text, is_kind, bare, utf8_text, part_specificity, specificity_of};
+ghost use Rattle.rkt_http.specs.MediaText.{SpellsMedia, IsMedia, IsSpelled};
+ghost use Rattle.rkt_http.specs.Media.{Media, media_text, parameter_text, is_kind, bare, utf8_text, part_specificity, specificity_of, same_parameter, same_media};
 
 use crate::grammar::first_fault;
 use crate::media_place::MediaPlace;
-use crate::media_read::{read_parameters, token_cut};
-use crate::origin_iter::behind_slash;
+use crate::media_read::{kind_cut, read_parameters};
 use rkt_base::{NoMemory, Text, Want};
 use std::alloc::Global;
 use std::marker::Model;
@@ -23,10 +23,14 @@ pub struct MediaType {
 
 impl Model for MediaType {
     ghost use Rattle.rkt_http.specs.Media.{Media};
+    ghost use Rattle.rkt_http.specs.MediaText.{IsSpelled};
 
     ghost Value = { Media };
 
     ghost view = { λ m. record { top = m.top; sub = m.sub; parameters = m.parameters.items } };
+
+    // Known types too are what a text of the grammar spells.
+    ghost invariant = { λ m. IsSpelled (record { top = m.top; sub = m.sub; parameters = m.parameters.items }) };
 }
 
 /// Where a text leaves the grammar of media types: the place of the first such byte, or the text's length.
@@ -38,15 +42,46 @@ pub struct InvalidMedia {
 
 /// The media type that a text spells.
 fn read(alloc: Global, text: &str) -> Result<MediaType, NoMemory>
+    requires { IsMedia text.now }
     ensures { (m : Media) → SpellsMedia text.now m → IfOk result (λ r. r ≡ m) }
 {
-    let (top, behind) = token_cut(text);
-    let (sub, behind) = token_cut(behind_slash(behind));
-    Ok(MediaType {
-        top: Text::new(alloc, top)?,
-        sub: Text::new(alloc, sub)?,
-        parameters: read_parameters(alloc, behind)?,
-    })
+    let (top, sub, behind) = kind_cut(text);
+    let parameters = read_parameters(alloc, behind)?;
+    MediaType::from_parts(alloc, top, sub, parameters)
+}
+
+fn copy_parameters(
+    alloc: Global,
+    parameters: &[(Text, Text)],
+) -> Result<Vec<(Text, Text)>, NoMemory>
+    ensures { IfOk result (λ v. v.items ≡ parameters.now) }
+{
+    let mut copy = Vec::new(alloc);
+    for (name, value) in parameters {
+        copy.push((name.try_clone(alloc)?, value.try_clone(alloc)?))?;
+    }
+    Ok(copy)
+}
+
+fn same_parameter(one: &(Text, Text), other: &(Text, Text)) -> bool
+    ensures { result ≡ same_parameter one.now other.now }
+{
+    one.0.as_str().eq_ignore_ascii_case(other.0.as_str())
+        && one.1.as_str().eq_ignore_ascii_case(other.1.as_str())
+}
+
+fn same_parameters(ones: &[(Text, Text)], others: &[(Text, Text)]) -> bool
+    ensures { result ≡ pointwise same_parameter ones.now others.now }
+{
+    if ones.len() != others.len() {
+        return false;
+    }
+    for (at, one) in ones.iter().enumerate() {
+        if !same_parameter(one, &others[at]) {
+            return false;
+        }
+    }
+    true
 }
 
 fn specificity_of_part(part: &str) -> u8
@@ -68,6 +103,14 @@ impl MediaType {
             Some(at) => Err(Want::Refused(InvalidMedia { at })),
             None => Ok(read(alloc, text)?),
         }
+    }
+
+    /// A copy, by an allocator that is handed in.
+    pub fn try_clone(&self, alloc: Global) -> Result<MediaType, NoMemory>
+        ensures { IfOk result (λ m. m ≡ self.now) }
+    {
+        let parameters = copy_parameters(alloc, self.parameters.as_slice())?;
+        MediaType::from_parts(alloc, self.top(), self.sub(), parameters)
     }
 
     /// The type.
@@ -104,9 +147,18 @@ impl MediaType {
         self.top().eq_ignore_ascii_case(top) && self.sub().eq_ignore_ascii_case(sub)
     }
 
+    /// How many parameters it has.
+    pub(crate) fn parameter_count(&self) -> usize
+        ensures { result ≡ length self.now.parameters }
+    {
+        self.parameters.len()
+    }
+
     /// The text of the media type, with `; ` before each parameter.
     pub fn to_text(&self, alloc: Global) -> Result<Text, NoMemory>
-        ensures { IfOk result (λ text. text ≡ media_text self.now) }
+        ensures text { IfOk result (λ text. text ≡ media_text self.now) }
+        // What is printed is read again as the same media type.
+        ensures read_again { IfOk result (λ text. SpellsMedia text self.now) }
     {
         let mut text = Text::new(alloc, self.top())?;
         text.push_str("/")?;
@@ -120,25 +172,56 @@ impl MediaType {
         Ok(text)
     }
 
-    pub(crate) fn bare(alloc: Global, top: &str, sub: &str) -> Result<MediaType, NoMemory>
-        ensures { IfOk result (λ media. media ≡ bare top.now sub.now) }
+    pub(crate) fn from_parts(
+        alloc: Global,
+        top: &str,
+        sub: &str,
+        parameters: Vec<(Text, Text)>,
+    ) -> Result<MediaType, NoMemory>
+        requires { IsSpelled (record { top = top.now; sub = sub.now; parameters = parameters.items }) }
+        ensures { IfOk result (λ m. m ≡ record { top = top.now; sub = sub.now; parameters = parameters.items }) }
     {
         Ok(MediaType {
             top: Text::new(alloc, top)?,
             sub: Text::new(alloc, sub)?,
-            parameters: Vec::new(alloc),
+            parameters,
         })
     }
 
+    pub(crate) fn bare(alloc: Global, top: &str, sub: &str) -> Result<MediaType, NoMemory>
+        requires { IsSpelled (bare top.now sub.now) }
+        ensures { IfOk result (λ media. media ≡ bare top.now sub.now) }
+    {
+        MediaType::from_parts(alloc, top, sub, Vec::new(alloc))
+    }
+
     pub(crate) fn utf8_text(alloc: Global, sub: &str) -> Result<MediaType, NoMemory>
+        requires { IsSpelled (utf8_text sub.now) }
         ensures { IfOk result (λ media. media ≡ utf8_text sub.now) }
     {
         let mut parameters = Vec::new(alloc);
         parameters.push((Text::new(alloc, "charset")?, Text::new(alloc, "utf-8")?))?;
-        Ok(MediaType {
-            top: Text::new(alloc, "text")?,
-            sub: Text::new(alloc, sub)?,
-            parameters,
-        })
+        MediaType::from_parts(alloc, "text", sub, parameters)
     }
+}
+
+impl PartialEq for MediaType {
+    ghost use Rattle.std.specs.Cmp.{partial_equiv_from_equiv};
+    ghost use Rattle.rkt_http.specs.Media.{same_media};
+    ghost use Rattle.rkt_http.specs.MediaEquality.{same_media_equiv};
+
+    ghost eq = { same_media };
+
+    ghost laws = { partial_equiv_from_equiv same_media_equiv };
+
+    fn eq(&self, other: &MediaType) -> bool {
+        self.is_kind(other.top(), other.sub())
+            && same_parameters(self.parameters.as_slice(), other.parameters.as_slice())
+    }
+}
+
+impl Eq for MediaType {
+    ghost use Rattle.rkt_http.specs.MediaEquality.{same_media_equiv};
+
+    ghost laws = { same_media_equiv };
 }

@@ -4,6 +4,7 @@ ghost use Rattle.rkt_base.specs.Want.{IfRefused, GivesUnlessNoMemory};
 ghost use Rattle.rkt_http.specs.Grammar.{LeavesAt, behind_first};
 ghost use Rattle.rkt_http.specs.Origin.{Target, Spells, IsOrigin, spelling, decoded, decoded_field_part, unplus, field_of, pieces, raw_segments_of, segments_of, fields_of, target_of, is_question, query_in, led, normal_form, normalized, is_ampersand};
 
+use crate::copies::{copy_pairs, copy_texts};
 use crate::grammar::first_fault;
 use crate::origin_iter::{QueryFields, RawSegments};
 use crate::origin_place::{OriginPlace, Profile};
@@ -100,7 +101,7 @@ fn read_fields(alloc: Global, query: &str) -> Result<Vec<(Text, Text)>, NoMemory
     Ok(fields)
 }
 
-fn path_of_text(text: &str) -> &str
+pub(crate) fn path_of_text(text: &str) -> &str
     ensures { result.now ≡ before_first is_question text.now }
 {
     match text.split_once('?') {
@@ -212,6 +213,17 @@ impl Origin {
         ensures refused { IfRefused result (λ e. LeavesAt (IsOrigin Profile.Route) text.now e.at) }
     {
         parse_as(Profile::Route, alloc, text)
+    }
+
+    /// The same origin, in texts of its own.
+    pub fn try_clone(&self, alloc: Global) -> Result<Origin, NoMemory>
+        ensures { IfOk result (λ o. o ≡ self.now) }
+    {
+        Ok(Origin {
+            text: self.text.try_clone(alloc)?,
+            segments: Seq::from_vec(copy_texts(alloc, self.segments.as_slice())?),
+            fields: copy_pairs(alloc, self.fields.as_slice())?,
+        })
     }
 
     pub fn as_str(&self) -> &str

@@ -6,7 +6,7 @@ use rkt_base::Text;
 use std::marker::Model;
 
 /// What stands before the first slash.
-fn before_slash(text: &str) -> &str
+pub(crate) fn before_slash(text: &str) -> &str
     ensures { result.now ≡ before_first is_slash text.now }
 {
     match text.split_once('/') {

@@ -5,7 +5,7 @@ ghost use Rattle.rkt_http.specs.Reference.{is_reference_byte, IsReference};
 
 use crate::grammar::{Place, first_fault};
 use crate::origin::InvalidUri;
-use rkt_base::{Text, Want};
+use rkt_base::{NoMemory, Text, Want};
 use std::alloc::Global;
 use std::marker::Model;
 
@@ -80,5 +80,14 @@ impl Reference {
         ensures { result.now ≡ self.now }
     {
         self.text.as_str()
+    }
+
+    /// The same, in a text of its own.
+    pub fn try_clone(&self, alloc: Global) -> Result<Reference, NoMemory>
+        ensures { IfOk result (λ r. r ≡ self.now) }
+    {
+        Ok(Reference {
+            text: self.text.try_clone(alloc)?,
+        })
     }
 }

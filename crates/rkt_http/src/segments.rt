@@ -21,7 +21,8 @@ impl<'a> Model for Segments<'a> {
 }
 
 impl<'a> Segments<'a> {
-    pub(crate) fn new(items: &'a [Text]) -> Segments<'a>
+    /// Segments that are decoded already.
+    pub fn new(items: &'a [Text]) -> Segments<'a>
         ensures { result ≡ items.entry.now }
     {
         Segments { items }

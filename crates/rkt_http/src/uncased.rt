@@ -25,6 +25,15 @@ impl Uncased {
         })
     }
 
+    /// The same, in a text of its own.
+    pub fn try_clone(&self, alloc: Global) -> Result<Uncased, NoMemory>
+        ensures { IfOk result (λ u. u ≡ self.now) }
+    {
+        Ok(Uncased {
+            text: self.text.try_clone(alloc)?,
+        })
+    }
+
     /// The text in its own case.
     pub fn as_str(&self) -> &str
         ensures { result.now ≡ self.now }

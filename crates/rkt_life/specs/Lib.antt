@@ -1,5 +1,6 @@
+pub mod Ended
+pub mod HandsBack
 pub mod Lifecycle
-pub mod Request
-pub mod Requested
 pub mod Response
+pub mod Rocket
 pub mod Routes

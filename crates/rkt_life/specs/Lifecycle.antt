@@ -1,13 +1,17 @@
 -- One exchange, from what is asked to the response.
-use Rattle.std.specs.Prelude.{◌≡◌, ◌⊎◌, ℕ, List, [], ◌∷◌, Some, slice_get}
+use Rattle.std.specs.Prelude.{◌≡◌, ℕ, List, [], ◌∷◌, Some, slice_get}
+use Rattle.rkt_cookie.specs.Jar.{JarParts}
 use Rattle.rkt_http.specs.Origin.{Target}
-use Rattle.rkt_life.specs.Request.{IsRequest, IsBad}
-use Rattle.rkt_life.specs.Requested.{Requested}
+use Rattle.rkt_request.specs.Incoming.{IsIncoming}
+use Rattle.rkt_request.specs.Seen.{Seen}
+use Rattle.rkt_request.specs.declared.bad.Bad.{Bad}
+use Rattle.rkt_request.specs.declared.head.Head.{Head}
 use Rattle.rkt_life.specs.Response.{default_page, text_page}
+use Rattle.rkt_life.specs.Rocket.{SeenTables}
 use Rattle.rkt_life.specs.Routes.{tries}
-use Rattle.rkt_life.specs.declared.request.Head.{Head}
 use Rattle.rkt_life.specs.declared.response.Response.{Response}
 use Rattle.rkt_life.specs.declared.run.Call.{Call}
+use Rattle.rkt_life.specs.declared.run.RunOf.{RunOf}
 use Rattle.rkt_life.specs.declared.run.Which.TheVariants.{Route}
 use Rattle.rkt_life.specs.declared.run.Answer.TheVariants.{Success as Succeeded}
 
@@ -16,39 +20,54 @@ pub data Outcome : Type 0 where
   Success : Response → Outcome
   Forward : ℕ → Outcome
 
--- what `may` says of each handler, and the routes in mounting order
-module _ {H : Type 0} (may : H → Requested → List ℕ → Type 0) (routes : List (Target × H)) where
+-- a request while it is tried on the route at this position
+abbrev pub mounted : {V : Type 0} → Seen V → ℕ → Seen V
+mounted request position = record request { route = Some (record { position = position; base_segments = 0 }) }
+
+-- what `may` says of each handler, and the tables
+module _ {H V : Type 0} (may : H → Seen V → List ℕ → Type 0) (tables : SeenTables H V) where
   -- the route at this position was called, and answered with this text
-  abbrev pub Answers : ℕ → Requested → List ℕ → Type 0
-  Answers position request text = (route : Target × H) × (slice_get routes position ≡ Some route) × may route.1 request text
+  abbrev pub Answers : ℕ → Seen V → List ℕ → Type 0
+  Answers position request text = (route : Target × H) × (slice_get tables.routes position ≡ Some route) × may route.1 (mounted request position) text
 
   -- the routes at these positions are tried in order: the first one answers, and where there is none the walk forwards with 404
-  abbrev pub Tried : List ℕ → Requested → List Call → Outcome → Type 0
+  abbrev pub Tried : List ℕ → Seen V → List Call → Outcome → Type 0
   Tried [] request calls outcome = (calls ≡ []) × (outcome ≡ Forward 404)
   Tried (position ∷ others) request calls outcome = (text : List ℕ) × Answers position request text
       × (calls ≡ record { which = Route position; answer = Succeeded } ∷ []) × (outcome ≡ Success (text_page text))
 
   -- the walk over the routes that match
-  abbrev pub Walked : Requested → List Call → Outcome → Type 0
-  Walked request calls outcome = Tried (tries routes request) request calls outcome
+  abbrev pub Walked : Seen V → List Call → Outcome → Type 0
+  Walked request calls outcome = Tried (tries tables.routes request) request calls outcome
 
   -- no catcher stands here: the default page of the status answers
-  abbrev pub Errored : ℕ → Response → Type 0
-  Errored status response = response ≡ default_page status
+  abbrev pub Errored : Seen V → ℕ → Response → Type 0
+  Errored request status response = response ≡ default_page status request
 
   -- a walk that did not succeed is answered by the page of its status
-  abbrev pub Finished : Outcome → Response → Type 0
-  Finished (Success answer) response = response ≡ answer
-  Finished (Forward status) response = Errored status response
+  abbrev pub Finished : Seen V → Outcome → Response → Type 0
+  Finished request (Success answer) response = response ≡ answer
+  Finished request (Forward status) response = Errored request status response
 
   -- a request: the walk, and then the page of its status where that did not succeed
-  abbrev pub Served : Requested → List Call → Response → Type 0
-  Served request calls response = (outcome : Outcome) × Walked request calls outcome × Finished outcome response
+  abbrev pub Served : Seen V → List Call → Response → Type 0
+  Served request calls response = (outcome : Outcome) × Walked request calls outcome × Finished request outcome response
 
-  -- a bad head is answered with 400 and no call
-  abbrev pub Refused : List Call → Response → Type 0
-  Refused calls response = (calls ≡ []) × Errored 400 response
+  -- a bad request, which has faults, is answered with 400 and no call; any other is served
+  abbrev pub Responds : List Bad → Seen V → List Call → Response → Type 0
+  Responds [] request calls response = Served request calls response
+  Responds (fault ∷ faults) request calls response = (calls ≡ []) × Errored request 400 response
 
-  -- what is asked leads by these calls to this response
-  abbrev pub Lifecycle : Head → List Call → Response → Type 0
-  Lifecycle head calls response = (IsBad head × Refused calls response) ⊎ ((request : Requested) × IsRequest head request × Served request calls response)
+  -- what came in leads by this run to this response; nothing changes the jar or caches a value yet
+  pub record LifecycleOf {C : Type 0} (request : Seen V) (jar : JarParts) (faults : List Bad) (run : RunOf C) (response : Response) : Type 0 where
+    pub answered : Responds faults request run.calls response
+    pub jar_kept : run.jar ≡ jar
+    pub none_cached : run.cache ≡ []
+
+  -- what comes in of a head, where the tables lend what they have, leads by this run to this response
+  pub record Lifecycle {C : Type 0} (head : Head) (run : RunOf C) (response : Response) : Type 0 where
+    pub request : Seen V
+    pub jar : JarParts
+    pub faults : List Bad
+    pub incoming : IsIncoming head tables.config tables.managed request jar faults
+    pub leads : LifecycleOf request jar faults run response

@@ -1,22 +1,22 @@
 //! What an application brings.
 ghost use Rattle.std.specs.Prelude.{List, ℕ, IfOk, string_bytes};
-ghost use Rattle.rkt_life.specs.Requested.{Requested};
+ghost use Rattle.rkt_request.specs.Seen.{Seen};
 
-use crate::Request;
 use rkt_base::NoMemory;
+use rkt_request::{Request, Types};
 use std::alloc::Global;
 
 /// What answers the requests of a route.
-pub trait Handler {
+pub trait Handler<T: Types> {
     /// The texts that this handler may answer to this request.
-    ghost may: { Self → Requested → List ℕ → Type 0 };
+    ghost may: { Self → Seen T.Value → List ℕ → Type 0 };
 
     /// Answers a request with a plain text.
-    fn respond(&self, alloc: Global, request: &Request) -> Result<String, NoMemory>
+    fn respond(&self, alloc: Global, request: &Request<'_, T>) -> Result<String, NoMemory>
         ensures { IfOk result (λ text. may self.now request.now (string_bytes text)) };
 }
 
 /// An application, by its types.
-pub trait App {
-    type Handler: Handler + Drop;
+pub trait App: Types + Sized {
+    type Handler: Handler<Self> + Drop;
 }

@@ -1,24 +1,27 @@
 //! One exchange with the tables of a rocket.
-ghost use Rattle.std.specs.Prelude.{◌≡◌, ◌<◌, List, ℕ, [], IfOk, IfSome, length, slice_get};
-ghost use Rattle.rkt_http.specs.Origin.{Target};
-ghost use Rattle.rkt_life.specs.Requested.{Requested};
+ghost use Rattle.std.specs.Prelude.{◌≡◌, ◌<◌, [], IfOk, IfSome, length, slice_get};
+ghost use Rattle.rkt_life.specs.Ended.{IfFinished, handle_of};
+ghost use Rattle.rkt_life.specs.HandsBack.{HandsBack};
+ghost use Rattle.rkt_life.specs.Lifecycle.{Responds, Served, LifecycleOf};
 ghost use Rattle.rkt_life.specs.Routes.{matches, tries};
-ghost use Rattle.rkt_life.specs.Lifecycle.{Lifecycle, Served};
 
-use crate::{Answer, App, Call, Handler, Head, Request, Response, Run, Tables, Which};
+use crate::{Answer, App, Call, Ended, EndedOf, Handler, Response, RunOf, Tables, Which};
 use rkt_base::{NoMemory, Seq};
+use rkt_data::Gate;
 use rkt_http::{Origin, Status};
+use rkt_request::{Bad, Ctx, Incoming, Mounted, Request, Types};
+use rkt_turn::Shutdown;
 use std::alloc::Global;
 
 // Whether a route has the segments of a request.
-fn matches(route: &Origin, request: &Request) -> bool
+fn matches<T: Types>(route: &Origin, request: &Request<'_, T>) -> bool
     ensures { result ≡ matches route.now request.now }
 {
     route.segments() == request.uri().segments()
 }
 
 // The first route that matches.
-fn first_match<H>(routes: &[(Origin, H)], request: &Request) -> Option<usize>
+fn first_match<H, T: Types>(routes: &[(Origin, H)], request: &Request<'_, T>) -> Option<usize>
     ensures first { result ≡ slice_get (tries routes.now request.now) 0 }
     ensures within { IfSome result (λ position. position < length routes.now) }
 {
@@ -32,41 +35,78 @@ fn first_match<H>(routes: &[(Origin, H)], request: &Request) -> Option<usize>
 
 impl<A: App> Tables<A> {
     /// One exchange. It calls the handler of the first route that matches, and answers with the default page where
-    /// there is none, or where the head is bad.
+    /// there is none. A bad request is answered with that of 400, and nothing is called.
     pub fn dispatch(
         &self,
         alloc: Global,
-        head: &Head,
-        moment: u64,
-    ) -> Result<(Run, Response), NoMemory>
-        ensures lifecycle { IfOk result (λ done. Lifecycle A.Handler.may self.now.routes head.now done.0.calls done.1) }
-        ensures moment { IfOk result (λ done. done.0.moment ≡ moment) }
+        incoming: Incoming<'_, A>,
+        shutdown: Shutdown<A::Reason>,
+        gate: Gate,
+    ) -> Ended<A>
+        ensures lifecycle { IfFinished result (LifecycleOf A.Handler.may self.now incoming.entry.request incoming.entry.jar incoming.entry.faults) }
+        ensures moment { IfFinished result (λ run response. run.moment ≡ gate.moment) }
+        ensures handle { HandsBack shutdown (handle_of result) }
     {
-        let mut run = Run {
-            calls: Seq::new(alloc),
-            moment,
-        };
-        let response = match Request::from_head(alloc, head)? {
-            Some(request) => self.serve(alloc, &request, &mut run.calls)?,
-            None => Response::default_page(alloc, Status::BadRequest)?,
-        };
-        Ok((run, response))
+        let Incoming {
+            mut request,
+            jar,
+            faults,
+        } = incoming;
+        let ctx = Ctx::<A>::new(alloc, jar, shutdown, gate);
+        let mut calls = Seq::new(alloc);
+        let answered = self.answer(alloc, &mut request, faults.as_slice(), &mut calls);
+        let moment = ctx.gate().moment;
+        let (jar, cache, shutdown) = ctx.into_parts();
+        match answered {
+            Ok(response) => EndedOf::Finished {
+                run: RunOf {
+                    calls,
+                    jar,
+                    cache: Seq::from_vec(cache),
+                    moment,
+                },
+                response,
+                shutdown,
+            },
+            Err(_) => EndedOf::Starved { shutdown },
+        }
+    }
+
+    // The page of a bad request, which has faults, and what any other is served with.
+    fn answer(
+        &self,
+        alloc: Global,
+        request: &mut Request<'_, A>,
+        faults: &[Bad],
+        calls: &mut Seq<Call>,
+    ) -> Result<Response, NoMemory>
+        requires { calls.old ≡ [] }
+        ensures { IfOk result (Responds A.Handler.may self.now faults.now request.old calls.new) }
+    {
+        match faults {
+            [] => self.serve(alloc, request, calls),
+            [..] => Response::default_page(alloc, Status::BadRequest, request),
+        }
     }
 
     // The walk over the routes of a request, and the page of its status where that is no success.
     fn serve(
         &self,
         alloc: Global,
-        request: &Request,
+        request: &mut Request<'_, A>,
         calls: &mut Seq<Call>,
     ) -> Result<Response, NoMemory>
         requires { calls.old ≡ [] }
-        ensures { IfOk result (Served A.Handler.may self.now.routes request.now calls.new) }
+        ensures { IfOk result (Served A.Handler.may self.now request.old calls.new) }
     {
         let routes = self.routes.as_slice();
         let Some(position) = first_match(routes, request) else {
-            return Response::default_page(alloc, Status::NotFound);
+            return Response::default_page(alloc, Status::NotFound, request);
         };
+        request.set_route(Mounted {
+            position,
+            base_segments: 0,
+        });
         let text = routes[position].1.respond(alloc, request)?;
         calls.push(Call {
             which: Which::Route(position),

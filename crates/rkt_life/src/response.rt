@@ -4,6 +4,7 @@ ghost use Rattle.rkt_life.specs.Response.{typed, default_page, text_page};
 
 use rkt_base::{Bytes, NoMemory};
 use rkt_http::{Header, HeaderMap, Status, default_page};
+use rkt_request::{Request, Types};
 use std::alloc::Global;
 
 /// A status, the groups of headers, and a body of known size.
@@ -33,9 +34,13 @@ fn typed(
 }
 
 impl Response {
-    // The page of a status without a catcher of its own.
-    pub(crate) fn default_page(alloc: Global, status: Status) -> Result<Response, NoMemory>
-        ensures { IfOk result (λ r. r ≡ default_page status.code) }
+    // The page of a status without a catcher of its own, for this request.
+    pub(crate) fn default_page<T: Types>(
+        alloc: Global,
+        status: Status,
+        _request: &Request<'_, T>,
+    ) -> Result<Response, NoMemory>
+        ensures { IfOk result (λ r. r ≡ default_page status.code _request.now) }
     {
         let page = default_page::html(alloc, status)?;
         typed(

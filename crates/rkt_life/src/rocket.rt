@@ -1,55 +1,100 @@
 //! What a rocket serves by, and the phases that it goes through.
 ghost use Rattle.std.specs.Prelude.{◌≡◌, IfOk};
+ghost use Rattle.rkt_turn.specs.Shutdown.{fresh};
 
 use crate::App;
 use rkt_base::{NoMemory, Seq};
 use rkt_http::Origin;
+use rkt_request::{Config, Managed};
+use rkt_turn::{Shutdown, TripWire};
 use std::alloc::Global;
 use std::marker::{Model, PhantomData};
 
-/// The routes, in mounting order, each with the handler that answers there.
+/// The routes, in mounting order, each with the handler that answers there, and what is lent to every request.
 #[derive(Drop)]
 pub struct Tables<A: App> {
     pub routes: Seq<(Origin, A::Handler)>,
+    pub config: Config,
+    pub managed: Managed<A::Value>,
+}
+
+impl<A: App> Model for Tables<A> {
+    ghost use Rattle.rkt_life.specs.Rocket.{SeenTables};
+
+    ghost Value = { SeenTables A.Handler A.Value };
+
+    ghost view = { λ t. record { routes = t.routes; config = t.config; managed = t.managed } };
 }
 
 /// The phase of a rocket that may be launched.
 pub struct Ignite;
 
-/// An application in one of its phases.
+/// An application in one of its phases, with a handle of its wire.
 #[derive(Drop)]
 pub struct Rocket<P, A: App> {
     tables: Tables<A>,
+    handle: Shutdown<A::Reason>,
     phase: PhantomData<P>,
 }
 
 impl<P, A: App> Model for Rocket<P, A> {
-    ghost use Rattle.rkt_life.specs.declared.rocket.Tables.{Tables};
+    ghost use Rattle.rkt_life.specs.Rocket.{SeenRocket};
 
-    ghost Value = { Tables A A.Handler };
+    ghost Value = { SeenRocket A.Handler A.Value };
 
-    ghost view = { λ r. r.tables };
+    ghost view = { λ r. record { tables = r.tables; handle = r.handle } };
 }
 
 impl<A: App> Rocket<Ignite, A> {
-    /// A rocket with these routes, in mounting order.
+    /// A rocket with these routes, in mounting order, and a wire of its own.
     pub fn assemble(
-        _alloc: Global,
+        alloc: Global,
         routes: Vec<(Origin, A::Handler)>,
+        config: Config,
+        managed: Managed<A::Value>,
     ) -> Result<Rocket<Ignite, A>, NoMemory>
-        ensures { IfOk result (λ rocket. rocket.routes ≡ routes.items) }
+        ensures tables { IfOk result (λ rocket. rocket.tables ≡ record { routes = routes.items; config = config; managed = managed }) }
+        ensures fresh { IfOk result (λ rocket. rocket.handle ≡ fresh rocket.handle.wire) }
     {
-        Ok(Rocket {
-            tables: Tables {
-                routes: Seq::from_vec(routes),
-            },
+        let (_wire, handle) = TripWire::new(alloc)?;
+        let tables = Tables {
+            routes: Seq::from_vec(routes),
+            config,
+            managed,
+        };
+        Ok(Rocket::from_parts(tables, handle))
+    }
+
+    /// A rocket that is put together of what `into_parts` gave.
+    pub fn from_parts(tables: Tables<A>, handle: Shutdown<A::Reason>) -> Rocket<Ignite, A>
+        ensures { result ≡ record { tables = tables; handle = handle } }
+    {
+        Rocket {
+            tables,
+            handle,
             phase: PhantomData,
-        })
+        }
+    }
+
+    /// The tables, and the handle of the wire.
+    pub fn into_parts(self) -> (Tables<A>, Shutdown<A::Reason>)
+        ensures tables { result.0 ≡ self.tables }
+        ensures handle { result.1 ≡ self.handle }
+    {
+        (self.tables, self.handle)
     }
 
     pub fn tables(&self) -> &Tables<A>
-        ensures { result.now ≡ self.now }
+        ensures { result.now ≡ self.now.tables }
     {
         &self.tables
+    }
+
+    /// Another handle of the wire, which has seen as much.
+    pub fn shutdown(&mut self) -> Result<Shutdown<A::Reason>, NoMemory>
+        ensures same { self.new ≡ self.old }
+        ensures handle { IfOk result (λ s. s ≡ self.old.handle) }
+    {
+        self.handle.split()
     }
 }

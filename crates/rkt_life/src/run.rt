@@ -1,5 +1,10 @@
-//! What an exchange called.
+//! What an exchange did, and how it ended.
+use crate::Response;
 use rkt_base::Seq;
+use rkt_cookie::CookieJar;
+use rkt_http::Key;
+use rkt_request::Types;
+use rkt_turn::Shutdown;
 
 /// A callback of the application, by its position.
 #[derive(Clone, Copy, Debug, PartialEq, Eq)]
@@ -20,9 +25,33 @@ pub struct Call {
     pub answer: Answer,
 }
 
-/// The calls of one exchange, in order, and the moment under which it ran.
-#[derive(Debug, Drop)]
-pub struct Run {
+/// The calls of one exchange, in order, and what they left behind.
+#[derive(Drop)]
+pub struct RunOf<C> {
     pub calls: Seq<Call>,
+    pub jar: CookieJar,
+    /// In the order in which they were cached.
+    pub cache: Seq<(Key, C)>,
+    /// The moment of the Gate under which the exchange ran.
     pub moment: u64,
 }
+
+/// A run of an application's exchange.
+pub type Run<A> = RunOf<<A as Types>::Cached>;
+
+/// How an exchange ended. It hands the wire's handle back in either way.
+#[derive(Drop)]
+pub enum EndedOf<C, S> {
+    Finished {
+        run: RunOf<C>,
+        response: Response,
+        shutdown: S,
+    },
+    /// There was no memory.
+    Starved {
+        shutdown: S,
+    },
+}
+
+/// How an application's exchange ended.
+pub type Ended<A> = EndedOf<<A as Types>::Cached, Shutdown<<A as Types>::Reason>>;

@@ -1,9 +1,12 @@
 //! Exchanges with two routes of the same segments.
 ghost use Rattle.std.specs.Prelude.{◌≡◌};
 
-use crate::{App, Handler, Head, Ignite, Piece, Request, Rocket};
+use crate::{App, EndedOf, Handler, Ignite, Piece, Response, Rocket, Run};
 use rkt_base::{Bytes, NoMemory, Seq, Text, Want};
-use rkt_http::{InvalidUri, Origin};
+use rkt_data::{Gate, MemorySource};
+use rkt_http::{InvalidUri, Key, Origin};
+use rkt_request::{Config, Head, Managed, Request, Types};
+use rkt_turn::Reason;
 use std::alloc::Global;
 use std::process::Abort;
 use std::test::Fail;
@@ -12,65 +15,132 @@ use std::test::Fail;
 #[derive(Drop)]
 struct Saying(&'static str);
 
-impl Handler for Saying {
-    ghost may = { λ saying _ text. text ≡ saying.0.now };
+impl<T: Types> Handler<T> for Saying {
+    ghost may = { λ saying request text. text ≡ saying.0.now };
 
-    fn respond(&self, alloc: Global, _request: &Request) -> Result<String, NoMemory> {
+    fn respond(&self, alloc: Global, _request: &Request<'_, T>) -> Result<String, NoMemory> {
         Ok(String::from_str(alloc, self.0)?)
+    }
+}
+
+#[derive(Clone, Copy)]
+enum NoReason {}
+
+impl Reason for NoReason {
+    ghost allowed = { λ _. ⊥ };
+
+    fn word(self) -> u64 {
+        match self {}
     }
 }
 
 struct Sample;
 
+impl Types for Sample {
+    type Source = MemorySource;
+
+    type Stream = MemorySource;
+
+    type Cached = u64;
+
+    type Value = u64;
+
+    type Reason = NoReason;
+}
+
 impl App for Sample {
     type Handler = Saying;
 }
+
+const GATE: Gate = Gate {
+    moment: 7,
+    tripped: None,
+    grace: 2,
+    mercy: 3,
+};
 
 fn assemble(alloc: Global) -> Result<Rocket<Ignite, Sample>, Want<InvalidUri>> {
     let mut routes = Vec::new(alloc);
     routes.push((Origin::parse(alloc, "/other")?, Saying("other")))?;
     routes.push((Origin::parse(alloc, "/page")?, Saying("hello")))?;
     routes.push((Origin::parse(alloc, "/page/")?, Saying("late")))?;
-    Ok(Rocket::assemble(alloc, routes)?)
+    let config = Config::default(alloc)?;
+    Ok(Rocket::assemble(alloc, routes, config, Managed::new(alloc))?)
 }
 
-fn head(alloc: Global, method: &str, target: &str) -> Result<Head, NoMemory> {
-    Ok(Head {
-        method: Text::new(alloc, method)?,
-        target: Text::new(alloc, target)?,
-        headers: Seq::new(alloc),
-        remote: None,
-    })
-}
-
-fn answers(
+/// The exchange of this head, which has two cookies.
+fn exchange(
     rt: &impl Abort,
     alloc: Global,
-    asked: (&str, &str),
-    status: u16,
-    size: usize,
-) -> Result<(), Fail> {
-    let rocket = assemble(alloc)?;
-    let head = head(alloc, asked.0, asked.1)?.try_clone(alloc)?;
-    let (run, response) = rocket.tables().dispatch(alloc, &head, 7)?;
-    assert_eq!(rt; run.moment, 7);
-    assert_eq!(rt; response.status.code, status);
-    assert_eq!(rt; response.body.len(), size);
-    Ok(())
+    method: &str,
+    target: &str,
+) -> Result<(Run<Sample>, Response), Fail> {
+    let mut headers = Seq::new(alloc);
+    let cookies = Seq::from_vec(b"theme=dark; seen=1".to_vec(alloc)?);
+    headers.push((Text::new(alloc, "Cookie")?, cookies))?;
+    let head = Head {
+        method: Text::new(alloc, method)?,
+        target: Text::new(alloc, target)?,
+        headers,
+        remote: None,
+    };
+    let mut rocket = assemble(alloc)?;
+    let shutdown = rocket.shutdown()?;
+    let tables = rocket.tables();
+    let incoming = Request::from_incoming(alloc, &head, &tables.config, &tables.managed)?;
+    match tables.dispatch(alloc, incoming, shutdown, GATE) {
+        EndedOf::Finished { run, response, .. } => Ok((run, response)),
+        EndedOf::Starved { .. } => panic!(rt; "starved"),
+    }
 }
 
 #[test]
 fn the_first_route_with_the_segments_answers(rt: HostRuntime) -> Result<(), Fail> {
-    answers(&rt, rt.alloc(), ("GET", "/page"), 200, 5)?;
-    answers(&rt, rt.alloc(), ("POST", "/p%61ge?x=1"), 200, 5)?;
-    answers(&rt, rt.alloc(), ("GET", "/nope"), 404, 435)?;
-    answers(&rt, rt.alloc(), ("GET", "/page/more"), 404, 435)
+    for (method, target, status, size) in [
+        ("GET", "/page", 200, 5),
+        ("POST", "/p%61ge?x=1", 200, 5),
+        ("GET", "/nope", 404, 435),
+        ("GET", "/page/more", 404, 435),
+    ] {
+        let (run, response) = exchange(&rt, rt.alloc(), method, target)?;
+        assert_eq!(rt; run.moment, 7);
+        assert_eq!(rt; run.calls.len(), usize::from(status == 200));
+        assert_eq!(rt; response.status.code, status);
+        assert_eq!(rt; response.body.len(), size);
+    }
+    Ok(())
 }
 
 #[test]
-fn a_bad_head_is_answered_with_400(rt: HostRuntime) -> Result<(), Fail> {
-    answers(&rt, rt.alloc(), ("get", "/page"), 400, 471)?;
-    answers(&rt, rt.alloc(), ("GET", "page"), 400, 471)
+fn a_bad_request_is_answered_with_400(rt: HostRuntime) -> Result<(), Fail> {
+    for (method, target) in [("get", "/page"), ("GET", "page"), ("FOO", "")] {
+        let (run, response) = exchange(&rt, rt.alloc(), method, target)?;
+        assert!(rt; run.calls.is_empty());
+        assert_eq!(rt; response.status.code, 400);
+        assert_eq!(rt; response.body.len(), 471);
+    }
+    Ok(())
+}
+
+#[test]
+fn a_run_has_the_cookies_that_came(rt: HostRuntime) -> Result<(), Fail> {
+    for target in ["/page", "/nope", "page"] {
+        let (run, _response) = exchange(&rt, rt.alloc(), "GET", target)?;
+        let theme = run.jar.get("theme").ok_or("no theme")?;
+        assert_eq!(rt; theme.value(), "dark");
+        assert_eq!(rt; run.jar.iter().count(), 2);
+        assert!(rt; run.cache.is_empty());
+    }
+    Ok(())
+}
+
+#[test]
+fn a_rocket_is_taken_apart_and_put_together(rt: HostRuntime) -> Result<(), Fail> {
+    let (tables, handle) = assemble(rt.alloc())?.into_parts();
+    assert!(rt; tables.managed.get(Key(0)).is_none());
+    let rocket: Rocket<Ignite, Sample> = Rocket::from_parts(tables, handle);
+    assert_eq!(rt; rocket.tables().routes.len(), 3);
+    Ok(())
 }
 
 #[test]

@@ -2,6 +2,7 @@
 -- is seen are those among the entries themselves.
 use Rattle.std.proofs.Common.{◌≡◌, Bool, true, false, cond, List, [], ◌∷◌, map, Bor, ◌++◌, refl, sym, ap, ◌∙◌, Option, Some}
 use Rattle.std.specs.Option.{option_map}
+use Rattle.std.specs.List.{AllZip}
 use Rattle.std.specs.Map.{lookup}
 use Rattle.std.specs.Map.Iter.{deref_pair}
 use Rattle.std.proofs.lemmas.List.{map-append}
@@ -23,6 +24,16 @@ module _ {K L X Y : Type 0} (key : K → L) (value : X → Y) where
   pub lookup-seen : (test : L → Bool) (es : List (K × X)) → lookup test (map seen es) ≡ option_map value (lookup (λ k. test (key k)) es)
   lookup-seen test [] = refl
   lookup-seen test (e ∷ es) = found_first (test (key e.0)) e.1 _ _ (lookup-seen test es)
+
+  -- clones are seen alike
+  pub clones_seen : (C : K → K → Type 0) (D : X → X → Type 0) → ((k l : K) → C k l → key l ≡ key k) → ((v w : X) → D v w → value w ≡ value v)
+      → (es fs : List (K × X)) → AllZip (λ e f. C e.0 f.0 × D e.1 f.1) es fs → map seen fs ≡ map seen es
+  clones_seen C D keys values [] [] h = refl
+  clones_seen C D keys values [] (f ∷ fs) h = absurd h
+  clones_seen C D keys values (e ∷ es) [] h = absurd h
+  clones_seen C D keys values (e ∷ es) (f ∷ fs) h =
+      ap (λ k. (k, value f.1) ∷ map seen fs) (keys e.0 f.0 h.0.0) ∙ ap (λ v. (key e.0, v) ∷ map seen fs) (values e.1 f.1 h.0.1)
+      ∙ ap (λ rest. seen e ∷ rest) (clones_seen C D keys values es fs h.1)
 
   put_first : (b : Bool) (e : K × X) (v : X) (es xs : List (K × X)) (ys : List (L × Y)) → map seen xs ≡ ys → map seen (cond b ((e.0, v) ∷ es) (e ∷ xs)) ≡ cond b ((key e.0, value v) ∷ map seen es) (seen e ∷ ys)
   put_first true e v es xs ys h = refl

@@ -4,3 +4,8 @@ pub mod LongestFront
 pub mod Joins
 pub mod Numerals
 pub mod TableScans
+pub mod AskedLemmas
+pub mod Copies
+pub mod FirstValues
+pub mod HeaderReads
+pub mod Readings

@@ -7,3 +7,9 @@ pub mod Numbers
 pub mod Managed
 pub mod Seen
 pub mod Lent
+pub mod Incoming
+pub mod Reads
+pub mod RequestHeaders
+pub mod FromRequest
+pub mod Guarding
+pub mod Guards

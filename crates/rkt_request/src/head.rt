@@ -1,4 +1,7 @@
-use rkt_base::{Bytes, Seq, Text};
+ghost use Rattle.std.specs.Prelude.{◌≡◌, IfOk};
+
+use rkt_base::{Bytes, NoMemory, Seq, Text};
+use std::alloc::Global;
 use std::net::SocketAddr;
 
 /// What came of a request before its body: the words of its first line, its headers, and who sent it.
@@ -8,6 +11,24 @@ pub struct Head {
     pub target: Text,
     pub headers: Seq<(Text, Bytes)>,
     pub remote: Option<SocketAddr>,
+}
+
+impl Head {
+    /// A copy, by an allocator that is handed in.
+    pub fn try_clone(&self, alloc: Global) -> Result<Head, NoMemory>
+        ensures { IfOk result (λ h. h ≡ self.now) }
+    {
+        let mut headers = Seq::new(alloc);
+        for (name, value) in self.headers.as_slice() {
+            headers.push((name.try_clone(alloc)?, value.try_clone(alloc)?))?;
+        }
+        Ok(Head {
+            method: self.method.try_clone(alloc)?,
+            target: self.target.try_clone(alloc)?,
+            headers,
+            remote: self.remote,
+        })
+    }
 }
 
 /// Where the route stands that a request is tried on.

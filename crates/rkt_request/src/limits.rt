@@ -57,6 +57,16 @@ impl Limits {
         }
     }
 
+    /// A copy.
+    pub fn try_clone(&self) -> Result<Limits, NoMemory>
+        ensures { IfOk result (λ l. l ≡ self.now) }
+    {
+        Ok(Limits {
+            alloc: self.alloc,
+            limits: self.limits.clone()?,
+        })
+    }
+
     /// The limits of what Rocket itself reads.
     pub fn default(alloc: Global) -> Result<Limits, NoMemory>
         ensures { IfOk result (λ l. l ≡ default_limits) }

@@ -1,15 +1,18 @@
-ghost use Rattle.std.specs.Prelude.{◌≡◌, [], Some, None, OnOk, OnErr, drop, slice_get, option_copied};
+ghost use Rattle.std.specs.Prelude.{◌≡◌, [], Some, None, IfOk, OnOk, OnErr, drop, slice_get, option_copied};
 ghost use Rattle.rkt_http.specs.Headers.{added, replaced};
 ghost use Rattle.rkt_http.specs.Origin.{fields_of};
-ghost use Rattle.rkt_request.specs.Seen.{IsClientIp, IsRealIp, base_segments, routed};
+ghost use Rattle.rkt_request.specs.Seen.{IsAccept, IsClientIp, IsContentType, IsFormat, IsRealIp, base_segments, routed};
 
 use crate::config::Config;
 use crate::head::Mounted;
 use crate::limits::Limits;
 use crate::managed::Managed;
+use crate::request_headers::RequestHeaders;
 use crate::types::Types;
 use rkt_base::NoMemory;
-use rkt_http::{Header, HeaderMap, Host, Method, Origin, QueryFields, Segments};
+use rkt_http::{
+    Accept, ContentType, Header, HeaderMap, Host, MediaType, Method, Origin, QueryFields, Segments,
+};
 use std::alloc::Global;
 use std::marker::Model;
 use std::net::{IpAddr, SocketAddr};
@@ -24,7 +27,7 @@ pub struct Request<'a, T: Types> {
     uri: Origin,
     host: Option<Host>,
     remote: Option<SocketAddr>,
-    headers: HeaderMap,
+    headers: RequestHeaders,
     route: Option<Mounted>,
 }
 
@@ -53,8 +56,8 @@ impl<'a, T: Types> Request<'a, T> {
         managed: &'a Managed<T::Value>,
         method: Method,
         uri: Origin,
-    ) -> Request<'a, T>
-        ensures { result ≡ record {
+    ) -> Result<Request<'a, T>, NoMemory>
+        ensures { IfOk result (λ request. request ≡ record {
           config = config.now;
           managed = managed.now;
           method = method;
@@ -63,6 +66,31 @@ impl<'a, T: Types> Request<'a, T> {
           remote = None;
           headers = [];
           route = None;
+        }) }
+    {
+        let headers = RequestHeaders::new(alloc, HeaderMap::new(alloc))?;
+        Ok(Request::of_parts(config, managed, method, uri, None, None, headers))
+    }
+
+    /// A request that is on no route yet.
+    pub(crate) fn of_parts(
+        config: &'a Config,
+        managed: &'a Managed<T::Value>,
+        method: Method,
+        uri: Origin,
+        host: Option<Host>,
+        remote: Option<SocketAddr>,
+        headers: RequestHeaders,
+    ) -> Request<'a, T>
+        ensures { result ≡ record {
+          config = config.now;
+          managed = managed.now;
+          method = method;
+          uri = uri;
+          host = host;
+          remote = remote;
+          headers = headers;
+          route = None;
         } }
     {
         Request {
@@ -70,9 +98,9 @@ impl<'a, T: Types> Request<'a, T> {
             managed,
             method,
             uri,
-            host: None,
-            remote: None,
-            headers: HeaderMap::new(alloc),
+            host,
+            remote,
+            headers,
             route: None,
         }
     }
@@ -132,7 +160,7 @@ impl<'a, T: Types> Request<'a, T> {
         ensures { IsRealIp self.now result }
     {
         let name = self.config.ip_header.as_ref()?;
-        let text = self.headers.get_one(name.as_str())?;
+        let text = self.headers.map().get_one(name.as_str())?;
         text.parse().ok()
     }
 
@@ -149,7 +177,37 @@ impl<'a, T: Types> Request<'a, T> {
     pub fn headers(&self) -> &HeaderMap
         ensures { result.now ≡ self.now.headers }
     {
-        &self.headers
+        self.headers.map()
+    }
+
+    /// What the first Content-Type spells.
+    pub fn content_type(&self) -> Option<&ContentType>
+        ensures { IsContentType self.now.headers (option_copied result) }
+    {
+        self.headers.content_type()
+    }
+
+    /// What the first Accept spells.
+    pub fn accept(&self) -> Option<&Accept>
+        ensures { IsAccept self.now.headers (option_copied result) }
+    {
+        self.headers.accept()
+    }
+
+    /// With a payload the content type, and else the media type that is preferred, which is `*/*` where nothing is said.
+    pub fn format(&self) -> Option<&MediaType>
+        ensures { IsFormat self.now (option_copied result) }
+    {
+        if self.method.supports_payload() {
+            return match self.content_type() {
+                Some(content_type) => Some(content_type.media_type()),
+                None => None,
+            };
+        }
+        match self.accept() {
+            Some(accept) => Some(accept.preferred()),
+            None => Some(self.headers.any()),
+        }
     }
 
     /// Adds a header behind those of its name.
@@ -165,8 +223,7 @@ impl<'a, T: Types> Request<'a, T> {
         ensures ok { OnOk result (self.new ≡ record self.old { headers = replaced self.old.headers header }) }
         ensures err { OnErr result (self.new ≡ self.old) }
     {
-        self.headers.replace(header)?;
-        Ok(())
+        self.headers.replace(header)
     }
 
     /// The limits of the configuration.

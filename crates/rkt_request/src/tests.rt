@@ -10,6 +10,11 @@ use std::alloc::Global;
 use std::net::{IpAddr, Ipv4Addr};
 use std::test::Fail;
 
+mod data_guards;
+mod guards;
+mod incoming;
+mod params;
+
 #[test]
 fn a_limit_is_that_of_the_longest_front(rt: HostRuntime) -> Result<(), Fail> {
     let limits = Limits::default(rt.alloc())?
@@ -172,14 +177,16 @@ impl Types for Sample {
     type Reason = Stopped;
 }
 
+fn origin(alloc: Global, text: &str) -> Result<Origin, Fail> {
+    Origin::parse(alloc, text).map_err(|_| Fail::from("no origin"))
+}
+
 #[test]
 fn a_request_knows_its_client(rt: HostRuntime) -> Result<(), Fail> {
     let config = Config::default(rt.alloc())?;
     let managed = Managed::new(rt.alloc());
-    let Ok(uri) = Origin::parse(rt.alloc(), "/a/b%20c/d?q=1") else {
-        return Err(Fail::from("no origin"));
-    };
-    let mut request = Request::<Sample>::new(rt.alloc(), &config, &managed, Method::Get, uri);
+    let uri = origin(rt.alloc(), "/a/b%20c/d?q=1")?;
+    let mut request = Request::<Sample>::new(rt.alloc(), &config, &managed, Method::Get, uri)?;
     request.set_route(Mounted {
         position: 0,
         base_segments: 1,

@@ -1,4 +1,4 @@
-use rkt_data::Source;
+use rkt_data::{CancellableIo, Data, Source};
 use rkt_turn::Reason;
 
 /// The types that an application chooses.
@@ -17,4 +17,16 @@ pub trait Types {
 
     /// Why a server shuts down.
     type Reason: Reason;
+}
+
+/// The body of a request, whose source may be cut off.
+pub type Body0<T> = Data<CancellableIo<<T as Types>::Source>>;
+
+/// `Body0` by a name of its own. A trait whose method takes a body says `T::Body`, and its impls say `Body0<T>`.
+pub trait HasBody: Types {
+    type Body: Drop;
+}
+
+impl<T: Types> HasBody for T {
+    type Body = Body0<T>;
 }

@@ -5,3 +5,4 @@ pub mod Pieces
 pub mod Pushes
 pub mod Listening
 pub mod Entries
+pub mod Handles

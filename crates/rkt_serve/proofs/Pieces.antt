@@ -4,11 +4,11 @@ use Rattle.std.proofs.lemmas.Grind.{common_steps}
 use Rattle.std.specs.List.{AllByRecursion}
 use Rattle.std.specs.Option.{ForSome}
 use Rattle.rkt_http.specs.Headers.{Field}
-use Rattle.rkt_http.specs.Origin.{Target}
+use Rattle.rkt_request.specs.Seen.{Seen}
+use Rattle.rkt_request.specs.declared.head.Head.{Head as Asks}
 use Rattle.rkt_life.specs.Lifecycle.{Lifecycle}
-use Rattle.rkt_life.specs.Requested.{Requested}
-use Rattle.rkt_life.specs.declared.request.Head.{Head as Asks}
-use Rattle.rkt_life.specs.declared.run.Run.{Run}
+use Rattle.rkt_life.specs.Rocket.{SeenTables}
+use Rattle.rkt_life.specs.declared.run.RunOf.{RunOf}
 use Rattle.rkt_life.specs.declared.piece.Piece.{Piece}
 use Rattle.rkt_life.specs.declared.piece.Piece.TheVariants.{Head, Chunk, End}
 use Rattle.rkt_life.specs.declared.response.Response.{Response}
@@ -69,11 +69,11 @@ held_only None pieces held fresh is = absurd (cc is)
 held_only (Some old) pieces held fresh is = let empty : old ≡ [] = fresh old refl in grind (arith, common_steps, empty, is)
 
 -- a run whose response was sent on a fresh link
-pub answers_sent : {H : Type 0} (may : H → Requested → List ℕ → Type 0) (routes : List (Target × H)) (old new : LinkMeaning) (head : Asks) (run : Run) (response : Response) (pieces : List Piece)
-    → ForSome old.asked (λ asked. asked.head ≡ head) → ForSome old.held (λ held. held ≡ []) → Lifecycle may routes head run.calls response → Sent response pieces
-    → new ≡ with_taken old pieces → Answers may routes new run response
-answers_sent may routes old new head run response pieces asks fresh lifecycle sent is = (
-  λ asked told. subst (λ (h : Asks). Lifecycle may routes h run.calls response) (sym (asks asked (sym (ap (λ (m : LinkMeaning). m.asked) is) ∙ told))) lifecycle,
+pub answers_sent : {C H V : Type 0} (may : H → Seen V → List ℕ → Type 0) (tables : SeenTables H V) (old new : LinkMeaning) (head : Asks) (run : RunOf C) (response : Response) (pieces : List Piece)
+    → ForSome old.asked (λ asked. asked.head ≡ head) → ForSome old.held (λ held. held ≡ []) → Lifecycle may tables head run response → Sent response pieces
+    → new ≡ with_taken old pieces → Answers may tables new run response
+answers_sent may tables old new head run response pieces asks fresh lifecycle sent is = (
+  λ asked told. subst (λ (h : Asks). Lifecycle may tables h run response) (sym (asks asked (sym (ap (λ (m : LinkMeaning). m.asked) is) ∙ told))) lifecycle,
   λ held told. subst (Sent response) (sym (held_only old.held pieces held fresh (sym (ap (λ (m : LinkMeaning). m.held) is) ∙ told))) sent,
 )
 

@@ -7,19 +7,25 @@ use std::marker::Model;
 
 /// A launch that is over.
 #[derive(Drop)]
-pub struct Launched<A: App, L: Listener, C: Clock> {
-    pub rocket: Rocket<Ignite, A>,
+pub struct LaunchedOf<R, L, C, H> {
+    pub rocket: R,
     pub listener: L,
     pub clock: C,
-    pub history: History<L::Link>,
+    pub history: H,
 }
+
+/// A launch of an application that is over.
+pub type Launched<A, L, C> = LaunchedOf<Rocket<Ignite, A>, L, C, History<A, <L as Listener>::Link>>;
 
 /// Why a launch failed.
 #[derive(Drop)]
-pub enum ErrorKind<A: App, L: Listener, C: Clock> {
+pub enum ErrorKindOf<M> {
     /// There was no memory. What was begun is closed and handed back; it is lost only where nothing was begun.
-    NoMemory { kept: Option<Launched<A, L, C>> },
+    NoMemory { kept: Option<M> },
 }
+
+/// Why a launch of an application failed.
+pub type ErrorKind<A, L, C> = ErrorKindOf<Launched<A, L, C>>;
 
 /// A failed launch, which has to be spent by one of its calls.
 #[must_use]
@@ -28,9 +34,12 @@ pub struct Error<A: App, L: Listener, C: Clock> {
 }
 
 impl<A: App, L: Listener, C: Clock> Model for Error<A, L, C> {
-    ghost use Rattle.rkt_serve.specs.declared.error.ErrorKind.{ErrorKind};
+    ghost use Rattle.rkt_life.specs.Rocket.{SeenRocket};
+    ghost use Rattle.rkt_serve.specs.declared.error.ErrorKindOf.{ErrorKindOf};
+    ghost use Rattle.rkt_serve.specs.declared.error.LaunchedOf.{LaunchedOf};
+    ghost use Rattle.rkt_serve.specs.declared.history.HistoryOf.{HistoryOf};
 
-    ghost Value = { ErrorKind A L C A.Handler L.Link };
+    ghost Value = { ErrorKindOf (LaunchedOf (SeenRocket A.Handler A.Value) L C (HistoryOf A.Cached L.Link)) };
 
     ghost view = { λ e. e.kind };
 }
@@ -55,7 +64,7 @@ impl<A: App, L: Listener, C: Clock> Error<A, L, C> {
     {
         let Error { kind } = self;
         match kind {
-            ErrorKind::NoMemory { kept: _ } => "aborting due to want of memory",
+            ErrorKindOf::NoMemory { kept: _ } => "aborting due to want of memory",
         }
     }
 }

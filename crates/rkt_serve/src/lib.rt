@@ -15,8 +15,8 @@ mod system_clock;
 mod working;
 
 pub use clock::Clock;
-pub use error::{Error, ErrorKind, Launched};
-pub use history::{Called, End, Entry, Event, History};
+pub use error::{Error, ErrorKind, ErrorKindOf, Launched, LaunchedOf};
+pub use history::{Called, End, Entry, EntryOf, Event, EventOf, History, HistoryOf};
 pub use launch::Launch;
 pub use link::{Link, SendError};
 pub use list_clock::ListClock;

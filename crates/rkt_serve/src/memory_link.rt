@@ -4,7 +4,8 @@ ghost use Rattle.std.specs.Prelude.{◌≡◌, [], List};
 use crate::{Link, SendError};
 use rkt_base::{Poll, Seq};
 use rkt_data::Shut;
-use rkt_life::{Head, Piece};
+use rkt_life::Piece;
+use rkt_request::Head;
 use std::alloc::Global;
 use std::marker::Model;
 

@@ -4,28 +4,54 @@ ghost use Rattle.rkt_serve.specs.Listener.{IsFresh};
 ghost use Rattle.rkt_serve.specs.Memory.{listener_meaning};
 
 use crate::{
-    Accepted, Clock, End, Event, Launch, ListClock, ListListener, Listener, MemoryLink, SystemClock,
+    Accepted, Clock, End, EventOf, History, Launch, ListClock, ListListener, Listener, MemoryLink,
+    SystemClock,
 };
 use rkt_base::{NoMemory, Poll, Seq, Text, Want};
+use rkt_data::MemorySource;
 use rkt_http::{InvalidUri, Origin};
-use rkt_life::{App, Handler, Head, Ignite, Piece, Request, Rocket};
+use rkt_life::{App, Handler, Ignite, Piece, Rocket};
+use rkt_request::{Config, Head, Managed, Request, Types};
+use rkt_turn::Reason;
 use std::alloc::Global;
-use std::process::Abort;
 use std::test::Fail;
 
 /// Answers with `hello`.
 #[derive(Drop)]
 struct Greeter;
 
-impl Handler for Greeter {
+impl<T: Types> Handler<T> for Greeter {
     ghost may = { λ _ _ text. text ≡ codes "hello" };
 
-    fn respond(&self, alloc: Global, _request: &Request) -> Result<String, NoMemory> {
+    fn respond(&self, alloc: Global, _request: &Request<'_, T>) -> Result<String, NoMemory> {
         Ok(String::from_str(alloc, "hello")?)
     }
 }
 
+#[derive(Clone, Copy)]
+enum NoReason {}
+
+impl Reason for NoReason {
+    ghost allowed = { λ _. ⊥ };
+
+    fn word(self) -> u64 {
+        match self {}
+    }
+}
+
 struct Greeting;
+
+impl Types for Greeting {
+    type Source = MemorySource;
+
+    type Stream = MemorySource;
+
+    type Cached = u64;
+
+    type Value = u64;
+
+    type Reason = NoReason;
+}
 
 impl App for Greeting {
     type Handler = Greeter;
@@ -34,18 +60,23 @@ impl App for Greeting {
 fn assemble(alloc: Global) -> Result<Rocket<Ignite, Greeting>, Want<InvalidUri>> {
     let mut routes = Vec::new(alloc);
     routes.push((Origin::parse(alloc, "/page")?, Greeter))?;
-    Ok(Rocket::assemble(alloc, routes)?)
+    let config = Config::default(alloc)?;
+    Ok(Rocket::assemble(alloc, routes, config, Managed::new(alloc))?)
 }
 
+/// A link whose head has two cookies.
 fn link(alloc: Global, method: &str, target: &str) -> Result<MemoryLink, NoMemory>
     ensures { IfOk result (λ k. k.held ≡ []) }
 {
+    let mut headers = Seq::new(alloc);
+    let cookies = Seq::from_vec(b"theme=dark; seen=1".to_vec(alloc)?);
+    headers.push((Text::new(alloc, "Cookie")?, cookies))?;
     Ok(MemoryLink::new(
         alloc,
         Head {
             method: Text::new(alloc, method)?,
             target: Text::new(alloc, target)?,
-            headers: Seq::new(alloc),
+            headers,
             remote: None,
         },
     ))
@@ -70,10 +101,16 @@ fn status_of(pieces: &[Piece]) -> u16 {
 }
 
 #[test]
-fn each_link_is_answered_in_order(rt: HostRuntime) -> Result<(), Fail> {
+fn each_link_is_answered_in_order_and_its_cookies_are_kept(rt: HostRuntime) -> Result<(), Fail> {
     let alloc = rt.alloc();
     let clock = ListClock::new([5, 3, 9].to_vec(alloc)?);
-    let history = match assemble(alloc)?.launch(&rt, alloc, listener(alloc)?, clock, 0) {
+    let history: History<Greeting, MemoryLink> = match assemble(alloc)?.launch(
+        &rt,
+        alloc,
+        listener(alloc)?,
+        clock,
+        0,
+    ) {
         Ok(launched) => launched.history,
         Err(error) => panic!(&rt; "{}", error.pretty_print()),
     };
@@ -85,11 +122,16 @@ fn each_link_is_answered_in_order(rt: HostRuntime) -> Result<(), Fail> {
         };
         assert_eq!(rt; entry.end, End::Answered);
         assert_eq!(rt; status_of(entry.link.held()), status);
+        let run = entry.run.as_ref().ok_or("no run")?;
+        let theme = run.jar.get("theme").ok_or("no theme")?;
+        assert_eq!(rt; theme.value(), "dark");
+        let seen = run.jar.get("seen").ok_or("not seen")?;
+        assert_eq!(rt; seen.value(), "1");
     }
     assert!(rt;
         matches!(
             history.events.as_slice().last(),
-            Some(Event::Close { moment: 9 })
+            Some(EventOf::Close { moment: 9 })
         )
     );
     Ok(())

@@ -1,6 +1,9 @@
 //! The work of a launch: each link that the listener gives is served, one after another.
 ghost use Rattle.std.specs.Prelude.{◌≡◌, ◌≤◌, ◌<◌, ◌+◌, ◌++◌, ◌∷◌, [], List, ℕ, Option, Some, IfOk, OnOk, true, vec_len, vec_capacity};
 ghost use Rattle.std.specs.Option.{ForSome};
+ghost use Rattle.rkt_life.specs.Ended.{IfFinished, handle_of};
+ghost use Rattle.rkt_life.specs.HandsBack.{HandsBack};
+ghost use Rattle.rkt_life.specs.Lifecycle.{Lifecycle};
 ghost use Rattle.rkt_serve.specs.Asked.{Asked};
 ghost use Rattle.rkt_serve.specs.Causes.{Answers, Caused};
 ghost use Rattle.rkt_serve.specs.Clock.{IsWithin};
@@ -10,10 +13,13 @@ ghost use Rattle.rkt_serve.specs.Link.{IsFreshLink};
 ghost use Rattle.rkt_serve.specs.Listener.{GivesMore};
 
 use crate::send::send;
-use crate::{Accepted, Clock, End, Entry, Event, Link, Listener};
+use crate::{Accepted, Clock, End, Entry, EntryOf, Event, EventOf, Link, Listener};
 use rkt_base::{NoMemory, Poll};
-use rkt_life::{App, Handler, Response, Run, Tables};
-use std::alloc::Global;
+use rkt_data::Gate;
+use rkt_life::{App, Ended, EndedOf, Handler, Tables};
+use rkt_request::{Head, Request};
+use rkt_turn::Shutdown;
+use std::alloc::{AllocError, Global};
 use std::sync::Wait;
 
 // The number of the caller among the workers.
@@ -29,125 +35,177 @@ pub(crate) fn enter<T>(list: &mut Vec<T>, item: T)
     list.push(item).unwrap();
 }
 
-// Runs one exchange, and sends its response.
-fn answer<A: App, R: Wait, K: Link>(
-    rt: &R,
-    alloc: Global,
-    tables: &Tables<A>,
-    link: &mut K,
-    moment: u64,
-) -> Result<(Run, Response), NoMemory>
-    requires fresh { IsFreshLink (K.meaning link.old) }
-    ensures answers { IfOk result (λ done. Answers A.Handler.may tables.now.routes (K.meaning link.new) done.0 done.1) }
-    ensures moment { IfOk result (λ done. done.0.moment ≡ moment) }
-    ensures asked { (K.meaning link.new).asked ≡ (K.meaning link.old).asked }
-{
-    let (run, response) = tables.dispatch(alloc, link.head(), moment)?;
-    send(rt, alloc, link, &response)?;
-    Ok((run, response))
+// What the links are served with.
+#[derive(Drop)]
+pub(crate) struct Worker<'a, A: App, R> {
+    pub(crate) rt: &'a R,
+    pub(crate) alloc: Global,
+    pub(crate) tables: &'a Tables<A>,
 }
 
-// One exchange, kept with its end.
-fn serve<A: App, R: Wait, K: Link>(
-    rt: &R,
-    alloc: Global,
-    tables: &Tables<A>,
-    mut link: K,
-    moment: u64,
-) -> Entry<K>
-    requires fresh { IsFreshLink (K.meaning link) }
-    ensures asked { (K.meaning result.link).asked ≡ (K.meaning link).asked }
-    ensures caused { Caused A.Handler.may tables.now.routes K.meaning result }
-    ensures moment { ForSome result.run (λ run. run.moment ≡ moment) }
-{
-    match answer(rt, alloc, tables, &mut link, moment) {
-        Ok((run, response)) => Entry {
-            link,
-            run: Some(run),
-            response: Some(response),
-            end: End::Answered,
-        },
-        Err(_) => Entry {
-            link,
-            run: None,
-            response: None,
-            end: End::Starved,
-        },
+impl<'a, A: App, R> Worker<'a, A, R> {
+    // The exchange of a head.
+    fn exchange(&self, head: &Head, shutdown: Shutdown<A::Reason>, moment: u64) -> Ended<A>
+        ensures lifecycle { IfFinished result (Lifecycle A.Handler.may self.now.tables.now head.now) }
+        ensures moment { IfFinished result (λ run response. run.moment ≡ moment) }
+        ensures handle { HandsBack shutdown (handle_of result) }
+    {
+        let tables = self.tables;
+        let gate = Gate {
+            moment,
+            tripped: None,
+            grace: tables.config.grace,
+            mercy: tables.config.mercy,
+        };
+        match Request::from_incoming(self.alloc, head, &tables.config, &tables.managed) {
+            Ok(incoming) => tables.dispatch(self.alloc, incoming, shutdown, gate),
+            Err(_) => EndedOf::Starved { shutdown },
+        }
     }
 }
 
-// Serves a link that was given, from its Admit to its End.
-fn serve_given<A: App, R: Wait, K: Link, C: Clock>(
-    rt: &R,
-    alloc: Global,
-    tables: &Tables<A>,
-    link: K,
-    number: u64,
-    clock: &mut C,
-    events: &mut Vec<Event<K>>,
-)
-    requires fresh { IsFreshLink (K.meaning link) }
-    requires number { number ≡ admitted events.old.items }
-    requires room { vec_len events.old + 2 < vec_capacity events.old }
-    ensures balanced { (given new : Option (List Asked)) (window : Option (ℕ × ℕ)) → GivesMore given (K.meaning link).asked new → window ≡ (C.meaning clock.old).window
-        → Balanced A.Handler.may tables.now.routes K.meaning given window (C.meaning clock.old).last events.old.items
-        → Balanced A.Handler.may tables.now.routes K.meaning new window (C.meaning clock.new).last events.new.items }
-    ensures window { (C.meaning clock.new).window ≡ (C.meaning clock.old).window }
-    ensures count { admitted events.new.items ≡ number + 1 }
-    ensures room { vec_len events.new < vec_capacity events.new }
-{
-    let moment = clock.now();
-    enter(
-        events,
-        Event::Admit {
-            number,
-            moment,
-            by: CALLER,
-        },
-    );
-    let entry = serve(rt, alloc, tables, link, moment);
-    let ended = clock.now();
-    enter(
-        events,
-        Event::End {
-            number,
-            entry,
-            moment: ended,
-            by: CALLER,
-        },
-    );
-}
+impl<'a, A: App, R: Wait> Worker<'a, A, R> {
+    // Runs one exchange, and sends its response.
+    fn answer<K: Link>(&self, link: &mut K, shutdown: Shutdown<A::Reason>, moment: u64) -> Ended<A>
+        requires fresh { IsFreshLink (K.meaning link.old) }
+        ensures answers { IfFinished result (Answers A.Handler.may self.now.tables.now (K.meaning link.new)) }
+        ensures moment { IfFinished result (λ run response. run.moment ≡ moment) }
+        ensures handle { HandsBack shutdown (handle_of result) }
+        ensures asked { (K.meaning link.new).asked ≡ (K.meaning link.old).asked }
+    {
+        match self.exchange(link.head(), shutdown, moment) {
+            EndedOf::Finished {
+                run,
+                response,
+                shutdown,
+            } => match send(self.rt, self.alloc, link, &response) {
+                Ok(()) => EndedOf::Finished {
+                    run,
+                    response,
+                    shutdown,
+                },
+                Err(_) => EndedOf::Starved { shutdown },
+            },
+            EndedOf::Starved { shutdown } => EndedOf::Starved { shutdown },
+        }
+    }
 
-// Serves what the listener gives, until it ends. Room for an Admit, its End and a Close is made before each poll.
-pub(crate) fn serve_all<A: App, R: Wait, L: Listener, C: Clock>(
-    rt: &R,
-    alloc: Global,
-    tables: &Tables<A>,
-    listener: &mut L,
-    clock: &mut C,
-    events: &mut Vec<Event<L::Link>>,
-) -> Result<(), NoMemory>
-    requires none { admitted events.old.items ≡ 0 }
-    requires balanced { Balanced A.Handler.may tables.now.routes L.Link.meaning (L.meaning listener.old).given (C.meaning clock.old).window (C.meaning clock.old).last events.old.items }
-    requires room { vec_len events.old < vec_capacity events.old }
-    ensures balanced { Balanced A.Handler.may tables.now.routes L.Link.meaning (L.meaning listener.new).given (C.meaning clock.old).window (C.meaning clock.new).last events.new.items }
-    ensures ended { OnOk result ((L.meaning listener.new).ended ≡ true) }
-    ensures offers { OnOk result (ForSome (L.meaning listener.old).offers (λ all. (L.meaning listener.new).given ≡ Some all)) }
-    ensures sound { (L.meaning listener.new).faults ≡ (L.meaning listener.old).faults }
-    ensures window { (C.meaning clock.new).window ≡ (C.meaning clock.old).window }
-    ensures room { vec_len events.new < vec_capacity events.new }
-{
-    let mut number: u64 = 0;
-    for _ in rt.forever() {
-        events.reserve(3)?;
-        match listener.poll_accept() {
-            Poll::Pending => {}
-            Poll::Ready(Accepted::End) => return Ok(()),
-            Poll::Ready(Accepted::Given(link)) => {
-                serve_given(rt, alloc, tables, link, number, clock, events);
-                number = number.saturating_add(1);
+    // One exchange, kept with its end, and the handle that it was given.
+    fn serve<K: Link>(
+        &self,
+        mut link: K,
+        shutdown: Shutdown<A::Reason>,
+        moment: u64,
+    ) -> (Entry<A, K>, Shutdown<A::Reason>)
+        requires fresh { IsFreshLink (K.meaning link) }
+        ensures asked { (K.meaning result.0.link).asked ≡ (K.meaning link).asked }
+        ensures caused { Caused A.Handler.may self.now.tables.now K.meaning result.0 }
+        ensures moment { ForSome result.0.run (λ run. run.moment ≡ moment) }
+        ensures handle { HandsBack shutdown result.1 }
+    {
+        match self.answer(&mut link, shutdown, moment) {
+            EndedOf::Finished {
+                run,
+                response,
+                shutdown,
+            } => {
+                let entry = EntryOf {
+                    link,
+                    run: Some(run),
+                    response: Some(response),
+                    end: End::Answered,
+                };
+                (entry, shutdown)
+            }
+            EndedOf::Starved { shutdown } => {
+                let entry = EntryOf {
+                    link,
+                    run: None,
+                    response: None,
+                    end: End::Starved,
+                };
+                (entry, shutdown)
             }
         }
     }
-    unreachable!()
+
+    // Serves a link that was given, from its Admit to its End, and hands the handle back.
+    fn serve_given<K: Link, C: Clock>(
+        &self,
+        link: K,
+        number: u64,
+        shutdown: Shutdown<A::Reason>,
+        clock: &mut C,
+        events: &mut Vec<Event<A, K>>,
+    ) -> Shutdown<A::Reason>
+        requires fresh { IsFreshLink (K.meaning link) }
+        requires number { number ≡ admitted events.old.items }
+        requires room { vec_len events.old + 2 < vec_capacity events.old }
+        ensures balanced { (given new : Option (List Asked)) (window : Option (ℕ × ℕ)) → GivesMore given (K.meaning link).asked new → window ≡ (C.meaning clock.old).window
+            → Balanced A.Handler.may self.now.tables.now K.meaning given window (C.meaning clock.old).last events.old.items
+            → Balanced A.Handler.may self.now.tables.now K.meaning new window (C.meaning clock.new).last events.new.items }
+        ensures handle { HandsBack shutdown result }
+        ensures window { (C.meaning clock.new).window ≡ (C.meaning clock.old).window }
+        ensures count { admitted events.new.items ≡ number + 1 }
+        ensures room { vec_len events.new < vec_capacity events.new }
+    {
+        let moment = clock.now();
+        enter(
+            events,
+            EventOf::Admit {
+                number,
+                moment,
+                by: CALLER,
+            },
+        );
+        let (entry, shutdown) = self.serve(link, shutdown, moment);
+        let ended = clock.now();
+        enter(
+            events,
+            EventOf::End {
+                number,
+                entry,
+                moment: ended,
+                by: CALLER,
+            },
+        );
+        shutdown
+    }
+
+    // Serves what the listener gives, until it ends, and hands the handle back. Room for an Admit, its End and a Close
+    // is made before each poll.
+    pub(crate) fn serve_all<L: Listener, C: Clock>(
+        &self,
+        listener: &mut L,
+        mut shutdown: Shutdown<A::Reason>,
+        clock: &mut C,
+        events: &mut Vec<Event<A, L::Link>>,
+    ) -> (Shutdown<A::Reason>, Result<(), NoMemory>)
+        requires none { admitted events.old.items ≡ 0 }
+        requires balanced { Balanced A.Handler.may self.now.tables.now L.Link.meaning (L.meaning listener.old).given (C.meaning clock.old).window (C.meaning clock.old).last events.old.items }
+        requires room { vec_len events.old < vec_capacity events.old }
+        ensures balanced { Balanced A.Handler.may self.now.tables.now L.Link.meaning (L.meaning listener.new).given (C.meaning clock.old).window (C.meaning clock.new).last events.new.items }
+        ensures handle { HandsBack shutdown result.0 }
+        ensures ended { OnOk result.1 ((L.meaning listener.new).ended ≡ true) }
+        ensures offers { OnOk result.1 (ForSome (L.meaning listener.old).offers (λ all. (L.meaning listener.new).given ≡ Some all)) }
+        ensures sound { (L.meaning listener.new).faults ≡ (L.meaning listener.old).faults }
+        ensures window { (C.meaning clock.new).window ≡ (C.meaning clock.old).window }
+        ensures room { vec_len events.new < vec_capacity events.new }
+    {
+        let mut number: u64 = 0;
+        for _ in self.rt.forever() {
+            let Ok(()) = events.reserve(3) else {
+                return (shutdown, Err(AllocError));
+            };
+            match listener.poll_accept() {
+                Poll::Pending => {}
+                Poll::Ready(Accepted::End) => return (shutdown, Ok(())),
+                Poll::Ready(Accepted::Given(link)) => {
+                    shutdown = self.serve_given(link, number, shutdown, clock, events);
+                    number = number.saturating_add(1);
+                }
+            }
+        }
+        unreachable!()
+    }
 }

@@ -33,6 +33,7 @@ impl<R: Read + Drop> Shut for ReaderSource<R> {
 }
 
 impl<R: Read + Drop> Source for ReaderSource<R> {
+    ghost use Rattle.std.proofs.Common.{le_refl};
     ghost use Rattle.std.specs.Prelude.{None, false, refl};
 
     ghost meaning = { λ s. record { whole = None; taken = s.taken; faults = s.faults; never_faults = false; warned = false; shut = false; pended = 0; pendings = 0 } };
@@ -59,4 +60,6 @@ impl<R: Read + Drop> Source for ReaderSource<R> {
     ghost shut_is_warned = { λ s h. h };
 
     ghost shutdown_keeps = { λ s t answer e. Prim.rw (e.1, e.0) refl };
+
+    ghost waits_within = { λ s. le_refl 0 };
 }

@@ -68,3 +68,82 @@ fn the_laws_hold_at_numbers(rt: HostRuntime) -> Result<(), Fail> {
     assert_eq!(rt; and_then_in_turn(outcome, next, next), Outcome::Success(2));
     Ok(())
 }
+
+// Each call at the three variants, as the table of the calls has it.
+#[test]
+fn each_variant_has_its_answer(rt: HostRuntime) -> Result<(), Fail> {
+    let success: Small = Outcome::Success(8);
+    let error: Small = Outcome::Error(7);
+    let forward: Small = Outcome::Forward(9);
+    assert!(rt; success.is_success() && !success.is_error() && !success.is_forward());
+    assert!(rt; error.is_error() && !error.is_success() && !error.is_forward());
+    assert!(rt; forward.is_forward() && !forward.is_success() && !forward.is_error());
+    assert_eq!(rt; (success.succeeded(), error.succeeded()), (Some(8), None));
+    assert_eq!(rt; (error.failed(), forward.failed()), (Some(7), None));
+    assert_eq!(rt; (forward.forwarded(), success.forwarded()), (Some(9), None));
+    assert_eq!(rt;
+        (success.success_or(1), error.success_or(1)),
+        (Ok(8), Err(1))
+    );
+    assert_eq!(rt;
+        (success.success_or_else(|| 1), forward.success_or_else(|| 1)),
+        (Ok(8), Err(1))
+    );
+    let eight = Outcome::<u8, u16, u32>::Success(8);
+    assert_eq!(rt; eight.unwrap(), 8);
+    assert_eq!(rt; eight.expect("it is a Success"), 8);
+    Ok(())
+}
+
+#[test]
+fn a_variant_is_lent_or_changed(rt: HostRuntime) -> Result<(), Fail> {
+    let success: Small = Outcome::Success(8);
+    let error: Small = Outcome::Error(7);
+    let forward: Small = Outcome::Forward(9);
+    assert_eq!(rt; success.as_ref().map(|s| *s).succeeded(), Some(8));
+    let mut changed = success;
+    if let Outcome::Success(value) = changed.as_mut() {
+        *value = 5;
+    }
+    assert_eq!(rt; changed.succeeded(), Some(5));
+    assert_eq!(rt;
+        (success.map(|s| s / 2), error.map(|s| s / 2)),
+        (Outcome::Success(4), error)
+    );
+    assert_eq!(rt;
+        (error.map_error(|e| e / 7), success.map_error(|e| e / 7)),
+        (Outcome::Error(1), success)
+    );
+    assert_eq!(rt;
+        (forward.map_forward(|f| f / 9), error.map_forward(|f| f / 9)),
+        (Outcome::Forward(1), error)
+    );
+    assert_eq!(rt; success.and_then(|_| error), error);
+    assert_eq!(rt; forward.and_then(|_| error), forward);
+    assert_eq!(rt; error.error_then(|_| forward), forward);
+    assert_eq!(rt; success.error_then(|_| forward), success);
+    assert_eq!(rt; forward.forward_then(|_| success), success);
+    assert_eq!(rt; error.forward_then(|_| success), error);
+    assert_eq!(rt;
+        (
+            success.ok_map_forward(|_| Ok(1)),
+            forward.ok_map_forward(|_| Ok(1))
+        ),
+        (Ok(8), Ok(1))
+    );
+    assert_eq!(rt;
+        (
+            error.ok_map_forward(|_| Ok(1)),
+            success.ok_map_error(|_| Ok(1))
+        ),
+        (Err(7), Ok(8))
+    );
+    assert_eq!(rt;
+        (
+            error.ok_map_error(|_| Ok(1)),
+            forward.ok_map_error(|_| Ok(1))
+        ),
+        (Ok(1), Err(9))
+    );
+    Ok(())
+}

@@ -1,6 +1,6 @@
 use Rattle.std.proofs.Common.{◌≡◌, ◌≤◌, ◌+◌, ◌++◌, ℕ, length}
 use Rattle.rkt_demo.specs.declared.script.TheConstants.{SCRIPT_LIMIT}
-use Rattle.rkt_demo.specs.Script.{lines_of, AreGood, IsFirstBad, targets_of}
+use Rattle.rkt_demo.specs.Script.{lines_of, AreGood, IsFirstBad, heads_of}
 use Rattle.rkt_demo.proofs.script.parse_script.Given as goal
 
 -- what holds of the rest decides what holds of the whole
@@ -8,7 +8,7 @@ abbrev pub invariant-loop-rest : goal.invariant-loop-rest
 invariant-loop-rest l =
     (AreGood l.room (lines_of l.rest) → AreGood SCRIPT_LIMIT (lines_of l.script))
     × ((number : ℕ) → IsFirstBad l.number l.room (lines_of l.rest) number → IsFirstBad 1 SCRIPT_LIMIT (lines_of l.script) number)
-    × (l.targets.items ++ targets_of (lines_of l.rest) ≡ targets_of (lines_of l.script))
+    × (l.heads.items ++ heads_of (lines_of l.rest) ≡ heads_of (lines_of l.script))
     × (l.number + length l.rest ≤ length l.script + 1)
 
 abbrev pub decreases-loop-rest : goal.decreases-loop-rest

@@ -1,24 +1,25 @@
-use Rattle.std.proofs.Common.{ap, ◌∙◌, ◌++◌, map, string_bytes, List, ℕ, refl}
-use Rattle.rkt_http.specs.Headers.{Group}
-use Rattle.rkt_http.proofs.Groups.{changed_at, pushed_last}
+use Rattle.std.proofs.Common.{◌∙◌, ◌++◌, ap, refl, List, ℕ}
+use Rattle.rkt_http.specs.Headers.{Group, added_all}
+use Rattle.rkt_http.proofs.Groups.{changed_there, put_last}
 use Rattle.rkt_http.proofs.header_map.HeaderMap.add_all.Goals as goal
 
-grown : Group → List (List ℕ) → Group
-grown group values = record group { values = group.values ++ values }
+grown : List (List ℕ) → Group → Group
+grown values group = record group { values = group.values ++ values }
 
-named : List ℕ → List (List ℕ) → Group
-named name values = record { name = name; values = values }
+group_of : List ℕ → List (List ℕ) → Group
+group_of name values = record { name = name; values = values }
 
-pub returns-in_ok-append-in-Some-clause-ok : goal.returns-in_ok-append-in-Some-clause-ok
-unfolding grown
-returns-in_ok-append-in-Some-clause-ok c =
-    rw (← c.self.view_is)
-    (changed_at _ _ _ (record { name = c.args.name.now; values = map string_bytes c.args.values.items }) _ _ _ _ _ c.place_of.ensures refl c.as_slice.ensures.value c.in-Some.is
-    c.index_mut.ensures.value (c.in_ok-append-in-Some.ensures.ok ∙ ap (grown c.index_mut.result.now) c.in_ok-values.ensures))
+pub returns-in_ok-append-in-At-clause-ok : goal.returns-in_ok-append-in-At-clause-ok
+unfolding grown group_of
+returns-in_ok-append-in-At-clause-ok c =
+    let values = c.in_ok-values.values.items in
+    changed_there (grown values) (group_of c.args.name.now values) _ _ _ _ _ _ c.in_ok-at.ensures refl c.self.view_is c.in-At.is c.in_ok-append-in-At.ensures.ok
+    ∙ ap (added_all c.args.self.now c.args.name.now) c.in_ok-values.ensures
 
-pub returns-in_ok-push-in-None-clause-ok : goal.returns-in_ok-push-in-None-clause-ok
-unfolding named
-returns-in_ok-push-in-None-clause-ok c =
-    rw (← c.self.view_is, c.in_ok-push-in-None.ensures.items)
-    (pushed_last _ _ _ (record { name = c.args.name.now; values = map string_bytes c.args.values.items }) _ _ _ c.place_of.ensures refl c.as_slice.ensures.value c.in-None.is
-    (ap (named c.in_ok-name-in-None.name) c.in_ok-values.ensures ∙ ap (λ (name : List ℕ). named name (map string_bytes c.args.values.items)) c.in_ok-name-in-None.ensures))
+pub returns-in_ok-insert-in-Free-clause-ok : goal.returns-in_ok-insert-in-Free-clause-ok
+unfolding grown group_of
+returns-in_ok-insert-in-Free-clause-ok c =
+    let values = c.in_ok-values.values.items in
+    put_last (grown values) (group_of c.args.name.now values) _ _ _ _ _ _ _ c.in_ok-at.ensures refl c.self.view_is c.in-Free.is
+    (c.new-in-Free.ensures ∙ ap (λ name. group_of name values) c.in_ok-name-in-Free.ensures) c.in_ok-insert-in-Free.ensures.ok
+    ∙ ap (added_all c.args.self.now c.args.name.now) c.in_ok-values.ensures

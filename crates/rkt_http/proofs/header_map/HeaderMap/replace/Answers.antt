@@ -1,29 +1,33 @@
-use Rattle.std.proofs.Common.{ap, ◌∙◌, ◌∷◌, [], List, ℕ}
-use Rattle.rkt_http.specs.Headers.{Group}
-use Rattle.rkt_http.proofs.Groups.{changed_at, pushed_last, there_found}
+use Rattle.std.proofs.Common.{◌≡◌, ◌∙◌, ◌∷◌, [], ap, List, ℕ}
+use Rattle.rkt_http.specs.Headers.{Group, replaced}
+use Rattle.rkt_http.proofs.Groups.{changed_there, put_last, there_found, none_found}
 use Rattle.rkt_http.proofs.header_map.HeaderMap.replace.Goals as goal
 
-named : List ℕ → List (List ℕ) → Group
-named name values = record { name = name; values = values }
+with_values : List (List ℕ) → Group → Group
+with_values values group = record group { values = values }
 
-pub returns-in-Some-clause-ok : goal.returns-in-Some-clause-ok
-unfolding named
-returns-in-Some-clause-ok c =
-    rw (← c.self.view_is)
-    (changed_at _ _ _ (record { name = c.args.header.name; values = c.args.header.value ∷ [] }) _ _ _ _ _ c.place_of.ensures (c.as_str.ensures ∙ c.into_parts-name.ensures.name) c.as_slice.ensures.value c.in-Some.is
-    c.index_mut.ensures.value (c.set.ensures ∙ ap (named c.index_mut.result.now.name) (c.in_ok-values.ensures ∙ ap (λ (v : List ℕ). v ∷ []) c.into_parts-name.ensures.value)))
+group_of : List ℕ → List (List ℕ) → Group
+group_of name values = record { name = name; values = values }
 
-pub returns-in-Some-clause-there : goal.returns-in-Some-clause-there
-returns-in-Some-clause-there c =
-    rw (← c.self.view_is) (there_found _ _ _ _ _ _ c.place_of.ensures (c.as_str.ensures ∙ c.into_parts-name.ensures.name) c.as_slice.ensures.value c.in-Some.is)
+pub returns-in-At-clause-ok : goal.returns-in-At-clause-ok
+unfolding with_values group_of
+returns-in-At-clause-ok c =
+    let header = c.into_parts-name.result in
+    let values : c.in_ok-values.values.items ≡ header.1 ∷ [] = c.in_ok-values.ensures in
+    changed_there (with_values (header.1 ∷ [])) (group_of header.0 (header.1 ∷ [])) _ _ _ _ _ _ c.in_ok-at.ensures c.as_str.ensures c.self.view_is c.in-At.is
+    (rw values at c.set.ensures)
+    ∙ (λ i. replaced c.args.self.now (record { name = c.into_parts-name.ensures.name i; value = c.into_parts-name.ensures.value i }))
 
-pub returns-in_ok-push-in-None-clause-ok : goal.returns-in_ok-push-in-None-clause-ok
-unfolding named
-returns-in_ok-push-in-None-clause-ok c =
-    rw (← c.self.view_is, c.in_ok-push-in-None.ensures.items)
-    (pushed_last _ _ _ (record { name = c.args.header.name; values = c.args.header.value ∷ [] }) _ _ _ c.place_of.ensures (c.as_str.ensures ∙ c.into_parts-name.ensures.name) c.as_slice.ensures.value c.in-None.is
-    (ap (named c.into_parts-name.result.0) (c.in_ok-values.ensures ∙ ap (λ (v : List ℕ). v ∷ []) c.into_parts-name.ensures.value) ∙ ap (λ (name : List ℕ). named name (c.args.header.value ∷ [])) c.into_parts-name.ensures.name))
+pub returns-in-At-clause-there : goal.returns-in-At-clause-there
+returns-in-At-clause-there c = there_found _ _ _ _ _ _ c.in_ok-at.ensures (c.as_str.ensures ∙ c.into_parts-name.ensures.name) c.self.view_is c.in-At.is
 
-pub returns-in_ok-push-in-None-clause-there : goal.returns-in_ok-push-in-None-clause-there
-returns-in_ok-push-in-None-clause-there c =
-    rw (← c.self.view_is) (there_found _ _ _ _ _ _ c.place_of.ensures (c.as_str.ensures ∙ c.into_parts-name.ensures.name) c.as_slice.ensures.value c.in-None.is)
+pub returns-in_ok-insert-in-Free-clause-ok : goal.returns-in_ok-insert-in-Free-clause-ok
+unfolding with_values group_of
+returns-in_ok-insert-in-Free-clause-ok c =
+    let header = c.into_parts-name.result in
+    put_last (with_values (header.1 ∷ [])) (group_of header.0 (header.1 ∷ [])) _ _ _ _ _ _ _ c.in_ok-at.ensures c.as_str.ensures c.self.view_is c.in-Free.is
+    (c.new.ensures ∙ ap (group_of header.0) c.in_ok-values.ensures) c.in_ok-insert-in-Free.ensures.ok
+    ∙ (λ i. replaced c.args.self.now (record { name = c.into_parts-name.ensures.name i; value = c.into_parts-name.ensures.value i }))
+
+pub returns-in_ok-insert-in-Free-clause-there : goal.returns-in_ok-insert-in-Free-clause-there
+returns-in_ok-insert-in-Free-clause-there c = none_found _ _ _ _ _ _ c.in_ok-at.ensures (c.as_str.ensures ∙ c.into_parts-name.ensures.name) c.self.view_is c.in-Free.is

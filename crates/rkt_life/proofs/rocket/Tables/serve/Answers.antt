@@ -1,19 +1,23 @@
-use Rattle.std.proofs.Common.{rules, ◌≡◌, ◌<◌, arith, length, refl, string_bytes, get_or}
-use Rattle.std.proofs.lemmas.Grind.{common_steps}
+use Rattle.std.proofs.Common.{◌≡◌, ◌<◌, ◌∙◌, ap, sym, length, refl, string_bytes, get_or, slice_get, Some, None}
 use Rattle.std.proofs.lemmas.Option.{slice_get_read}
+use Rattle.rkt_life.specs.Routes.{tries}
 use Rattle.rkt_life.proofs.Walks.{served_none, served_text}
 use Rattle.rkt_life.proofs.rocket.Tables.serve.Goals as goal
 
 pub returns-in_default : goal.returns-in_default
 returns-in_default g c =
-    served_none g.A.Handler.Handler.may c.args.self.now.routes c.args.request.now _ _ c.requires (search rules) (search rules)
+    let routes = c.as_slice-routes.ensures ∙ ap (λ t. t.routes) c.self.view_is in
+    let none : slice_get (tries c.args.self.now.routes c.args.request.now) 0 ≡ None = rw (← routes) (sym c.first_match.ensures.first ∙ c.in_default.is) in
+    served_none g.A.Handler.Handler.may c.args.self.now c.args.request.now _ _ c.requires none c.default_page.ensures
 
 pub returns : goal.returns
 returns g c =
-    let lt : c.in-Some.position < length c.args.self.now.routes = grind (arith, common_steps) in
-    let is : c.index-routes-position.result ≡ get_or c.args.self.now.routes c.in-Some.position c.index-routes-position.result = cc (c.index-routes-position.is, c.as_slice-routes.ensures) in
-    served_text g.A.Handler.Handler.may c.args.self.now.routes c.args.request.now c.in-Some.position (string_bytes c.in_ok-text.text) _ _
-    (search rules)
-    (c.index-routes-position.result, slice_get_read _ _ _ _ refl lt is, search rules)
-    (search rules)
+    let routes = c.as_slice-routes.ensures ∙ ap (λ t. t.routes) c.self.view_is in
+    let first : slice_get (tries c.args.self.now.routes c.args.request.now) 0 ≡ Some c.in-Some.position = rw (← routes) (sym c.first_match.ensures.first ∙ c.in-Some.is) in
+    let within : c.in-Some.position < length c.args.self.now.routes = rw (← routes) c.in-Some.ensures.within in
+    let is : c.index-routes-position.result ≡ get_or c.args.self.now.routes c.in-Some.position c.index-routes-position.result = rw (← routes) c.index-routes-position.is in
+    served_text g.A.Handler.Handler.may c.args.self.now c.args.request.now c.in-Some.position (string_bytes c.in_ok-text.text) _ _
+    first
+    (c.index-routes-position.result, slice_get_read _ _ _ _ refl within is, rw (c.set_route.ensures, ← c.index-routes-position.is) at c.in_ok-text.ensures)
+    (rw c.requires at c.in_ok-push.ensures.ok)
     c.text_page.ensures

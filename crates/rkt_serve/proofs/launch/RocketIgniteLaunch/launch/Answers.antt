@@ -1,44 +1,66 @@
 use Rattle.std.proofs.Common.{rules, ◌∙◌, sym, ap, subst}
+use Rattle.rkt_life.specs.HandsBack.{HandsBack}
 use Rattle.rkt_serve.specs.Clock.{IsWithin}
 use Rattle.rkt_serve.specs.Headline.{IsLegal}
-use Rattle.rkt_serve.proofs.Balance.{legal_closed}
+use Rattle.rkt_serve.proofs.Balance.{balanced_lift, legal_closed}
+use Rattle.rkt_serve.proofs.Handles.{rejoined}
 use Rattle.rkt_serve.proofs.launch.RocketIgniteLaunch.launch.Goals as goal
+
+pub serve_all-shutdown-requires-clause-balanced : goal.serve_all-shutdown-requires-clause-balanced
+serve_all-shutdown-requires-clause-balanced g c =
+    let lifted = rw (c.in-Ok-with_capacity.ensures.items, c.new-2.ensures) at c.enter.ensures.items in
+    rw lifted (balanced_lift g.A.Handler.Handler.may c.into_parts-tables.result.0 g.L.Link.Link.meaning (g.L.Listener.meaning c.args.listener).given (g.C.Clock.meaning c.args.clock).window
+    (g.C.Clock.meaning c.args.clock).last c.requires.fresh.none_given)
 
 pub returns-in-Ok-served : goal.returns-in-Ok-served
 returns-in-Ok-served g c =
     let may = g.A.Handler.Handler.may in
     let meaning = g.L.Link.Link.meaning in
-    let given = (g.L.Listener.meaning c.serve_all-served.new.listener).given in
+    let given = (g.L.Listener.meaning c.serve_all-shutdown.new.listener).given in
     let window = (g.C.Clock.meaning c.args.clock).window in
-    let within = subst (λ w. IsWithin w c.now-moment.result) c.serve_all-served.ensures.window c.now-moment.ensures.window in
-    let closed = legal_closed may c.tables.result.now.routes meaning given window _ c.now-moment.result c.serve_all-served.new.events.items c.serve_all-served.ensures.balanced c.now-moment.ensures.rises within in
-    let legal = subst (λ rs. IsLegal may rs meaning given window c.from_vec.result) (ap (λ t. t.routes) c.tables.ensures)
-    (subst (λ es. IsLegal may c.tables.result.now.routes meaning given window es) (sym (c.from_vec.ensures ∙ c.enter-2.ensures.items)) closed) in
+    let within = subst (λ w. IsWithin w c.now-moment.result) c.serve_all-shutdown.ensures.window c.now-moment.ensures.window in
+    let closed = legal_closed may c.into_parts-tables.result.0 meaning given window _ c.now-moment.result c.serve_all-shutdown.new.events.items c.serve_all-shutdown.ensures.balanced c.now-moment.ensures.rises within in
+    let legal = subst (λ ts. IsLegal may ts meaning given window c.from_vec.result) (sym (ap (λ r. r.tables) c.from_parts.ensures))
+    (subst (λ es. IsLegal may c.into_parts-tables.result.0 meaning given window es) (sym (c.from_vec.ensures ∙ c.enter-2.ensures.items)) closed) in
+    let back = rejoined c.args.self.handle c.split.new.self c.rejoin.new.self c.serve_all-shutdown.result.0 (c.split.ensures.same ∙ c.into_parts-tables.ensures.handle) c.rejoin.ensures.wire c.rejoin.ensures.looked c.rejoin.ensures.again in
     record {
-      tables = search rules;
+      tables = ap (λ r. r.tables) c.from_parts.ensures ∙ c.into_parts-tables.ensures.tables;
+      handle = subst (λ h. HandsBack c.args.self.handle h) (sym (ap (λ r. r.handle) c.from_parts.ensures)) back;
       ordered = legal.ordered;
       caused = legal.caused;
       closed = legal.closed;
-      ended = c.in-Ok-served.ensures.ended;
-      sound = search rules;
+      ended = rw c.in-Ok-served.is at c.serve_all-shutdown.ensures.ended;
+      sound = c.serve_all-shutdown.ensures.sound ∙ c.requires.fresh.no_fault;
       requests = legal.all_admitted;
-      offers = c.in-Ok-served.ensures.offers;
+      offers = rw c.in-Ok-served.is at c.serve_all-shutdown.ensures.offers;
       ends = legal.once;
       entries = legal.entries;
       moments = legal.timed;
       kept_tables = tt;
+      kept_handle = tt;
       kept_legal = tt;
       kept_sound = tt;
     }
+
+pub returns-in-Err-clause-kept_tables : goal.returns-in-Err-clause-kept_tables
+returns-in-Err-clause-kept_tables g c = rw c.new-in-Err.ensures (ap (λ r. r.tables) c.from_parts.ensures ∙ c.into_parts-tables.ensures.tables)
+
+pub returns-in-Err-clause-kept_handle : goal.returns-in-Err-clause-kept_handle
+returns-in-Err-clause-kept_handle g c =
+    let back = rejoined c.args.self.handle c.split.new.self c.rejoin.new.self c.serve_all-shutdown.result.0 (c.split.ensures.same ∙ c.into_parts-tables.ensures.handle) c.rejoin.ensures.wire c.rejoin.ensures.looked c.rejoin.ensures.again in
+    rw c.new-in-Err.ensures (subst (λ h. HandsBack c.args.self.handle h) (sym (ap (λ r. r.handle) c.from_parts.ensures)) back)
+
+pub returns-in-Err-clause-kept_sound : goal.returns-in-Err-clause-kept_sound
+returns-in-Err-clause-kept_sound g c = rw c.new-in-Err.ensures (c.serve_all-shutdown.ensures.sound ∙ c.requires.fresh.no_fault)
 
 pub returns-in-Err-clause-kept_legal : goal.returns-in-Err-clause-kept_legal
 returns-in-Err-clause-kept_legal g c =
     let may = g.A.Handler.Handler.may in
     let meaning = g.L.Link.Link.meaning in
-    let given = (g.L.Listener.meaning c.serve_all-served.new.listener).given in
+    let given = (g.L.Listener.meaning c.serve_all-shutdown.new.listener).given in
     let window = (g.C.Clock.meaning c.args.clock).window in
-    let within = subst (λ w. IsWithin w c.now-moment.result) c.serve_all-served.ensures.window c.now-moment.ensures.window in
-    let closed = legal_closed may c.tables.result.now.routes meaning given window _ c.now-moment.result c.serve_all-served.new.events.items c.serve_all-served.ensures.balanced c.now-moment.ensures.rises within in
-    let legal = subst (λ rs. IsLegal may rs meaning given window c.from_vec.result) (ap (λ t. t.routes) c.tables.ensures)
-    (subst (λ es. IsLegal may c.tables.result.now.routes meaning given window es) (sym (c.from_vec.ensures ∙ c.enter-2.ensures.items)) closed) in
+    let within = subst (λ w. IsWithin w c.now-moment.result) c.serve_all-shutdown.ensures.window c.now-moment.ensures.window in
+    let closed = legal_closed may c.into_parts-tables.result.0 meaning given window _ c.now-moment.result c.serve_all-shutdown.new.events.items c.serve_all-shutdown.ensures.balanced c.now-moment.ensures.rises within in
+    let legal = subst (λ ts. IsLegal may ts meaning given window c.from_vec.result) (sym (ap (λ r. r.tables) c.from_parts.ensures))
+    (subst (λ es. IsLegal may c.into_parts-tables.result.0 meaning given window es) (sym (c.from_vec.ensures ∙ c.enter-2.ensures.items)) closed) in
     rw c.new-in-Err.ensures legal

@@ -1,0 +1,81 @@
+ghost use Rattle.std.specs.Prelude.{◌≡◌, ◌∷◌, ◌++◌, [], OnOk, OnErr};
+ghost use Rattle.rkt_http.specs.Headers.{Group, is_named};
+
+use crate::copies::copy_texts;
+use crate::uncased::Uncased;
+use rkt_base::{NoMemory, Text};
+use std::marker::Model;
+
+/// The values under one name.
+#[derive(Debug, Drop)]
+pub(crate) struct Entry {
+    name: Uncased,
+    values: Vec<Text>,
+}
+
+impl Model for Entry {
+    ghost use Rattle.rkt_http.specs.Headers.{Group};
+
+    ghost Value = { Group };
+
+    ghost view = { λ e. record { name = e.name; values = e.values.items } };
+}
+
+impl Entry {
+    pub(crate) fn new(name: Uncased, values: Vec<Text>) -> Entry
+        ensures { result ≡ record { name = name; values = values.items } }
+    {
+        Entry { name, values }
+    }
+
+    pub(crate) fn name(&self) -> &str
+        ensures { result.now ≡ self.now.name }
+    {
+        self.name.as_str()
+    }
+
+    pub(crate) fn values(&self) -> &[Text]
+        ensures { result.now ≡ self.now.values }
+    {
+        self.values.as_slice()
+    }
+
+    pub(crate) fn is_named(&self, name: &str) -> bool
+        ensures { result ≡ is_named name.now self.now }
+    {
+        self.name.as_str().eq_ignore_ascii_case(name)
+    }
+
+    pub(crate) fn push(&mut self, value: Text) -> Result<(), NoMemory>
+        ensures ok { OnOk result (self.new ≡ record self.old { values = self.old.values ++ value ∷ [] }) }
+        ensures err { OnErr result (self.new ≡ self.old) }
+    {
+        self.values.push(value)?;
+        Ok(())
+    }
+
+    pub(crate) fn append(&mut self, values: &mut Vec<Text>) -> Result<(), NoMemory>
+        ensures ok { OnOk result (self.new ≡ record self.old { values = self.old.values ++ values.old.items }) }
+        ensures err { OnErr result (self.new ≡ self.old) }
+    {
+        self.values.append(values)
+    }
+
+    pub(crate) fn set(&mut self, values: Vec<Text>)
+        ensures { self.new ≡ record self.old { values = values.items } }
+    {
+        self.values = values;
+    }
+}
+
+impl Clone for Entry {
+    ghost is_clone = { λ entry copy. copy ≡ entry };
+
+    fn clone(&self) -> Result<Entry, NoMemory> {
+        let alloc = *self.values.allocator();
+        Ok(Entry {
+            name: self.name.try_clone(alloc)?,
+            values: copy_texts(alloc, self.values.as_slice())?,
+        })
+    }
+}

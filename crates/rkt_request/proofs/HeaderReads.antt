@@ -1,0 +1,43 @@
+-- What is kept beside headers, when a field is added or put in place of others.
+use Rattle.std.proofs.Common.{◌≡◌, ℕ, List, Option, Some, codes}
+use Rattle.rkt_http.specs.Accept.{Weighed}
+use Rattle.rkt_http.specs.AcceptText.{SpellsAccept}
+use Rattle.rkt_http.specs.Headers.{Group}
+use Rattle.rkt_http.specs.Media.{Media}
+use Rattle.rkt_http.specs.MediaText.{SpellsMedia}
+use Rattle.rkt_request.specs.RequestHeaders.{IsRead}
+use Rattle.rkt_request.specs.Seen.{ReadAs, first_value}
+use Rattle.rkt_request.proofs.FirstValues.{read_anew, read_before}
+
+abbrev pub content_type : List ℕ
+content_type = codes "Content-Type"
+
+abbrev pub accept : List ℕ
+accept = codes "Accept"
+
+module _ {before : List Group} {kept : Option Media} {accepted : Option (List Weighed)} {any : Media} (was : IsRead before kept accepted any) (after : List Group) where
+  pub all_stay : first_value after content_type ≡ first_value before content_type → first_value after accept ≡ first_value before accept → IsRead after kept accepted any
+  all_stay types accepts =
+      record {
+        content_type_read = read_before SpellsMedia content_type before after kept types was.content_type_read;
+        accept_read = read_before SpellsAccept accept before after accepted accepts was.accept_read;
+        any_is = was.any_is;
+      }
+
+  pub content_type_anew : (text : List ℕ) (found : Option Media) → first_value after content_type ≡ Some text → ReadAs SpellsMedia text found
+      → first_value after accept ≡ first_value before accept → IsRead after found accepted any
+  content_type_anew text found first read accepts =
+      record {
+        content_type_read = read_anew SpellsMedia content_type after text found first read;
+        accept_read = read_before SpellsAccept accept before after accepted accepts was.accept_read;
+        any_is = was.any_is;
+      }
+
+  pub accept_anew : (text : List ℕ) (found : Option (List Weighed)) → first_value after accept ≡ Some text → ReadAs SpellsAccept text found
+      → first_value after content_type ≡ first_value before content_type → IsRead after kept found any
+  accept_anew text found first read types =
+      record {
+        content_type_read = read_before SpellsMedia content_type before after kept types was.content_type_read;
+        accept_read = read_anew SpellsAccept accept after text found first read;
+        any_is = was.any_is;
+      }

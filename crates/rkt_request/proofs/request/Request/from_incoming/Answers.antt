@@ -1,0 +1,28 @@
+use Rattle.std.proofs.Common.{unwrap_or, ap, ◌∙◌, subst, sym, refl, codes}
+use Rattle.rkt_http.specs.Headers.{values_of}
+use Rattle.rkt_http.specs.Method.{method_of}
+use Rattle.rkt_http.specs.Origin.{Spells}
+use Rattle.rkt_http.specs.declared.method.Method.TheVariants.{Get}
+use Rattle.rkt_http.specs.declared.origin_place.Profile.TheVariants.{Request as OfRequest}
+use Rattle.rkt_request.specs.Incoming.{IsJar, SpellsHost, faults_of, headers_of}
+use Rattle.rkt_request.specs.Seen.{MaybeReadAs, ReadAs, first_value}
+use Rattle.rkt_request.proofs.request.Request.from_incoming.Goals as goal
+
+pub returns : goal.returns
+returns g c =
+    let method = c.from_wire-method.ensures ∙ ap method_of c.as_str.ensures in
+    rw c.of_parts-request.ensures
+    (record {
+      method = c.unwrap_or-method.ensures ∙ ap (λ found. unwrap_or found Get) method;
+      target = c.in_ok-target.target;
+      target_read = subst (λ text. ReadAs (Spells OfRequest) text c.in_ok-target.target) c.as_str-2.ensures c.in_ok-target.ensures;
+      uri = c.in_ok-uri.ensures;
+      faults_are = c.in_ok-faults.ensures ∙ ap (λ found. faults_of found c.in_ok-target.target) method;
+      headers = c.in_ok-headers.ensures ∙ c.in_ok-map.ensures ∙ ap headers_of c.as_slice.ensures;
+      host = subst (λ headers. MaybeReadAs SpellsHost (first_value headers (codes "Host")) c.in_ok-host.host) (sym c.in_ok-headers.ensures) c.in_ok-host.ensures;
+      remote = refl;
+      route = refl;
+      config_lent = refl;
+      managed_lent = refl;
+      cookies = subst (λ headers. IsJar (values_of headers (codes "Cookie")) c.in_ok-jar.jar) (sym c.in_ok-headers.ensures) c.in_ok-jar.ensures;
+    })

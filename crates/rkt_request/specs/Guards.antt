@@ -1,0 +1,133 @@
+-- What the data guards of this crate answer.
+use Rattle.std.specs.Prelude.{◌≡◌, ◌≢◌, ℕ, ◌+◌, ◌-◌, ◌≤◌, ◌++◌, ◌∷◌, [], Bool, true, false, List, Option, Some, None, Result, Ok, Err, if◌then◌else◌, String, Vec, codes}
+use Rattle.std.specs.Option.{option_map_or}
+use Rattle.std.specs.declared.alloc.Global.{Global}
+use Rattle.rkt_base.specs.declared.poll.Poll.{Poll}
+use Rattle.rkt_base.specs.declared.poll.Poll.TheVariants.{Ready}
+use Rattle.rkt_data.specs.Body.{Body}
+use Rattle.rkt_data.specs.Gathering.{Gathering, GathersBytes}
+use Rattle.rkt_data.specs.Source.{Meaning}
+use Rattle.rkt_data.specs.Stream.{Follows, PullsAtMost}
+use Rattle.rkt_data.specs.Text.{AnswersText}
+use Rattle.rkt_data.specs.Tap.{Tapped, SameTap, ByGate}
+use Rattle.rkt_data.specs.declared.capped.Capped.{Capped}
+use Rattle.rkt_data.specs.declared.data_stream.ByteUnit.{ByteUnit}
+use Rattle.rkt_data.specs.declared.error.DataError.{DataError}
+use Rattle.rkt_data.specs.declared.error.DataError.TheVariants.{NoMemory}
+use Rattle.rkt_data.specs.declared.source.Gate.{Gate}
+use Rattle.rkt_http.specs.Outcome.{MatchOutcome, IsErrorAnd}
+use Rattle.rkt_http.specs.declared.outcome.Outcome.{Outcome}
+use Rattle.rkt_http.specs.declared.outcome.Outcome.TheVariants.{Success, Error, Forward}
+use Rattle.rkt_http.specs.declared.status.Status.{Status}
+use Rattle.rkt_request.specs.Guarding.{Guarded, Guarding}
+use Rattle.rkt_request.specs.Limits.{IsLimitOf}
+use Rattle.rkt_request.specs.Seen.{Seen}
+use Rattle.rkt_request.specs.declared.from_data.GuardError.{GuardError}
+use Rattle.rkt_request.specs.declared.from_data.GuardError.TheVariants.{Io, LimitExceeded}
+
+abbrev pub bad_request : Status
+bad_request = record { code = 400 }
+
+-- the limit that a configuration has for a name, or else this one
+abbrev pub IsLimit : {V : Type 0} → List ℕ → ℕ → Seen V → ℕ → Type 0
+IsLimit name otherwise request limit = (found : Option ByteUnit) × IsLimitOf request.config.limits name found × (limit ≡ option_map_or (λ unit. unit.0) found otherwise)
+
+-- how many polls of a source were Pending, and how many may be
+abbrev pub pended : {S : Type 0} → (S → Meaning) → Option (Tapped S) → ℕ
+pended meaning tap = option_map_or (λ t. (meaning t.now).pended) tap 0
+
+abbrev pub pendings : {S : Type 0} → (S → Meaning) → Option (Tapped S) → ℕ
+pendings meaning tap = option_map_or (λ t. (meaning t.now).pendings) tap 0
+
+module _ {S : Type 0} (meaning : S → Meaning) (polled : S → Gate → S → Type 0) where
+  -- reads under each of these Gates in turn lead a body's source from the first to the second
+  abbrev pub Leads : List Gate → Option (Tapped S) → Option (Tapped S) → Type 0
+  Leads [] t u = u ≡ t
+  Leads (gate ∷ gates) t u = (v : Option (Tapped S)) × SameTap meaning gate.tripped t v × ByGate polled gate t v × Leads gates v u
+
+  -- a state gathers the whole body up to this limit; it was polled under these Gates, and the source was Pending n
+  -- times at least
+  pub record IsReading (most : ℕ) (body : Body S) (gates : List Gate) (n : ℕ) (reading : Gathering S) : Type 0 where
+    pub front : reading.stream.front ≡ body.held
+    pub limit : reading.stream.limit ≡ most
+    pub from : reading.from ≡ 0
+    pub failed : reading.failed ≡ None
+    pub done : reading.done ≡ false
+    pub source : Leads gates body.tap reading.stream.tap
+    pub waited : n + pended meaning body.tap ≤ pended meaning reading.stream.tap
+    pub bound : PullsAtMost meaning reading.stream
+
+  -- the last of these polls has given an answer, which is not want of memory, as such a state answers
+  pub record Ends {X : Type 0} (Answers : Gathering S → Gathering S → Poll (Result X DataError) → Type 0) (most : ℕ) (body : Body S) (gates : List Gate) (answer : Result X DataError) : Type 0 where
+    pub earlier : List Gate
+    pub last : Gate
+    pub polls : gates ≡ earlier ++ last ∷ []
+    pub before : Gathering S
+    pub after : Gathering S
+    pub reading : IsReading most body earlier 0 before
+    pub follows : Follows meaning last.tripped before.stream after.stream
+    pub by_gate : ByGate polled last before.stream.tap after.stream.tap
+    pub bound : PullsAtMost meaning after.stream
+    pub answers : Answers before after (Ready answer)
+    pub cause : answer ≢ Err NoMemory
+
+-- the value, or an error with 400
+abbrev pub or_bad_request : {X F : Type 0} → Result X DataError → Outcome X (Status × GuardError) F
+or_bad_request (Ok x) = Success x
+or_bad_request (Err e) = Error (bad_request, Io e)
+
+-- the guard that reads a body by such a state, up to the limit of a name
+abbrev pub capped_guard : {V S X : Type 0} → (S → Meaning) → (S → Gate → S → Type 0) → (Gathering S → Gathering S → Poll (Result X DataError) → Type 0) → List ℕ → ℕ → Guarding V (Body S) X GuardError (Gathering S)
+capped_guard {V} {S} {X} meaning polled Answers name otherwise = record {
+  begun = λ request body gates n reading. (limit : ℕ) × IsLimit name otherwise request limit × IsReading meaning polled limit body gates n reading;
+  may = λ request body gates outcome. (limit : ℕ) × IsLimit name otherwise request limit × ((answer : Result X DataError) × Ends meaning polled Answers limit body gates answer × (outcome ≡ or_bad_request answer));
+  pendings = λ request body. pendings meaning body.tap - pended meaning body.tap;
+}
+
+-- the guards of a text and of bytes
+abbrev pub text_guard : {V S : Type 0} → (S → Meaning) → (S → Gate → S → Type 0) → Guarding V (Body S) (Capped (String Global)) GuardError (Gathering S)
+text_guard meaning polled = capped_guard meaning polled (AnswersText meaning) (codes "string") 8192
+
+abbrev pub bytes_guard : {V S : Type 0} → (S → Meaning) → (S → Gate → S → Type 0) → Guarding V (Body S) (Capped (Vec ℕ Global)) GuardError (Gathering S)
+bytes_guard meaning polled = capped_guard meaning polled (GathersBytes meaning) (codes "bytes") 8192
+
+-- the guard that answers what f makes of another guard's outcome
+abbrev pub guard_by : {V B G H D E R : Type 0} → (Guarded B G D → Guarded B H E) → Guarding V B G D R → Guarding V B H E R
+guard_by {V} {B} {G} {H} {D} {E} {R} f inner = record {
+  begun = inner.begun;
+  may = λ request body gates outcome. (answer : Guarded B G D) × inner.may request body gates answer × (outcome ≡ f answer);
+  pendings = inner.pendings;
+}
+
+-- a value that is complete, and else an error with 400 that says how much was read
+abbrev pub strict : {X F : Type 0} → Outcome (Capped X) (Status × GuardError) F → Outcome X (Status × GuardError) F
+strict (Success capped) = if capped.n.complete then Success capped.value else Error (bad_request, LimitExceeded capped.n.written)
+strict (Error e) = Error e
+strict (Forward f) = Forward f
+
+abbrev pub ErrsWith400 : {X E F : Type 0} → Outcome X (Status × E) F → Type 0
+ErrsWith400 outcome = IsErrorAnd outcome (λ e. e.0.code ≡ 400)
+
+-- an error with 400, or a value that is not complete
+abbrev pub ErrsOrIsCut : {X E F : Type 0} → Outcome (Capped X) (Status × E) F → Type 0
+ErrsOrIsCut outcome = MatchOutcome outcome (λ capped. capped.n.complete ≡ false) (λ e. e.0.code ≡ 400) (λ _. ⊥)
+
+-- an Error is kept as Err
+abbrev pub kept_answer : {G E D F : Type 0} → Outcome G (Status × E) F → Outcome (Result G E) D F
+kept_answer (Success x) = Success (Ok x)
+kept_answer (Error e) = Success (Err e.1)
+kept_answer (Forward f) = Forward f
+
+-- whatever is no Success is None
+abbrev pub kept_value : {G E D F H : Type 0} → Outcome G E F → Outcome (Option G) D H
+kept_value (Success x) = Success (Some x)
+kept_value (Error e) = Success None
+kept_value (Forward f) = Success None
+
+-- the body as it is, at once
+abbrev pub body_guard : {V B E : Type 0} → Guarding V B B E (Option B)
+body_guard = record {
+  begun = λ request body gates n reading. reading ≡ Some body;
+  may = λ request body gates outcome. outcome ≡ Success body;
+  pendings = λ request body. 0;
+}

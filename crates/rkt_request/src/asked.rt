@@ -1,0 +1,130 @@
+//! The parts of a head, each as it is read.
+ghost use Rattle.std.specs.Prelude.{◌≡◌, ◌∷◌, [], IfOk, OnOk, IsUtf8, MatchOption, codes, unwrap_or};
+ghost use Rattle.rkt_cookie.specs.Reading.{Reads};
+ghost use Rattle.rkt_http.specs.Headers.{values_of};
+ghost use Rattle.rkt_http.specs.Origin.{Spells};
+ghost use Rattle.rkt_http.specs.declared.origin_place.Profile.TheVariants.{Request as OfRequest};
+ghost use Rattle.rkt_request.specs.Incoming.{AddsCookies, IsJar, SpellsHost, cookie_pieces, faults_of, headers_of, root};
+ghost use Rattle.rkt_request.specs.Seen.{MaybeReadAs, ReadAs, first_value};
+
+use crate::bad::Bad;
+use rkt_base::{Bytes, NoMemory, Seq, Text, Want};
+use rkt_cookie::{Cookie, CookieJar};
+use rkt_http::{Header, HeaderMap, Host, Method, Origin};
+use std::alloc::{AllocError, Global};
+
+/// The origin that a target spells.
+pub(crate) fn read_target(alloc: Global, target: &str) -> Result<Option<Origin>, NoMemory>
+    ensures { IfOk result (ReadAs (Spells OfRequest) target.now) }
+{
+    match Origin::parse(alloc, target) {
+        Ok(origin) => Ok(Some(origin)),
+        Err(Want::Refused(_)) => Ok(None),
+        Err(Want::NoMemory) => Err(AllocError),
+    }
+}
+
+/// An origin, or else `/`.
+pub(crate) fn or_root(alloc: Global, target: Option<Origin>) -> Result<Origin, NoMemory>
+    ensures { IfOk result (λ origin. origin ≡ unwrap_or target root) }
+{
+    match target {
+        Some(origin) => Ok(origin),
+        None => match Origin::parse(alloc, "/") {
+            Ok(origin) => Ok(origin),
+            Err(_) => Err(AllocError),
+        },
+    }
+}
+
+/// What is wrong with a head of which these were read.
+pub(crate) fn faults_of(
+    alloc: Global,
+    method: Option<Method>,
+    target: &Option<Origin>,
+) -> Result<Seq<Bad>, NoMemory>
+    ensures { IfOk result (λ faults. faults ≡ faults_of method target.now) }
+{
+    let mut faults = Seq::new(alloc);
+    if method.is_none() {
+        faults.push(Bad::BadMethod)?;
+    }
+    if target.is_none() {
+        faults.push(Bad::InvalidUri)?;
+    }
+    Ok(faults)
+}
+
+/// The bytes as a text, where they are UTF-8.
+fn as_text(bytes: &[u8]) -> Option<&str>
+    ensures { MatchOption result (¬ IsUtf8 bytes.now) (λ text. IsUtf8 bytes.now × (text.now ≡ bytes.now)) }
+{
+    str::from_utf8(bytes).ok()
+}
+
+/// The headers whose values are texts.
+pub(crate) fn read_headers(alloc: Global, headers: &[(Text, Bytes)]) -> Result<HeaderMap, NoMemory>
+    ensures { IfOk result (λ map. map ≡ headers_of headers.now) }
+{
+    let mut map = HeaderMap::new(alloc);
+    for (name, value) in headers {
+        if let Some(value) = as_text(value.as_slice()) {
+            map.add(Header::new(alloc, name.as_str(), value)?)?;
+        }
+    }
+    Ok(map)
+}
+
+/// The host that the first Host header spells.
+pub(crate) fn read_host(alloc: Global, headers: &HeaderMap) -> Result<Option<Host>, NoMemory>
+    ensures { IfOk result (MaybeReadAs SpellsHost (first_value headers.now (codes "Host"))) }
+{
+    let Some(text) = headers.get_one("Host") else {
+        return Ok(None);
+    };
+    match Host::parse(alloc, text) {
+        Ok(host) => Ok(Some(host)),
+        Err(Want::Refused(_)) => Ok(None),
+        Err(Want::NoMemory) => Err(AllocError),
+    }
+}
+
+/// The jar of the Cookie headers.
+pub(crate) fn read_jar(alloc: Global, headers: &HeaderMap) -> Result<CookieJar, NoMemory>
+    ensures { IfOk result (IsJar (values_of headers.now (codes "Cookie"))) }
+{
+    let mut jar = CookieJar::new(alloc);
+    for value in headers.get("Cookie") {
+        add_header_cookies(alloc, &mut jar, value)?;
+    }
+    Ok(jar)
+}
+
+fn add_header_cookies(alloc: Global, jar: &mut CookieJar, value: &str) -> Result<(), NoMemory>
+    ensures { OnOk result (AddsCookies (cookie_pieces value.now) jar.old jar.new) }
+{
+    for piece in value.split(';') {
+        add_cookie(alloc, jar, piece.trim())?;
+    }
+    Ok(())
+}
+
+/// Keeps the cookie that a piece says, where it says one.
+fn add_cookie(alloc: Global, jar: &mut CookieJar, piece: &str) -> Result<(), NoMemory>
+    ensures { OnOk result (AddsCookies (piece.now ∷ []) jar.old jar.new) }
+{
+    match read_cookie(alloc, piece)? {
+        Some(cookie) => jar.add_original(alloc, cookie),
+        None => Ok(()),
+    }
+}
+
+fn read_cookie(alloc: Global, piece: &str) -> Result<Option<Cookie>, NoMemory>
+    ensures { IfOk result (ReadAs Reads piece.now) }
+{
+    match Cookie::parse_encoded(alloc, piece) {
+        Ok(cookie) => Ok(Some(cookie)),
+        Err(Want::Refused(_)) => Ok(None),
+        Err(Want::NoMemory) => Err(AllocError),
+    }
+}

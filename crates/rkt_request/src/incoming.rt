@@ -1,0 +1,53 @@
+//! What is asked, as a request.
+ghost use Rattle.std.specs.Prelude.{IfOk};
+ghost use Rattle.rkt_request.specs.Incoming.{IsIncoming};
+
+use crate::asked::{faults_of, or_root, read_headers, read_host, read_jar, read_target};
+use crate::bad::Bad;
+use crate::config::Config;
+use crate::head::Head;
+use crate::managed::Managed;
+use crate::request::Request;
+use crate::request_headers::RequestHeaders;
+use crate::types::Types;
+use rkt_base::{NoMemory, Seq};
+use rkt_cookie::CookieJar;
+use rkt_http::Method;
+use std::alloc::Global;
+
+/// The request that a head makes, and the cookies that came with it.
+#[derive(Drop)]
+pub struct Incoming<'a, T: Types> {
+    pub request: Request<'a, T>,
+    pub jar: CookieJar,
+    /// What is wrong with the head. Where there is anything, the request has a method or an origin that was not asked.
+    pub faults: Seq<Bad>,
+}
+
+impl<'a, T: Types> Request<'a, T> {
+    /// Reads a head. Headers whose value is no UTF-8 are left out.
+    pub fn from_incoming(
+        alloc: Global,
+        head: &Head,
+        config: &'a Config,
+        managed: &'a Managed<T::Value>,
+    ) -> Result<Incoming<'a, T>, NoMemory>
+        ensures { IfOk result (λ incoming. IsIncoming head.now config.now managed.now incoming.request incoming.jar incoming.faults) }
+    {
+        let method = Method::from_wire(head.method.as_str());
+        let target = read_target(alloc, head.target.as_str())?;
+        let faults = faults_of(alloc, method, &target)?;
+        let map = read_headers(alloc, head.headers.as_slice())?;
+        let host = read_host(alloc, &map)?;
+        let jar = read_jar(alloc, &map)?;
+        let uri = or_root(alloc, target)?;
+        let headers = RequestHeaders::new(alloc, map)?;
+        let method = method.unwrap_or(Method::Get);
+        let request = Request::of_parts(config, managed, method, uri, host, head.remote, headers);
+        Ok(Incoming {
+            request,
+            jar,
+            faults,
+        })
+    }
+}

@@ -1,0 +1,176 @@
+//! The headers of a request, with what is read of them whenever they change.
+ghost use Rattle.std.specs.Prelude.{◌≡◌, [], Some, IfOk, OnOk, OnErr, IsTrue, MatchBool, codes};
+ghost use Rattle.std.specs.Option.{option_copied};
+ghost use Rattle.std.specs.Str.{str_eq_ignore_ascii_case};
+ghost use Rattle.rkt_http.specs.AcceptText.{SpellsAccept};
+ghost use Rattle.rkt_http.specs.Headers.{added, replaced};
+ghost use Rattle.rkt_http.specs.Media.{known_media};
+ghost use Rattle.rkt_http.specs.MediaText.{SpellsMedia};
+ghost use Rattle.rkt_http.specs.declared.content_type.Known.TheVariants.{Any};
+ghost use Rattle.rkt_request.specs.Seen.{IsAccept, IsContentType, ReadAs, first_value};
+
+use rkt_base::{NoMemory, Want};
+use rkt_http::{Accept, ContentType, Header, HeaderMap, Known, MediaType};
+use std::alloc::{AllocError, Global};
+use std::marker::Model;
+
+/// A header map, of which the first Content-Type and the first Accept are each read once, when they change.
+#[derive(Drop)]
+pub(crate) struct RequestHeaders {
+    alloc: Global,
+    map: HeaderMap,
+    content_type: Option<ContentType>,
+    accept: Option<Accept>,
+    any: ContentType,
+}
+
+impl Model for RequestHeaders {
+    ghost use Rattle.std.specs.Prelude.{List};
+    ghost use Rattle.rkt_http.specs.Headers.{Group};
+    ghost use Rattle.rkt_request.specs.RequestHeaders.{IsRead};
+
+    ghost Value = { List Group };
+
+    ghost view = { λ h. h.map };
+
+    ghost invariant = { λ h. IsRead h.map h.content_type h.accept h.any };
+}
+
+/// The content type that a text spells.
+fn read_content_type(alloc: Global, text: &str) -> Result<Option<ContentType>, NoMemory>
+    ensures { IfOk result (ReadAs SpellsMedia text.now) }
+{
+    match ContentType::parse(alloc, text) {
+        Ok(content_type) => Ok(Some(content_type)),
+        Err(Want::Refused(_)) => Ok(None),
+        Err(Want::NoMemory) => Err(AllocError),
+    }
+}
+
+/// The media types that a text spells.
+fn read_accept(alloc: Global, text: &str) -> Result<Option<Accept>, NoMemory>
+    ensures { IfOk result (ReadAs SpellsAccept text.now) }
+{
+    match Accept::parse(alloc, text) {
+        Ok(accept) => Ok(Some(accept)),
+        Err(Want::Refused(_)) => Ok(None),
+        Err(Want::NoMemory) => Err(AllocError),
+    }
+}
+
+fn first_content_type(alloc: Global, headers: &HeaderMap) -> Result<Option<ContentType>, NoMemory>
+    ensures { IfOk result (IsContentType headers.now) }
+{
+    match headers.get_one("Content-Type") {
+        Some(text) => read_content_type(alloc, text),
+        None => Ok(None),
+    }
+}
+
+fn first_accept(alloc: Global, headers: &HeaderMap) -> Result<Option<Accept>, NoMemory>
+    ensures { IfOk result (IsAccept headers.now) }
+{
+    match headers.get_one("Accept") {
+        Some(text) => read_accept(alloc, text),
+        None => Ok(None),
+    }
+}
+
+fn is_named(header: &Header, name: &str) -> bool
+    ensures { result ≡ str_eq_ignore_ascii_case header.now.name name.now }
+{
+    header.name().as_str().eq_ignore_ascii_case(name)
+}
+
+/// Whether a header that is added becomes the first of this name.
+fn is_first(headers: &HeaderMap, header: &Header, name: &str) -> bool
+    ensures named { IsTrue result → IsTrue (str_eq_ignore_ascii_case header.now.name name.now) }
+    ensures first { MatchBool result (first_value (added headers.now header.now) name.now ≡ Some header.now.value)
+        (first_value (added headers.now header.now) name.now ≡ first_value headers.now name.now) }
+{
+    if !is_named(header, name) {
+        return false;
+    }
+    headers.get_one(name).is_none()
+}
+
+impl RequestHeaders {
+    pub(crate) fn new(alloc: Global, map: HeaderMap) -> Result<RequestHeaders, NoMemory>
+        ensures { IfOk result (λ headers. headers ≡ map) }
+    {
+        Ok(RequestHeaders {
+            alloc,
+            content_type: first_content_type(alloc, &map)?,
+            accept: first_accept(alloc, &map)?,
+            any: ContentType::known(alloc, Known::Any)?,
+            map,
+        })
+    }
+
+    pub(crate) fn map(&self) -> &HeaderMap
+        ensures { result.now ≡ self.now }
+    {
+        &self.map
+    }
+
+    pub(crate) fn content_type(&self) -> Option<&ContentType>
+        ensures { IsContentType self.now (option_copied result) }
+    {
+        self.content_type.as_ref()
+    }
+
+    pub(crate) fn accept(&self) -> Option<&Accept>
+        ensures { IsAccept self.now (option_copied result) }
+    {
+        self.accept.as_ref()
+    }
+
+    /// The media type of anything.
+    pub(crate) fn any(&self) -> &MediaType
+        ensures { result.now ≡ known_media Any }
+    {
+        self.any.media_type()
+    }
+
+    /// Adds a header behind those of its name.
+    pub(crate) fn add(&mut self, header: Header) -> Result<(), NoMemory>
+        ensures ok { OnOk result (self.new ≡ added self.old header) }
+        ensures err { OnErr result (self.new ≡ self.old) }
+    {
+        if is_first(&self.map, &header, "Content-Type") {
+            let content_type = read_content_type(self.alloc, header.value())?;
+            self.map.add(header)?;
+            self.content_type = content_type;
+            return Ok(());
+        }
+        if is_first(&self.map, &header, "Accept") {
+            let accept = read_accept(self.alloc, header.value())?;
+            self.map.add(header)?;
+            self.accept = accept;
+            return Ok(());
+        }
+        self.map.add(header)?;
+        Ok(())
+    }
+
+    /// Puts a header in place of those of its name.
+    pub(crate) fn replace(&mut self, header: Header) -> Result<(), NoMemory>
+        ensures ok { OnOk result (self.new ≡ replaced self.old header) }
+        ensures err { OnErr result (self.new ≡ self.old) }
+    {
+        if is_named(&header, "Content-Type") {
+            let content_type = read_content_type(self.alloc, header.value())?;
+            self.map.replace(header)?;
+            self.content_type = content_type;
+            return Ok(());
+        }
+        if is_named(&header, "Accept") {
+            let accept = read_accept(self.alloc, header.value())?;
+            self.map.replace(header)?;
+            self.accept = accept;
+            return Ok(());
+        }
+        self.map.replace(header)?;
+        Ok(())
+    }
+}
