@@ -54,24 +54,47 @@ fn segments<P: FromSegments>(
     }
 }
 
+/// Why a parameter is no path.
+fn path_error(alloc: Global, request: &Request<'_, Sample>) -> Result<PathError, Fail> {
+    match param::<PathBuf>(alloc, request, 0)? {
+        Some(Err(error)) => Ok(error),
+        _ => Err(Fail::from("not refused")),
+    }
+}
+
+/// The text of a parameter.
+fn text(alloc: Global, request: &Request<'_, Sample>) -> Result<String, Fail> {
+    match param::<String>(alloc, request, 0)? {
+        Some(Ok(text)) => Ok(text),
+        _ => Err(Fail::from("no text")),
+    }
+}
+
 #[test]
 fn a_parameter_is_a_decoded_segment_behind_the_base(rt: HostRuntime) -> Result<(), Fail> {
     let alloc = rt.alloc();
     let config = Config::default(alloc)?;
     let managed = Managed::new(alloc);
-    let request = routed(alloc, &config, &managed, "/1/2//%33/a%2Fb")?;
-    assert_eq!(rt; param::<Option<u8>>(alloc, &request, 0)?, Some(Ok(Some(2))));
-    assert_eq!(rt; param::<Option<u8>>(alloc, &request, 1)?, Some(Ok(Some(3))));
-    assert_eq!(rt; param::<Option<u8>>(alloc, &request, 2)?, Some(Ok(None)));
-    assert!(rt; param::<u8>(alloc, &request, 3)?.is_none());
-    match param::<PathBuf>(alloc, &request, 2)? {
-        Some(Err(error)) => assert_eq!(rt; error, PathError::BadChar('/')),
-        _ => return Err(Fail::from("not refused")),
+    let request = routed(alloc, &config, &managed, "/1/2//%33/x")?;
+    for (n, want) in [
+        (0usize, Some(Ok(Some(2u8)))),
+        (1, Some(Ok(Some(3)))),
+        (2, Some(Ok(None))),
+        (3, None),
+    ] {
+        assert_eq!(rt; param::<Option<u8>>(alloc, &request, n)?, want, "at {n}");
     }
-    match param::<String>(alloc, &request, 2)? {
-        Some(Ok(text)) => assert_eq!(rt; text.as_str(), "a/b"),
-        _ => return Err(Fail::from("no text")),
-    }
+    Ok(())
+}
+
+#[test]
+fn a_decoded_slash_is_text_and_no_path(rt: HostRuntime) -> Result<(), Fail> {
+    let alloc = rt.alloc();
+    let config = Config::default(alloc)?;
+    let managed = Managed::new(alloc);
+    let request = routed(alloc, &config, &managed, "/1/a%2Fb")?;
+    assert_eq!(rt; path_error(alloc, &request)?, PathError::BadChar('/'));
+    assert_eq!(rt; text(alloc, &request)?.as_str(), "a/b");
     Ok(())
 }
 
@@ -105,24 +128,29 @@ fn segments_walk_to_a_path(rt: HostRuntime) -> Result<(), Fail> {
     Ok(())
 }
 
+/// The decoded segments, with a bar between two.
+fn texts(alloc: Global, request: &Request<'_, Sample>) -> Result<String, Fail> {
+    match segments::<Vec<String>>(alloc, request, 0)? {
+        Ok(texts) => Ok(texts.as_slice().join(alloc, "|")?),
+        Err(_) => Err(Fail::from("refused")),
+    }
+}
+
+/// The path that the segments walk to, by the guard that never refuses.
+fn kept_path(alloc: Global, request: &Request<'_, Sample>) -> Result<PathBuf, Fail> {
+    match segments::<Result<PathBuf, PathError>>(alloc, request, 0)? {
+        Ok(Ok(path)) => Ok(path),
+        _ => Err(Fail::from("refused")),
+    }
+}
+
 #[test]
 fn segments_are_kept_as_texts(rt: HostRuntime) -> Result<(), Fail> {
     let alloc = rt.alloc();
     let config = Config::default(alloc)?;
     let managed = Managed::new(alloc);
     let request = routed(alloc, &config, &managed, "/base/a%20b/%ff//c")?;
-    match segments::<Vec<String>>(alloc, &request, 0)? {
-        Ok(texts) => {
-            assert_eq!(rt; texts.len(), 3);
-            assert_eq!(rt; texts[0].as_str(), "a b");
-            assert_eq!(rt; texts[1].as_str(), "\u{fffd}");
-            assert_eq!(rt; texts[2].as_str(), "c");
-        }
-        Err(_) => return Err(Fail::from("refused")),
-    }
-    match segments::<Result<PathBuf, PathError>>(alloc, &request, 0)? {
-        Ok(Ok(path)) => assert_eq!(rt; path.as_str(), "a b/\u{fffd}/c"),
-        _ => return Err(Fail::from("refused")),
-    }
+    assert_eq!(rt; texts(alloc, &request)?.as_str(), "a b|\u{fffd}|c");
+    assert_eq!(rt; kept_path(alloc, &request)?.as_str(), "a b/\u{fffd}/c");
     Ok(())
 }
