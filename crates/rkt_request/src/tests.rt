@@ -8,6 +8,7 @@ use rkt_http::{Header, Key, Method, Origin};
 use rkt_turn::{Reason, TripWire};
 use std::alloc::Global;
 use std::net::{IpAddr, Ipv4Addr};
+use std::process::Abort;
 use std::test::Fail;
 
 mod data_guards;
@@ -181,6 +182,23 @@ fn origin(alloc: Global, text: &str) -> Result<Origin, Fail> {
     Origin::parse(alloc, text).map_err(|_| Fail::from("no origin"))
 }
 
+fn knows_its_client(
+    rt: &impl Abort,
+    alloc: Global,
+    request: &mut Request<'_, Sample>,
+) -> Result<(), Fail> {
+    assert!(rt; request.client_ip().is_none());
+    request.add_header(Header::new(alloc, "x-real-ip", "127.0.0.1")?)?;
+    request.add_header(Header::new(alloc, "X-Real-IP", "::1")?)?;
+    assert_eq!(rt;
+        request.client_ip(),
+        Some(IpAddr::V4(Ipv4Addr::new(127, 0, 0, 1)))
+    );
+    request.replace_header(Header::new(alloc, "X-Real-IP", "nobody")?)?;
+    assert!(rt; request.real_ip().is_none());
+    Ok(())
+}
+
 #[test]
 fn a_request_knows_its_client(rt: HostRuntime) -> Result<(), Fail> {
     let config = Config::default(rt.alloc())?;
@@ -194,15 +212,17 @@ fn a_request_knows_its_client(rt: HostRuntime) -> Result<(), Fail> {
     assert_eq!(rt; request.routed_segment(0), Some("b c"));
     assert_eq!(rt; request.routed_segment(2), None);
     assert_eq!(rt; request.routed_segments(1..).len(), 1);
-    assert!(rt; request.client_ip().is_none());
-    request.add_header(Header::new(rt.alloc(), "x-real-ip", "127.0.0.1")?)?;
-    request.add_header(Header::new(rt.alloc(), "X-Real-IP", "::1")?)?;
-    assert_eq!(rt;
-        request.client_ip(),
-        Some(IpAddr::V4(Ipv4Addr::new(127, 0, 0, 1)))
-    );
-    request.replace_header(Header::new(rt.alloc(), "X-Real-IP", "nobody")?)?;
-    assert!(rt; request.real_ip().is_none());
+    knows_its_client(&rt, rt.alloc(), &mut request)
+}
+
+fn caches_once(rt: &impl Abort, alloc: Global, ctx: &mut Ctx<Sample>) -> Result<(), Fail> {
+    assert_eq!(rt; ctx.local_cache(Key(1), || 5)?, 5);
+    assert_eq!(rt; ctx.local_cache(Key(1), || 6)?, 5);
+    assert_eq!(rt; ctx.cached(), 1);
+    let cookie = Cookie::new(alloc, "a", "1")?;
+    ctx.cookies_mut().add(alloc, cookie)?;
+    assert_eq!(rt; ctx.cookies().log().len(), 1);
+    ctx.shutdown().notify(Stopped);
     Ok(())
 }
 
@@ -216,13 +236,7 @@ fn a_value_is_cached_once(rt: HostRuntime) -> Result<(), Fail> {
         mercy: 3,
     };
     let mut ctx = Ctx::<Sample>::new(rt.alloc(), CookieJar::new(rt.alloc()), shutdown, gate);
-    assert_eq!(rt; ctx.local_cache(Key(1), || 5)?, 5);
-    assert_eq!(rt; ctx.local_cache(Key(1), || 6)?, 5);
-    assert_eq!(rt; ctx.cached(), 1);
-    let cookie = Cookie::new(rt.alloc(), "a", "1")?;
-    ctx.cookies_mut().add(rt.alloc(), cookie)?;
-    assert_eq!(rt; ctx.cookies().log().len(), 1);
-    ctx.shutdown().notify(Stopped);
+    caches_once(&rt, rt.alloc(), &mut ctx)?;
     let (_jar, _cache, shutdown) = ctx.into_parts();
     assert_eq!(rt; shutdown.seen(), 2);
     Ok(())
