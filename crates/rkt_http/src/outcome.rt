@@ -246,6 +246,11 @@ impl<S: Drop, E: Drop, F: Drop> Outcome<S, E, F> {
 }
 
 impl<S, E, F> fmt::Debug for Outcome<S, E, F> {
+    ghost use Rattle.std.specs.Prelude.{◌++◌, Some, codes};
+    ghost use Rattle.rkt_http.specs.Outcome.{variant_name};
+
+    ghost debug_output = { λ outcome. Some (codes "Outcome::" ++ variant_name outcome) };
+
     fn fmt<W: fmt::Write>(&self, f: &mut fmt::Formatter<W>) -> fmt::Result {
         f.write_str("Outcome::")?;
         f.write_str(self.variant())
