@@ -3,18 +3,23 @@ use Rattle.std.proofs.Common.{◌≡◌, ◌++◌, ◌&&◌, ℕ, List, [], ◌�
 use Rattle.std.specs.Fmt.{decimal}
 use Rattle.std.specs.Cmp.Lexicographic.{pointwise}
 use Rattle.std.proofs.lemmas.Bool.{false≢true}
+use Rattle.std.proofs.lemmas.Option.{none-some}
 use Rattle.rkt_http.specs.DefaultPage.{html_page}
 use Rattle.rkt_http.specs.Method.{method_of}
 use Rattle.rkt_http.specs.Origin.{Target, Spells, target_of, segments_of}
 use Rattle.rkt_http.specs.declared.method.Method.{Method}
 use Rattle.rkt_http.specs.declared.origin_place.Profile.TheVariants.{Request}
 use Rattle.rkt_http.proofs.OriginLemmas.{target_said}
-use Rattle.rkt_request.specs.Incoming.{faults_of, root}
-use Rattle.rkt_request.specs.Seen.{Seen, ReadAs}
+use Rattle.rkt_request.specs.Incoming.{faults_of, headers_of, root}
+use Rattle.rkt_http.specs.Accept.{Weighed}
+use Rattle.rkt_http.specs.Headers.{Group}
+use Rattle.rkt_http.specs.Media.{Media, is_kind, known_media}
+use Rattle.rkt_http.specs.declared.content_type.Known.TheVariants.{Any}
+use Rattle.rkt_request.specs.Seen.{Seen, ReadAs, IsAccepted}
 use Rattle.rkt_request.specs.declared.bad.Bad.{Bad}
 use Rattle.rkt_request.specs.declared.head.Head.{Head}
 use Rattle.rkt_life.specs.Lifecycle.{Outcome, Success, Forward, Lifecycle, Responds, Served, Tried, Finished}
-use Rattle.rkt_life.specs.Response.{typed, text_page}
+use Rattle.rkt_life.specs.Response.{typed, text_page, page_of, IsDefaultPage, PrefersJson}
 use Rattle.rkt_life.specs.Rocket.{SeenTables}
 use Rattle.rkt_life.specs.Routes.{matches, tries}
 use Rattle.rkt_life.specs.declared.piece.Piece.{Piece}
@@ -57,7 +62,21 @@ section_of_typed k code content_type body pieces sent =
     ∙ ap (λ (headers : List (List ℕ × List ℕ)). answered_section k (head_text (HeadPiece code headers)) body) (typed_headers code content_type body)
 
 abbrev page : ℕ → Response
-page code = typed code (codes "text/html; charset=utf-8") (html_page code)
+page code = page_of false code
+
+-- no headers prefer any type, which is no JSON
+any_preferred : (accept : Option (List Weighed)) (media : Media) → accept ≡ None → IsAccepted accept media → is_kind (codes "application") (codes "json") media ≡ false
+any_preferred None media none accepted = ap (is_kind (codes "application") (codes "json")) accepted
+any_preferred (Some entries) media none accepted = absurd (none-some entries (sym none))
+
+no_json : (json : Bool) → PrefersJson [] json → json ≡ false
+no_json json prefers = prefers.4 ∙ any_preferred prefers.0 prefers.1 prefers.2 prefers.3
+
+-- the default page of a request without headers
+page_without_headers : {V : Type 0} (code : ℕ) (request : Seen V) (response : Response) → request.headers ≡ [] → IsDefaultPage code request response → response ≡ page code
+page_without_headers code request response none is =
+    let json : is.0 ≡ false = no_json is.0 (subst (λ (hs : List Group). PrefersJson hs is.0) none is.1) in
+    is.2 ∙ ap (λ (b : Bool). page_of b code) json
 
 -- whether the head is good, and whether it asks for the page
 abbrev sample_response : Bool → Bool → Response
@@ -76,22 +95,23 @@ module _ {V : Type 0} (tables : SeenTables Page V) where
   finished_as request outcome expected response is finished = subst (λ (o : Outcome). Finished page_may tables request o response) is finished
 
   -- by whether the one route matches
-  by_match : (asks : Bool) (one : Page) (request : Seen V) (calls : List Call) (outcome : Outcome) (response : Response) → tables.routes ≡ (page_target, one) ∷ []
+  by_match : (asks : Bool) (one : Page) (request : Seen V) (calls : List Call) (outcome : Outcome) (response : Response) → request.headers ≡ [] → tables.routes ≡ (page_target, one) ∷ []
       → Tried page_may tables (if asks then 0 ∷ [] else []) request calls outcome → Finished page_may tables request outcome response → response ≡ sample_response true asks
-  by_match true one request calls outcome response routes tried finished =
+  by_match true one request calls outcome response none routes tried finished =
       let text : tried.0 ≡ codes "hello" = tried.1.2 in
       finished_as request outcome (Success (text_page tried.0)) response tried.3 finished ∙ ap text_page text
-  by_match false one request calls outcome response routes tried finished = finished_as request outcome (Forward 404) response tried.1 finished
+  by_match false one request calls outcome response none routes tried finished =
+      page_without_headers 404 request response none (finished_as request outcome (Forward 404) response tried.1 finished)
 
   -- a request for an origin is tried on the one route where it asks for the page
   tries_page : (one : Page) (request : Seen V) → tables.routes ≡ (page_target, one) ∷ [] → tries tables.routes request ≡ (if matches page_target request then 0 ∷ [] else [])
   tries_page one request routes = ap (λ (rs : List (Target × Page)). tries rs request) routes
 
-  served_as : (asks : Bool) (one : Page) (request : Seen V) (calls : List Call) (response : Response) → tables.routes ≡ (page_target, one) ∷ [] → matches page_target request ≡ asks
+  served_as : (asks : Bool) (one : Page) (request : Seen V) (calls : List Call) (response : Response) → request.headers ≡ [] → tables.routes ≡ (page_target, one) ∷ [] → matches page_target request ≡ asks
       → Served page_may tables request calls response → response ≡ sample_response true asks
-  served_as asks one request calls response routes test served =
+  served_as asks one request calls response none routes test served =
       let tried = tries_page one request routes ∙ ap (λ (t : Bool). if t then 0 ∷ [] else []) test in
-      by_match asks one request calls served.0 response routes (subst (λ (ks : List ℕ). Tried page_may tables ks request calls served.0) tried served.1) served.2
+      by_match asks one request calls served.0 response none routes (subst (λ (ks : List ℕ). Tried page_may tables ks request calls served.0) tried served.1) served.2
 
   -- a head without faults is served, and any other is answered by the page of 400
   responds_good : (method : Option Method) (target : Option Target) (request : Seen V) (calls : List Call) (response : Response) → (is_some method && is_some target) ≡ true
@@ -100,12 +120,12 @@ module _ {V : Type 0} (tables : SeenTables Page V) where
   responds_good (Some m) None request calls response good responds = absurd (false≢true good)
   responds_good (Some m) (Some t) request calls response good responds = responds
 
-  responds_bad : (method : Option Method) (target : Option Target) (request : Seen V) (calls : List Call) (response : Response) → (is_some method && is_some target) ≡ false
+  responds_bad : (method : Option Method) (target : Option Target) (request : Seen V) (calls : List Call) (response : Response) → request.headers ≡ [] → (is_some method && is_some target) ≡ false
       → Responds page_may tables (faults_of method target) request calls response → response ≡ page 400
-  responds_bad None None request calls response bad responds = responds.1
-  responds_bad None (Some t) request calls response bad responds = responds.1
-  responds_bad (Some m) None request calls response bad responds = responds.1
-  responds_bad (Some m) (Some t) request calls response bad responds = absurd (false≢true (sym bad))
+  responds_bad None None request calls response none bad responds = page_without_headers 400 request response none responds.1
+  responds_bad None (Some t) request calls response none bad responds = page_without_headers 400 request response none responds.1
+  responds_bad (Some m) None request calls response none bad responds = page_without_headers 400 request response none responds.1
+  responds_bad (Some m) (Some t) request calls response none bad responds = absurd (false≢true (sym bad))
 
   -- the request asks for what the target of its head says
   asks_as : (head : Head) (target : Option Target) (uri : Target) → is_some target ≡ true → ReadAs (Spells Request) head.target target → uri ≡ unwrap_or target root → target_of head.target ≡ uri
@@ -113,28 +133,28 @@ module _ {V : Type 0} (tables : SeenTables Page V) where
   asks_as head (Some t) uri some read is = target_said Request head.target t read ∙ sym is
 
   by_good : (good : Bool) (head : Head) (one : Page) (method : Option Method) (target : Option Target) (request : Seen V) (calls : List Call) (response : Response)
-      → tables.routes ≡ (page_target, one) ∷ [] → (is_some method && is_some target) ≡ good → ReadAs (Spells Request) head.target target → request.uri ≡ unwrap_or target root
+      → request.headers ≡ [] → tables.routes ≡ (page_target, one) ∷ [] → (is_some method && is_some target) ≡ good → ReadAs (Spells Request) head.target target → request.uri ≡ unwrap_or target root
       → Responds page_may tables (faults_of method target) request calls response → response ≡ sample_response good (asks_page head)
-  by_good true head one method target request calls response routes good read uri responds =
+  by_good true head one method target request calls response none routes good read uri responds =
       let said : target_of head.target ≡ request.uri = asks_as head target request.uri (both (is_some method) (is_some target) good) read uri in
       let test : matches page_target request ≡ asks_page head = ap (λ (t : Target). pointwise (pointwise nat_eq) (segments_of page_target) (segments_of t)) (sym said) in
-      served_as (asks_page head) one request calls response routes test (responds_good method target request calls response good responds)
+      served_as (asks_page head) one request calls response none routes test (responds_good method target request calls response good responds)
     where
       both : (a b : Bool) → (a && b) ≡ true → b ≡ true
       both true b e = e
       both false b e = absurd (false≢true e)
-  by_good false head one method target request calls response routes bad read uri responds = responds_bad method target request calls response bad responds
+  by_good false head one method target request calls response none routes bad read uri responds = responds_bad method target request calls response none bad responds
 
-one_response : (head : Head) (tables : SeenTables Page ℕ) (run : RunOf ℕ) (response : Response) → IsSample tables → Lifecycle page_may tables head run response
+one_response : (head : Head) (tables : SeenTables Page ℕ) (run : RunOf ℕ) (response : Response) → head.headers ≡ [] → IsSample tables → Lifecycle page_may tables head run response
     → response ≡ sample_response (is_good head) (asks_page head)
-one_response head tables run response sample life =
+one_response head tables run response none sample life =
     let came = life.incoming in
     let good : (is_some (method_of head.method) && is_some came.target) ≡ is_good head = ap (λ (t : Bool). is_some (method_of head.method) && t) (sym (is_origin-read head.target came.target came.target_read)) in
     let responds = subst (λ (fs : List Bad). Responds page_may tables fs life.request run.calls response) came.faults_are life.leads.answered in
-    by_good tables (is_good head) head sample.page (method_of head.method) came.target life.request run.calls response sample.routes good came.target_read came.uri responds
+    by_good tables (is_good head) head sample.page (method_of head.method) came.target life.request run.calls response (came.headers ∙ ap headers_of none) sample.routes good came.target_read came.uri responds
 
-pub one_section : (k : ℕ) (tables : SeenTables Page ℕ) (head : Head) (run : RunOf ℕ) (response : Response) (pieces : List Piece) → IsSample tables
+pub one_section : (k : ℕ) (tables : SeenTables Page ℕ) (head : Head) (run : RunOf ℕ) (response : Response) (pieces : List Piece) → head.headers ≡ [] → IsSample tables
     → Lifecycle page_may tables head run response → Sent response pieces → sent_section k pieces ≡ printed_section k head
 unfolding printed_section
-one_section k tables head run response pieces sample life sent =
-    section_by_tests (is_good head) (asks_page head) k pieces (subst (λ (r : Response). Sent r pieces) (one_response head tables run response sample life) sent)
+one_section k tables head run response pieces none sample life sent =
+    section_by_tests (is_good head) (asks_page head) k pieces (subst (λ (r : Response). Sent r pieces) (one_response head tables run response none sample life) sent)

@@ -2,7 +2,7 @@
 use Rattle.std.proofs.Common.{◌≡◌, ℕ, List, [], ◌∷◌, Some, None, Result, Ok, Err, IfOk, slice_get, refl, subst, sym}
 use Rattle.rkt_request.specs.Seen.{Seen}
 use Rattle.rkt_life.specs.Lifecycle.{Success, Forward, Answers, Tried, Walked, Served}
-use Rattle.rkt_life.specs.Response.{default_page, text_page}
+use Rattle.rkt_life.specs.Response.{IsDefaultPage, text_page}
 use Rattle.rkt_life.specs.Rocket.{SeenTables}
 use Rattle.rkt_life.specs.Routes.{tries}
 use Rattle.rkt_life.specs.declared.response.Response.{Response}
@@ -24,7 +24,7 @@ module _ {H V : Type 0} (may : H → Seen V → List ℕ → Type 0) (tables : S
 
   -- no route matches
   pub served_none : {E : Type 0} (request : Seen V) (calls : List Call) (made : Result Response E) → calls ≡ [] → slice_get (tries tables.routes request) 0 ≡ None
-      → IfOk made (λ r. r ≡ default_page 404 request) → IfOk made (Served may tables request calls)
+      → IfOk made (IsDefaultPage 404 request) → IfOk made (Served may tables request calls)
   served_none request calls (Err e) none first page = tt
   served_none request calls (Ok response) none first page =
       (Forward 404, subst (λ cs. Walked may tables request cs (Forward 404)) (sym none) (tried_none (tries tables.routes request) request first), page)

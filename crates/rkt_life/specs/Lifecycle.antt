@@ -6,7 +6,7 @@ use Rattle.rkt_request.specs.Incoming.{IsIncoming}
 use Rattle.rkt_request.specs.Seen.{Seen}
 use Rattle.rkt_request.specs.declared.bad.Bad.{Bad}
 use Rattle.rkt_request.specs.declared.head.Head.{Head}
-use Rattle.rkt_life.specs.Response.{default_page, text_page}
+use Rattle.rkt_life.specs.Response.{IsDefaultPage, text_page}
 use Rattle.rkt_life.specs.Rocket.{SeenTables}
 use Rattle.rkt_life.specs.Routes.{tries}
 use Rattle.rkt_life.specs.declared.response.Response.{Response}
@@ -42,7 +42,7 @@ module _ {H V : Type 0} (may : H → Seen V → List ℕ → Type 0) (tables : S
 
   -- no catcher stands here: the default page of the status answers
   abbrev pub Errored : Seen V → ℕ → Response → Type 0
-  Errored request status response = response ≡ default_page status request
+  Errored request status response = IsDefaultPage status request response
 
   -- a walk that did not succeed is answered by the page of its status
   abbrev pub Finished : Seen V → Outcome → Response → Type 0

@@ -1,6 +1,6 @@
 //! What answers a request.
 ghost use Rattle.std.specs.Prelude.{◌≡◌, IfOk, string_bytes, codes};
-ghost use Rattle.rkt_life.specs.Response.{typed, default_page, text_page};
+ghost use Rattle.rkt_life.specs.Response.{typed, PrefersJson, IsDefaultPage, text_page};
 
 use rkt_base::{Bytes, NoMemory};
 use rkt_http::{Header, HeaderMap, Status, default_page};
@@ -33,15 +33,29 @@ fn typed(
     })
 }
 
+// Whether the media type that a request prefers is JSON.
+fn prefers_json<T: Types>(request: &Request<'_, T>) -> bool
+    ensures { PrefersJson request.now.headers result }
+{
+    match request.accept() {
+        Some(accept) => accept.preferred().is_json(),
+        None => false,
+    }
+}
+
 impl Response {
     // The page of a status without a catcher of its own, for this request.
     pub(crate) fn default_page<T: Types>(
         alloc: Global,
         status: Status,
-        _request: &Request<'_, T>,
+        request: &Request<'_, T>,
     ) -> Result<Response, NoMemory>
-        ensures { IfOk result (λ r. r ≡ default_page status.code _request.now) }
+        ensures { IfOk result (IsDefaultPage status.code request.now) }
     {
+        if prefers_json(request) {
+            let page = default_page::json(alloc, status)?;
+            return typed(alloc, status, "application/json", page.into_string());
+        }
         let page = default_page::html(alloc, status)?;
         typed(
             alloc,

@@ -68,22 +68,30 @@ fn assemble(alloc: Global) -> Result<Rocket<Ignite, Sample>, Want<InvalidUri>> {
     Ok(Rocket::assemble(alloc, routes, config, Managed::new(alloc))?)
 }
 
-/// The exchange of this head, which has two cookies.
-fn exchange(
-    rt: &impl Abort,
+/// A head with this header.
+fn head(
     alloc: Global,
     method: &str,
     target: &str,
-) -> Result<(Run<Sample>, Response), Fail> {
+    name: &str,
+    value: &str,
+) -> Result<Head, NoMemory> {
     let mut headers = Seq::new(alloc);
-    let cookies = Seq::from_vec(b"theme=dark; seen=1".to_vec(alloc)?);
-    headers.push((Text::new(alloc, "Cookie")?, cookies))?;
-    let head = Head {
+    let value = Seq::from_vec(value.as_bytes().to_vec(alloc)?);
+    headers.push((Text::new(alloc, name)?, value))?;
+    Ok(Head {
         method: Text::new(alloc, method)?,
         target: Text::new(alloc, target)?,
         headers,
         remote: None,
-    };
+    })
+}
+
+fn exchange_of(
+    rt: &impl Abort,
+    alloc: Global,
+    head: Head,
+) -> Result<(Run<Sample>, Response), Fail> {
     let mut rocket = assemble(alloc)?;
     let shutdown = rocket.shutdown()?;
     let tables = rocket.tables();
@@ -92,6 +100,17 @@ fn exchange(
         EndedOf::Finished { run, response, .. } => Ok((run, response)),
         EndedOf::Starved { .. } => panic!(rt; "starved"),
     }
+}
+
+/// The exchange of a head with two cookies.
+fn exchange(
+    rt: &impl Abort,
+    alloc: Global,
+    method: &str,
+    target: &str,
+) -> Result<(Run<Sample>, Response), Fail> {
+    let head = head(alloc, method, target, "Cookie", "theme=dark; seen=1")?;
+    exchange_of(rt, alloc, head)
 }
 
 #[test]
@@ -118,6 +137,33 @@ fn a_bad_request_is_answered_with_400(rt: HostRuntime) -> Result<(), Fail> {
         assert!(rt; run.calls.is_empty());
         assert_eq!(rt; response.status.code, 400);
         assert_eq!(rt; response.body.len(), 471);
+    }
+    Ok(())
+}
+
+#[test]
+fn the_default_page_is_json_where_that_is_preferred(rt: HostRuntime) -> Result<(), Fail> {
+    for (accept, target, media, size) in [
+        ("application/json", "/nope", "application/json", 128),
+        ("application/json", "nope", "application/json", 162),
+        (
+            "text/html;q=0.5, Application/JSON; v=1",
+            "/nope",
+            "application/json",
+            128,
+        ),
+        (
+            "text/html, application/json",
+            "/nope",
+            "text/html; charset=utf-8",
+            435,
+        ),
+        ("application/*", "/nope", "text/html; charset=utf-8", 435),
+    ] {
+        let head = head(rt.alloc(), "GET", target, "Accept", accept)?;
+        let (_run, response) = exchange_of(&rt, rt.alloc(), head)?;
+        assert_eq!(rt; response.headers.get_one("Content-Type"), Some(media));
+        assert_eq!(rt; response.body.len(), size);
     }
     Ok(())
 }
