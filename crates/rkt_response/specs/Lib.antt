@@ -2,6 +2,7 @@ pub mod Body
 pub mod Chunks
 pub mod Lines
 pub mod Reading
+pub mod Responder
 pub mod Response
 pub mod Sending
 pub mod Sent

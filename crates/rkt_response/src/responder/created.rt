@@ -1,0 +1,82 @@
+ghost use Rattle.std.specs.Prelude.{◌≡◌, None, Some, Ok, IfOk};
+ghost use Rattle.std.specs.Option.{MatchOption};
+ghost use Rattle.rkt_request.specs.FromRequest.{Answers};
+ghost use Rattle.rkt_response.specs.Response.{empty_response};
+ghost use Rattle.rkt_response.specs.Responder.{Changes, StarvesWithin, created_at};
+
+use crate::responder::Responder;
+use crate::response::Response;
+use rkt_base::{NoMemory, Text, Want};
+use rkt_data::Source;
+use rkt_http::Status;
+use rkt_request::{Ctx, Request, Types};
+use std::alloc::Global;
+
+/// The status 201, and where that is which was created.
+#[derive(Debug, Drop, PartialEq)]
+pub struct Created<R> {
+    location: Text,
+    responder: Option<R>,
+}
+
+impl<R> Created<R> {
+    /// Without a body.
+    pub fn new(alloc: Global, location: &str) -> Result<Created<R>, NoMemory>
+        ensures { IfOk result (λ created. created ≡ record { location = location.now; responder = None }) }
+    {
+        Ok(Created {
+            location: Text::new(alloc, location)?,
+            responder: None,
+        })
+    }
+}
+
+impl<R: Drop> Created<R> {
+    /// With the response of a responder.
+    pub fn body(self, responder: R) -> Created<R>
+        ensures { result ≡ record self { responder = Some responder } }
+    {
+        Created {
+            location: self.location,
+            responder: Some(responder),
+        }
+    }
+}
+
+// A response as that of what was created there.
+fn created_at<S: Source>(location: &str, mut response: Response<S>) -> Result<Response<S>, NoMemory>
+    ensures { IfOk result (λ created. created ≡ created_at location.now response) }
+{
+    response.set_status(Status::Created);
+    response.set_raw_header("Location", location)?;
+    Ok(response)
+}
+
+impl<T: Types, R: Responder<T>> Responder<T> for Created<R> {
+    ghost may = { λ created seen before answer after. MatchOption created.responder
+        (Answers answer (Ok (created_at created.location empty_response)) before after)
+        (λ inner. Changes (created_at created.location) (R.may inner seen before) answer after) };
+
+    ghost starves = { λ created seen before after. MatchOption created.responder
+        (after ≡ before)
+        (λ inner. StarvesWithin (R.may inner seen before) (R.starves inner seen before) after) };
+
+    fn respond_to(
+        self,
+        alloc: Global,
+        request: &Request<'_, T>,
+        ctx: &mut Ctx<T>,
+    ) -> Result<Response<T::Stream>, Want<Status>> {
+        let Created {
+            location,
+            responder,
+        } = self;
+        match responder {
+            Some(responder) => {
+                let response = responder.respond_to(alloc, request, ctx)?;
+                Ok(created_at(location.as_str(), response)?)
+            }
+            None => Ok(created_at(location.as_str(), Response::new(alloc))?),
+        }
+    }
+}
