@@ -116,7 +116,7 @@ fold_read x (a ∷ rest) h =
     ap (λ o. fold with_piece (with_any x o) (map piece rest)) (attribute_read a (All-head IsReadable a rest h))
     ∙ fold_read (with_attribute x a) rest (All-tail IsReadable a rest h)
 
-nothing_read : attribute_of [] ≡ None
+pub nothing_read : attribute_of [] ≡ None
 unfolding trim_start trim_end chars encode
 nothing_read = refl
 

@@ -1,5 +1,7 @@
 pub mod ChunkLemmas
 pub mod FieldGroups
+pub mod FlashLemmas
+pub mod FlashReading
 pub mod LineLemmas
 pub mod MergedFields
 pub mod ReadOnLemmas

@@ -1,5 +1,6 @@
 pub mod Body
 pub mod Chunks
+pub mod Flash
 pub mod Lines
 pub mod Reading
 pub mod Responder

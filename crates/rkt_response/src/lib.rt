@@ -6,6 +6,8 @@ mod builder;
 mod chunk;
 mod content;
 mod drain;
+mod flash;
+mod flash_message;
 mod head;
 mod headers;
 mod lends;
@@ -20,6 +22,8 @@ mod whole;
 
 pub use body::Body;
 pub use builder::Builder;
+pub use flash::Flash;
+pub use flash_message::FlashMessage;
 pub use piece::{Piece, PieceError};
 pub use pieces::Pieces;
 pub use responder::{Debug, Redirect, Responder};
