@@ -13,15 +13,15 @@ use std::alloc::{AllocError, Global};
 /// An application with one route.
 pub struct Sample;
 
-/// The sample shuts down for no reason.
+/// The one reason for which the sample may be shut down.
 #[derive(Clone, Copy)]
-pub enum NoReason {}
+pub struct Stopped;
 
-impl Reason for NoReason {
-    ghost allowed = { λ word. ⊥ };
+impl Reason for Stopped {
+    ghost allowed = { λ word. word ≡ 1 };
 
     fn word(self) -> u64 {
-        match self {}
+        1
     }
 }
 
@@ -34,7 +34,7 @@ impl Types for Sample {
 
     type Value = u64;
 
-    type Reason = NoReason;
+    type Reason = Stopped;
 }
 
 /// What answers `/page`.

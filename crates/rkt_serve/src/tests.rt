@@ -29,13 +29,13 @@ impl<T: Types> Handler<T> for Greeter {
 }
 
 #[derive(Clone, Copy)]
-enum NoReason {}
+struct Stopped;
 
-impl Reason for NoReason {
-    ghost allowed = { λ _. ⊥ };
+impl Reason for Stopped {
+    ghost allowed = { λ word. word ≡ 1 };
 
     fn word(self) -> u64 {
-        match self {}
+        1
     }
 }
 
@@ -50,7 +50,7 @@ impl Types for Greeting {
 
     type Value = u64;
 
-    type Reason = NoReason;
+    type Reason = Stopped;
 }
 
 impl App for Greeting {
