@@ -4,4 +4,4 @@ use Rattle.rkt_http.proofs.reasons.reason_in.Given as goal
 
 -- the rows that are left decide
 abbrev pub invariant-loop-row : goal.invariant-loop-row
-invariant-loop-row l = row_at l.code (map (λ row. (row.0, row.1.now)) (drop l.row-index l.rows)) ≡ row_at l.code (map (λ row. (row.0, row.1.now)) l.rows)
+invariant-loop-row l = row_at l.code (map (λ row. (row.0.code, row.1.now)) (drop l.row-index l.rows)) ≡ row_at l.code (map (λ row. (row.0.code, row.1.now)) l.rows)
