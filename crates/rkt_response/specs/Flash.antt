@@ -4,12 +4,13 @@ use Rattle.std.specs.Prelude.{◌≡◌, ℕ, ◌^◌, ◌<◌, List, [], ◌∷
 use Rattle.std.specs.Str.{IsCharBoundary}
 use Rattle.std.specs.Str.Parse.{IsNumeral, digits_value, without_leading_plus}
 use Rattle.rkt_cookie.specs.Cookie.{Parts, bare}
-use Rattle.rkt_cookie.specs.Jar.{JarParts, cookie_of, removal_of}
+use Rattle.rkt_cookie.specs.Jar.{JarParts, addition, cookie_of, removal_of}
 use Rattle.rkt_cookie.specs.Reading.{Reads}
 use Rattle.rkt_http.specs.declared.outcome.Outcome.{Outcome}
 use Rattle.rkt_http.specs.declared.outcome.Outcome.TheVariants.{Success, Error}
 use Rattle.rkt_http.specs.declared.status.Status.{Status}
 use Rattle.rkt_request.specs.Guards.{bad_request}
+use Rattle.rkt_request.specs.Lent.{Lent, with_jar}
 use Rattle.rkt_request.specs.Seen.{MaybeReadAs}
 
 -- a kind and a message
@@ -37,6 +38,13 @@ flash_text flashed = decimal (length flashed.kind) ++ codes ":" ++ flashed.kind 
 -- the cookie of a flash, which a client keeps for five minutes
 abbrev pub flash_cookie : Flashed → Parts
 flash_cookie flashed = record (bare flash_name (flash_text flashed)) { max_age = Some 300 }
+
+-- a jar to which the flash's cookie was added, and what a callback is lent with such a jar
+abbrev pub with_flash : Flashed → JarParts → JarParts
+with_flash flashed jar = record jar { log = jar.log ++ addition (flash_cookie flashed) ∷ [] }
+
+abbrev pub flashing : {C : Type 0} → Flashed → Lent C → Lent C
+flashing flashed lent = with_jar lent (with_flash flashed lent.kept.jar)
 
 -- digits, with or without a plus in front, that a `usize` holds the number of
 pub record SpellsUsize (text : List ℕ) (n : ℕ) : Type 0 where

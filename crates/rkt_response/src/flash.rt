@@ -1,13 +1,17 @@
 //! A message that one response leaves for the next request, in a cookie.
-ghost use Rattle.std.specs.Prelude.{◌≡◌, ◌<◌, ◌++◌, ◌∷◌, [], All, Some, IfOk, OnOk, OnErr, codes, string_bytes};
+ghost use Rattle.std.specs.Prelude.{◌≡◌, ◌⊎◌, ◌<◌, ◌++◌, ◌∷◌, [], All, Some, IfOk, OnOk, OnErr, codes, string_bytes};
 ghost use Rattle.rkt_cookie.specs.Cookie.{bare};
 ghost use Rattle.rkt_cookie.specs.Encoded.{encoded_text};
 ghost use Rattle.rkt_cookie.specs.Jar.{addition};
 ghost use Rattle.rkt_cookie.specs.Reading.{first_piece};
-ghost use Rattle.rkt_response.specs.Flash.{ReadsFlash, SaysFlash, flash_cookie, flash_name, flash_text};
+ghost use Rattle.rkt_response.specs.Flash.{ReadsFlash, SaysFlash, flash_cookie, flash_name, flash_text, flashing, with_flash};
 
-use rkt_base::{NoMemory, Text};
+use crate::responder::Responder;
+use crate::response::Response;
+use rkt_base::{NoMemory, Text, Want};
 use rkt_cookie::{Cookie, CookieJar};
+use rkt_http::Status;
+use rkt_request::{Ctx, Request, Types};
 use std::alloc::Global;
 use std::marker::Model;
 
@@ -100,7 +104,7 @@ impl<R: Drop> Flash<R> {
 
     /// Adds the cookie to a jar.
     pub fn add_to(&self, alloc: Global, jar: &mut CookieJar) -> Result<(), NoMemory>
-        ensures ok { OnOk result (jar.new ≡ record jar.old { log = jar.old.log ++ addition (flash_cookie self.now.flashed) ∷ [] }) }
+        ensures ok { OnOk result (jar.new ≡ with_flash self.now.flashed jar.old) }
         ensures err { OnErr result (jar.new ≡ jar.old) }
     {
         let cookie = self.cookie(alloc)?;
@@ -112,6 +116,23 @@ impl<R: Drop> Flash<R> {
         ensures { result ≡ self.responder }
     {
         self.responder
+    }
+}
+
+/// The response of the responder, which runs behind the flash's cookie.
+impl<T: Types, R: Responder<T> + Drop> Responder<T> for Flash<R> {
+    ghost may = { λ flash seen before answer after. R.may flash.responder seen (flashing flash.flashed before) answer after };
+
+    ghost starves = { λ flash seen before after. (after ≡ before) ⊎ R.starves flash.responder seen (flashing flash.flashed before) after };
+
+    fn respond_to(
+        self,
+        alloc: Global,
+        request: &Request<'_, T>,
+        ctx: &mut Ctx<T>,
+    ) -> Result<Response<T::Stream>, Want<Status>> {
+        self.add_to(alloc, ctx.cookies_mut())?;
+        self.into_inner().respond_to(alloc, request, ctx)
     }
 }
 
