@@ -2,6 +2,7 @@
 use Rattle.std.proofs.Common.{◌≡◌, ◌++◌, ◌&&◌, ℕ, List, [], ◌∷◌, Bool, true, false, Option, Some, None, is_some, unwrap_or, if◌then◌else◌, codes, length, map, flat_map, refl, ap, ◌∙◌, sym, subst, append-nil, nat_eq}
 use Rattle.std.specs.Fmt.{decimal}
 use Rattle.std.specs.Cmp.Lexicographic.{pointwise}
+use Rattle.std.specs.List.{concat}
 use Rattle.std.proofs.lemmas.Bool.{false≢true}
 use Rattle.std.proofs.lemmas.Option.{none-some}
 use Rattle.rkt_http.specs.DefaultPage.{html_page}
@@ -22,44 +23,40 @@ use Rattle.rkt_life.specs.Lifecycle.{Outcome, Success, Forward, Lifecycle, Respo
 use Rattle.rkt_life.specs.Response.{typed, text_page, page_of, IsDefaultPage, PrefersJson}
 use Rattle.rkt_life.specs.Rocket.{SeenTables}
 use Rattle.rkt_life.specs.Routes.{matches, tries}
-use Rattle.rkt_life.specs.declared.piece.Piece.{Piece}
-use Rattle.rkt_life.specs.declared.piece.Piece.TheVariants.{Head as HeadPiece, Chunk, End}
-use Rattle.rkt_life.specs.declared.response.Response.{Response}
 use Rattle.rkt_life.specs.declared.run.Call.{Call}
 use Rattle.rkt_life.specs.declared.run.RunOf.{RunOf}
-use Rattle.rkt_serve.specs.Sent.{Sent, sent_headers}
+use Rattle.rkt_data.specs.Memory.{SourceInMemory, source_meaning}
+use Rattle.rkt_response.specs.Response.{ResponseOf}
+use Rattle.rkt_response.specs.Sent.{Sent, head_of}
+use Rattle.rkt_response.specs.declared.piece.Piece.{Piece}
+use Rattle.rkt_response.specs.declared.piece.Piece.TheVariants.{Head as HeadPiece, Chunk, End}
 use Rattle.rkt_demo.specs.Output.{head_text, body_bytes, answered_section, sent_section}
 use Rattle.rkt_demo.proofs.Origins.{is_origin-read}
 use Rattle.rkt_demo.specs.Printed.{asks_page, is_good, is_origin, page_section, typed_section, printed_section}
 use Rattle.rkt_demo.specs.Sample.{page_may, page_target, IsSample}
 use Rattle.rkt_demo.specs.declared.sample.Page.{Page}
 
+abbrev Response : Type 0
+Response = ResponseOf SourceInMemory
+
 heads_of_chunks : (chunks : List (List ℕ)) → flat_map head_text (map Chunk chunks ++ End ∷ []) ≡ []
 heads_of_chunks [] = refl
 heads_of_chunks (c ∷ cs) = heads_of_chunks cs
 
-bodies_of_chunks : (chunks : List (List ℕ)) → flat_map body_bytes (map Chunk chunks ++ End ∷ []) ≡ flat_map (λ chunk. chunk) chunks
+bodies_of_chunks : (chunks : List (List ℕ)) → flat_map body_bytes (map Chunk chunks ++ End ∷ []) ≡ concat chunks
 bodies_of_chunks [] = refl
 bodies_of_chunks (c ∷ cs) = ap (λ (l : List ℕ). c ++ l) (bodies_of_chunks cs)
 
 -- however a body is cut, its section is one text
-section_of_sent : (k : ℕ) (response : Response) (pieces : List Piece) → Sent response pieces
-    → sent_section k pieces ≡ answered_section k (head_text (HeadPiece response.status.code (sent_headers response.headers (length response.body)))) response.body
-section_of_sent k response pieces sent =
-    let head : Piece = HeadPiece response.status.code (sent_headers response.headers (length response.body)) in
-    let chunks : List (List ℕ) = sent.1.0 in
-    let is : pieces ≡ head ∷ (map Chunk chunks ++ End ∷ []) = sent.2 ∙ ap (λ (body : List Piece). head ∷ body ++ End ∷ []) sent.1.3 in
-    let heads : flat_map head_text pieces ≡ head_text head = ap (flat_map head_text) is ∙ ap (λ (l : List ℕ). head_text head ++ l) (heads_of_chunks chunks) ∙ append-nil (head_text head) in
-    let body : flat_map body_bytes pieces ≡ response.body = ap (flat_map body_bytes) is ∙ bodies_of_chunks chunks ∙ sent.1.2 in
-    rw (heads, body) refl
-
-typed_headers : (code : ℕ) (content_type body : List ℕ) → sent_headers (typed code content_type body).headers (length body) ≡ (codes "Content-Type", content_type) ∷ (codes "Content-Length", decimal (length body)) ∷ []
-typed_headers code content_type body = refl
-
-section_of_typed : (k code : ℕ) (content_type body : List ℕ) (pieces : List Piece) → Sent (typed code content_type body) pieces → sent_section k pieces ≡ typed_section k code content_type body
+section_of_typed : (k code : ℕ) (content_type body : List ℕ) (pieces : List Piece) → Sent source_meaning (typed code content_type body) pieces → sent_section k pieces ≡ typed_section k code content_type body
 section_of_typed k code content_type body pieces sent =
-    section_of_sent k (typed code content_type body) pieces sent
-    ∙ ap (λ (headers : List (List ℕ × List ℕ)). answered_section k (head_text (HeadPiece code headers)) body) (typed_headers code content_type body)
+    let response : Response = typed code content_type body in
+    let head : Piece = head_of response in
+    let chunks : List (List ℕ) = sent.2.0 in
+    let is : pieces ≡ head ∷ (map Chunk chunks ++ End ∷ []) = sent.3 ∙ ap (λ (rest : List Piece). head ∷ rest) sent.2.3 in
+    let heads : flat_map head_text pieces ≡ head_text head = ap (flat_map head_text) is ∙ ap (λ (l : List ℕ). head_text head ++ l) (heads_of_chunks chunks) ∙ append-nil (head_text head) in
+    let bytes : flat_map body_bytes pieces ≡ body = ap (flat_map body_bytes) is ∙ bodies_of_chunks chunks ∙ sent.2.2 body refl in
+    rw (heads, bytes) refl
 
 abbrev page : ℕ → Response
 page code = page_of false code
@@ -84,18 +81,18 @@ sample_response true true = text_page (codes "hello")
 sample_response true false = page 404
 sample_response false _ = page 400
 
-section_by_tests : (good asks : Bool) (k : ℕ) (pieces : List Piece) → Sent (sample_response good asks) pieces
+section_by_tests : (good asks : Bool) (k : ℕ) (pieces : List Piece) → Sent source_meaning (sample_response good asks) pieces
     → sent_section k pieces ≡ (if good then (if asks then typed_section k 200 (codes "text/plain; charset=utf-8") (codes "hello") else page_section k 404) else page_section k 400)
 section_by_tests true true k pieces sent = section_of_typed k 200 (codes "text/plain; charset=utf-8") (codes "hello") pieces sent
 section_by_tests true false k pieces sent = section_of_typed k 404 (codes "text/html; charset=utf-8") (html_page 404) pieces sent
 section_by_tests false _ k pieces sent = section_of_typed k 400 (codes "text/html; charset=utf-8") (html_page 400) pieces sent
 
 module _ {V : Type 0} (tables : SeenTables Page V) where
-  finished_as : (request : Seen V) (outcome expected : Outcome) (response : Response) → outcome ≡ expected → Finished page_may tables request outcome response → Finished page_may tables request expected response
-  finished_as request outcome expected response is finished = subst (λ (o : Outcome). Finished page_may tables request o response) is finished
+  finished_as : (request : Seen V) (outcome expected : Outcome SourceInMemory) (response : Response) → outcome ≡ expected → Finished page_may tables request outcome response → Finished page_may tables request expected response
+  finished_as request outcome expected response is finished = subst (λ (o : Outcome SourceInMemory). Finished page_may tables request o response) is finished
 
   -- by whether the one route matches
-  by_match : (asks : Bool) (one : Page) (request : Seen V) (calls : List Call) (outcome : Outcome) (response : Response) → request.headers ≡ [] → tables.routes ≡ (page_target, one) ∷ []
+  by_match : (asks : Bool) (one : Page) (request : Seen V) (calls : List Call) (outcome : Outcome SourceInMemory) (response : Response) → request.headers ≡ [] → tables.routes ≡ (page_target, one) ∷ []
       → Tried page_may tables (if asks then 0 ∷ [] else []) request calls outcome → Finished page_may tables request outcome response → response ≡ sample_response true asks
   by_match true one request calls outcome response none routes tried finished =
       let text : tried.0 ≡ codes "hello" = tried.1.2 in
@@ -154,7 +151,7 @@ one_response head tables run response none sample life =
     by_good tables (is_good head) head sample.page (method_of head.method) came.target life.request run.calls response (came.headers ∙ ap headers_of none) sample.routes good came.target_read came.uri responds
 
 pub one_section : (k : ℕ) (tables : SeenTables Page ℕ) (head : Head) (run : RunOf ℕ) (response : Response) (pieces : List Piece) → head.headers ≡ [] → IsSample tables
-    → Lifecycle page_may tables head run response → Sent response pieces → sent_section k pieces ≡ printed_section k head
+    → Lifecycle page_may tables head run response → Sent source_meaning response pieces → sent_section k pieces ≡ printed_section k head
 unfolding printed_section
 one_section k tables head run response pieces none sample life sent =
-    section_by_tests (is_good head) (asks_page head) k pieces (subst (λ (r : Response). Sent r pieces) (one_response head tables run response none sample life) sent)
+    section_by_tests (is_good head) (asks_page head) k pieces (subst (λ (r : Response). Sent source_meaning r pieces) (one_response head tables run response none sample life) sent)

@@ -5,6 +5,7 @@ pub mod PageOrigin
 pub mod Prints
 pub mod Requests
 pub mod Runs
+pub mod Sendable
 pub mod Serving
 pub mod StreamLemmas
 pub mod Origins

@@ -4,6 +4,7 @@ use Rattle.std.specs.Option.{ForSome, option_map}
 use Rattle.std.proofs.lemmas.List.{length-map}
 use Rattle.std.proofs.lemmas.Simd.{map-map}
 use Rattle.std.proofs.lemmas.Option.{none-some, same_Some, slice_get-map, slice_get_within}
+use Rattle.rkt_data.specs.Memory.{SourceInMemory, source_meaning}
 use Rattle.rkt_request.specs.declared.head.Head.{Head}
 use Rattle.rkt_life.specs.Lifecycle.{Lifecycle}
 use Rattle.rkt_life.specs.Rocket.{SeenTables}
@@ -14,10 +15,12 @@ use Rattle.rkt_serve.specs.Events.{admitted, end_of}
 use Rattle.rkt_serve.specs.Headline.{AllAdmitted, AllTimed, HasEntry}
 use Rattle.rkt_serve.specs.Memory.{LinkInMemory, asked_of, link_meaning}
 use Rattle.rkt_serve.specs.declared.history.End.{End as Ending}
-use Rattle.rkt_serve.specs.declared.history.End.TheVariants.{Answered, Starved}
+use Rattle.rkt_serve.specs.declared.history.End.TheVariants.{Answered, Failed, Starved}
 use Rattle.rkt_serve.specs.declared.history.EntryOf.{EntryOf}
 use Rattle.rkt_serve.specs.declared.history.EventOf.{EventOf}
 use Rattle.rkt_serve.specs.declared.history.EventOf.TheVariants.{Lift, Admit, End, Close}
+use Rattle.rkt_response.specs.Sent.{Sent}
+use Rattle.rkt_demo.proofs.Sendable.{none_failed}
 use Rattle.rkt_demo.specs.Entries.{ended_section, entry_section, entries_text, AreEntries}
 use Rattle.rkt_demo.specs.Sample.{page_may, IsSample}
 use Rattle.rkt_demo.specs.Shown.{IsSection, ShownFrom}
@@ -31,10 +34,10 @@ abbrev Tables : Type 0
 Tables = SeenTables Page ℕ
 
 abbrev Kept : Type 0
-Kept = EntryOf ℕ LinkInMemory
+Kept = EntryOf ℕ SourceInMemory LinkInMemory
 
 -- the run of an entry is timed as its End
-timed_end : (window : Option (ℕ × ℕ)) (k : ℕ) (events : List (EventOf ℕ LinkInMemory)) (entry : Kept) → AllTimed window events → end_of k events ≡ Some entry
+timed_end : (window : Option (ℕ × ℕ)) (k : ℕ) (events : List (EventOf ℕ SourceInMemory LinkInMemory)) (entry : Kept) → AllTimed window events → end_of k events ≡ Some entry
     → ForSome entry.run (λ run. IsWithin window run.moment)
 timed_end window k [] entry timed found = absurd (none-some entry found)
 timed_end window k (Lift calls ∷ es) entry timed found = timed_end window k es entry timed.1 found
@@ -48,22 +51,24 @@ timed_end window k (End n other m b ∷ es) entry timed found = by_number (n == 
 
 -- an entry of a request with this head
 record ServedFor (window : Option (ℕ × ℕ)) (tables : Tables) (head : Head) (entry : Kept) : Type 0 where
-  pub caused : Caused page_may tables link_meaning entry
+  pub caused : Caused page_may tables source_meaning link_meaning entry
   pub asks : entry.link.head ≡ head
   pub timed : ForSome entry.run (λ run. IsWithin window run.moment)
 
 section_of_cause : (window : Option (ℕ × ℕ)) (tables : Tables) (k : ℕ) (head : Head) (entry : Kept) (ended : Ending) → IsSample tables
-    → CausedAs page_may tables link_meaning entry ended → ServedFor window tables head entry → IsSection window k head (ended_section k ended entry.link.held)
+    → CausedAs page_may tables source_meaning link_meaning entry ended → ServedFor window tables head entry → IsSection window k head (ended_section k ended entry.link.held)
 section_of_cause window tables k head entry Starved sample caused served = inl refl
+section_of_cause window tables k head entry (Failed failure) sample caused served =
+    absurd (none_failed page_may tables entry.link.head caused.run caused.first caused.response _ failure caused.pieces (caused.lifecycle (asked_of entry.link) refl) caused.sent)
 section_of_cause window tables k head entry Answered sample caused served = inr (record {
   tables = tables;
   sample = sample;
-  run = caused.0;
-  timed = served.timed caused.0 caused.2;
-  response = caused.1;
-  lifecycle = subst (λ (h : Head). Lifecycle page_may tables h caused.0 caused.1) served.asks (caused.4.0 (asked_of entry.link) refl);
+  run = caused.run;
+  timed = served.timed caused.run caused.run_kept;
+  response = caused.first;
+  lifecycle = subst (λ (h : Head). Lifecycle page_may tables h caused.run caused.first) served.asks (caused.lifecycle (asked_of entry.link) refl);
   pieces = entry.link.held;
-  sent = caused.4.1 entry.link.held refl;
+  sent = subst (Sent source_meaning caused.first) (sym (caused.held entry.link.held refl)) caused.sent;
   text = refl;
 })
 
@@ -92,9 +97,9 @@ shown_from window tables k (entry ∷ entries) (head ∷ heads) sample same serv
 asks_of_heads : (links : List LinkInMemory) (heads : List Head) → map (λ (l : LinkInMemory). l.head) links ≡ heads → map asked_of links ≡ map asked_for heads
 asks_of_heads links heads same = sym (map-map asked_for (λ (l : LinkInMemory). l.head) links) ∙ ap (map asked_for) same
 
-pub launched_shown : (window : Option (ℕ × ℕ)) (tables : Tables) (given : Option (List Asked)) (events : List (EventOf ℕ LinkInMemory)) (entries : List (Option Kept)) (links : List LinkInMemory) (heads : List Head)
+pub launched_shown : (window : Option (ℕ × ℕ)) (tables : Tables) (given : Option (List Asked)) (events : List (EventOf ℕ SourceInMemory LinkInMemory)) (entries : List (Option Kept)) (links : List LinkInMemory) (heads : List Head)
     → IsSample tables → map (λ (l : LinkInMemory). l.head) links ≡ heads → given ≡ Some (map asked_of links) → AllAdmitted given events → AllTimed window events
-    → ((k : ℕ) → k < admitted events → HasEntry page_may tables link_meaning given events k) → AreEntries events entries → ShownFrom window 0 heads (entries_text 0 entries)
+    → ((k : ℕ) → k < admitted events → HasEntry page_may tables source_meaning link_meaning given events k) → AreEntries events entries → ShownFrom window 0 heads (entries_text 0 entries)
 launched_shown window tables given events entries links heads sample same all_given all timed has are =
     let asks : List Asked = map asked_for heads in
     let given_is : given ≡ Some asks = all_given ∙ ap Some (asks_of_heads links heads same) in

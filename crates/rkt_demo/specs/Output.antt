@@ -1,8 +1,8 @@
 -- The text that tells how requests ended.
 use Rattle.std.specs.Prelude.{ℕ, ◌++◌, List, [], codes, flat_map, length}
 use Rattle.std.specs.Fmt.{decimal}
-use Rattle.rkt_life.specs.declared.piece.Piece.{Piece}
-use Rattle.rkt_life.specs.declared.piece.Piece.TheVariants.{Head, Chunk, End}
+use Rattle.rkt_response.specs.declared.piece.Piece.{Piece}
+use Rattle.rkt_response.specs.declared.piece.Piece.TheVariants.{Head, Chunk, End}
 
 -- the line of a header, its name and its value
 abbrev pub header_line : List ℕ × List ℕ → List ℕ
@@ -31,6 +31,10 @@ answered_section k head body = label k ++ codes "Answered " ++ head ++ decimal (
 -- the same, by the pieces that were sent
 abbrev pub sent_section : ℕ → List Piece → List ℕ
 sent_section k pieces = answered_section k (flat_map head_text pieces) (flat_map body_bytes pieces)
+
+-- the section of a request whose response could not be sent
+abbrev pub failed_section : ℕ → List ℕ
+failed_section k = label k ++ codes "Failed\n"
 
 -- the section of a request for which there was no memory
 abbrev pub starved_section : ℕ → List ℕ

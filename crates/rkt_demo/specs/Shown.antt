@@ -1,13 +1,14 @@
 -- What the program writes of the requests that it served.
 use Rattle.std.specs.Prelude.{◌≡◌, ◌⊎◌, ℕ, ◌+◌, ◌++◌, List, [], ◌∷◌, Option, take}
+use Rattle.rkt_data.specs.Memory.{SourceInMemory, source_meaning}
 use Rattle.rkt_request.specs.declared.head.Head.{Head}
+use Rattle.rkt_response.specs.Response.{ResponseOf}
+use Rattle.rkt_response.specs.Sent.{Sent}
+use Rattle.rkt_response.specs.declared.piece.Piece.{Piece}
 use Rattle.rkt_life.specs.Lifecycle.{Lifecycle}
 use Rattle.rkt_life.specs.Rocket.{SeenTables}
-use Rattle.rkt_life.specs.declared.piece.Piece.{Piece}
-use Rattle.rkt_life.specs.declared.response.Response.{Response}
 use Rattle.rkt_life.specs.declared.run.RunOf.{RunOf}
 use Rattle.rkt_serve.specs.Clock.{IsWithin}
-use Rattle.rkt_serve.specs.Sent.{Sent}
 use Rattle.rkt_demo.specs.Output.{sent_section, starved_section, last_line}
 use Rattle.rkt_demo.specs.Sample.{page_may, IsSample}
 use Rattle.rkt_demo.specs.Script.{lines_of, heads_of}
@@ -19,10 +20,10 @@ pub record IsAnswered (window : Option (ℕ × ℕ)) (k : ℕ) (head : Head) (se
   pub sample : IsSample tables
   pub run : RunOf ℕ
   pub timed : IsWithin window run.moment
-  pub response : Response
+  pub response : ResponseOf SourceInMemory
   pub lifecycle : Lifecycle page_may tables head run response
   pub pieces : List Piece
-  pub sent : Sent response pieces
+  pub sent : Sent source_meaning response pieces
   pub text : section ≡ sent_section k pieces
 
 -- the section of the request with this number, which has this head

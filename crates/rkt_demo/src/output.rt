@@ -3,11 +3,11 @@ ghost use Rattle.std.specs.Prelude.{◌≡◌, ◌++◌, ◌∷◌, [], IfOk, On
 ghost use Rattle.std.specs.Fmt.{decimal};
 ghost use Rattle.std.specs.Option.{option_copied};
 ghost use Rattle.rkt_demo.specs.Entries.{ended_section, entries_text, AreEntries};
-ghost use Rattle.rkt_demo.specs.Output.{header_line, head_text, body_bytes, label, sent_section, starved_section, last_line};
+ghost use Rattle.rkt_demo.specs.Output.{header_line, head_text, body_bytes, label, sent_section, failed_section, starved_section, last_line};
 
 use crate::sample::Sample;
 use rkt_base::{NoMemory, Text};
-use rkt_life::Piece;
+use rkt_response::Piece;
 use rkt_serve::{End, Entry, History, MemoryLink};
 use std::alloc::Global;
 
@@ -110,6 +110,13 @@ fn push_answered(
     push_text(out, "\n")
 }
 
+fn push_failed(alloc: Global, out: &mut Vec<u8>, number: usize) -> Result<(), NoMemory>
+    ensures { OnOk result (out.new.items ≡ out.old.items ++ failed_section number) }
+{
+    push_label(alloc, out, number)?;
+    push_text(out, "Failed\n")
+}
+
 fn push_starved(alloc: Global, out: &mut Vec<u8>, number: usize) -> Result<(), NoMemory>
     ensures { OnOk result (out.new.items ≡ out.old.items ++ starved_section number) }
 {
@@ -135,6 +142,7 @@ fn push_section(
 {
     match entry.end {
         End::Answered => push_answered(alloc, out, number, entry.link.held()),
+        End::Failed(_) => push_failed(alloc, out, number),
         End::Starved => push_starved(alloc, out, number),
     }
 }

@@ -1,38 +1,40 @@
 -- How a walk over the routes is shown.
 use Rattle.std.proofs.Common.{◌≡◌, ℕ, List, [], ◌∷◌, Some, None, Result, Ok, Err, IfOk, slice_get, refl, subst, sym}
 use Rattle.rkt_request.specs.Seen.{Seen}
-use Rattle.rkt_life.specs.Lifecycle.{Success, Forward, Answers, Tried, Walked, Served}
+use Rattle.rkt_life.specs.Lifecycle.{Outcome, Success, Forward, Answers, Tried, Walked, Served}
 use Rattle.rkt_life.specs.Response.{IsDefaultPage, text_page}
 use Rattle.rkt_life.specs.Rocket.{SeenTables}
 use Rattle.rkt_life.specs.Routes.{tries}
-use Rattle.rkt_life.specs.declared.response.Response.{Response}
+use Rattle.rkt_response.specs.Response.{ResponseOf}
 use Rattle.rkt_life.specs.declared.run.Call.{Call}
 use Rattle.rkt_life.specs.declared.run.Which.TheVariants.{Route}
 use Rattle.rkt_life.specs.declared.run.Answer.TheVariants.{Success as Succeeded}
 
-module _ {H V : Type 0} (may : H → Seen V → List ℕ → Type 0) (tables : SeenTables H V) where
-  tried_none : (ks : List ℕ) (request : Seen V) → slice_get ks 0 ≡ None → Tried may tables ks request [] (Forward 404)
-  tried_none [] request none = (refl, refl)
-  tried_none (k ∷ ks) request none = absurd (cc none)
+module _ {H S V : Type 0} (may : H → Seen V → List ℕ → Type 0) (tables : SeenTables H V) where
+  tried_none : (ks : List ℕ) (request : Seen V) (outcome : Outcome S) → slice_get ks 0 ≡ None → outcome ≡ Forward 404 → Tried may tables ks request [] outcome
+  tried_none [] request outcome none is = (refl, is)
+  tried_none (k ∷ ks) request outcome none is = absurd (cc none)
 
-  tried_first : (ks : List ℕ) (position : ℕ) (request : Seen V) (text : List ℕ) → slice_get ks 0 ≡ Some position → Answers may tables position request text
-      → Tried may tables ks request (record { which = Route position; answer = Succeeded } ∷ []) (Success (text_page text))
-  tried_first [] position request text first answers = absurd (cc first)
-  tried_first (k ∷ ks) position request text first answers =
+  tried_first : (ks : List ℕ) (position : ℕ) (request : Seen V) (text : List ℕ) (outcome : Outcome S) → slice_get ks 0 ≡ Some position → Answers may tables position request text
+      → outcome ≡ Success (text_page text) → Tried may tables ks request (record { which = Route position; answer = Succeeded } ∷ []) outcome
+  tried_first [] position request text outcome first answers is = absurd (cc first)
+  tried_first (k ∷ ks) position request text outcome first answers is =
       let same : k ≡ position = cc first in
-      (text, subst (λ j. Answers may tables j request text) (sym same) answers, cc same, refl)
+      (text, subst (λ j. Answers may tables j request text) (sym same) answers, cc same, is)
 
   -- no route matches
-  pub served_none : {E : Type 0} (request : Seen V) (calls : List Call) (made : Result Response E) → calls ≡ [] → slice_get (tries tables.routes request) 0 ≡ None
+  pub served_none : {E : Type 0} (request : Seen V) (calls : List Call) (made : Result (ResponseOf S) E) → calls ≡ [] → slice_get (tries tables.routes request) 0 ≡ None
       → IfOk made (IsDefaultPage 404 request) → IfOk made (Served may tables request calls)
   served_none request calls (Err e) none first page = tt
   served_none request calls (Ok response) none first page =
-      (Forward 404, subst (λ cs. Walked may tables request cs (Forward 404)) (sym none) (tried_none (tries tables.routes request) request first), page)
+      let outcome : Outcome S = Forward 404 in
+      (outcome, subst (λ cs. Walked may tables request cs outcome) (sym none) (tried_none (tries tables.routes request) request outcome first refl), page)
 
   -- the handler of the first route that matches answered
-  pub served_text : {E : Type 0} (request : Seen V) (position : ℕ) (text : List ℕ) (calls : List Call) (made : Result Response E)
+  pub served_text : {E : Type 0} (request : Seen V) (position : ℕ) (text : List ℕ) (calls : List Call) (made : Result (ResponseOf S) E)
       → slice_get (tries tables.routes request) 0 ≡ Some position → Answers may tables position request text
       → calls ≡ record { which = Route position; answer = Succeeded } ∷ [] → IfOk made (λ r. r ≡ text_page text) → IfOk made (Served may tables request calls)
   served_text request position text calls (Err e) first answers called page = tt
   served_text request position text calls (Ok response) first answers called page =
-      (Success (text_page text), subst (λ cs. Walked may tables request cs (Success (text_page text))) (sym called) (tried_first (tries tables.routes request) position request text first answers), page)
+      let outcome : Outcome S = Success (text_page text) in
+      (outcome, subst (λ cs. Walked may tables request cs outcome) (sym called) (tried_first (tries tables.routes request) position request text outcome first answers refl), page)

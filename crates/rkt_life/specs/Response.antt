@@ -1,18 +1,20 @@
--- The responses that an exchange makes.
-use Rattle.std.specs.Prelude.{◌≡◌, ℕ, List, [], ◌∷◌, Bool, Option, codes, if◌then◌else◌}
+-- The responses that an exchange makes. S is the type of streams.
+use Rattle.std.specs.Prelude.{◌≡◌, ℕ, List, [], ◌∷◌, Bool, Option, Some, None, codes, if◌then◌else◌}
 use Rattle.rkt_http.specs.Accept.{Weighed}
 use Rattle.rkt_http.specs.DefaultPage.{html_page, json_page}
 use Rattle.rkt_http.specs.Headers.{Group}
 use Rattle.rkt_http.specs.Media.{Media, is_kind}
 use Rattle.rkt_request.specs.Seen.{Seen, IsAccept, IsAccepted}
-use Rattle.rkt_life.specs.declared.response.Response.{Response}
+use Rattle.rkt_response.specs.Body.{body_of}
+use Rattle.rkt_response.specs.Response.{ResponseOf}
+use Rattle.rkt_response.specs.declared.content.Content.TheVariants.{Sized}
 
 -- a body of one type
-abbrev pub typed : ℕ → List ℕ → List ℕ → Response
+abbrev pub typed : {S : Type 0} → ℕ → List ℕ → List ℕ → ResponseOf S
 typed code content_type body = record {
-  status = record { code = code };
+  status = Some code;
   headers = record { name = codes "Content-Type"; values = content_type ∷ [] } ∷ [];
-  body = body;
+  body = body_of (Sized body None);
 }
 
 -- whether the media type that these headers prefer is JSON; where they accept none, they prefer any
@@ -21,13 +23,13 @@ PrefersJson headers json = (accept : Option (List Weighed)) × (media : Media) �
     × (json ≡ is_kind (codes "application") (codes "json") media)
 
 -- the page of a status, as JSON or as HTML
-abbrev pub page_of : Bool → ℕ → Response
+abbrev pub page_of : {S : Type 0} → Bool → ℕ → ResponseOf S
 page_of json code = if json then typed code (codes "application/json") (json_page code) else typed code (codes "text/html; charset=utf-8") (html_page code)
 
 -- the default page of a status, for this request
-abbrev pub IsDefaultPage : {V : Type 0} → ℕ → Seen V → Response → Type 0
+abbrev pub IsDefaultPage : {S V : Type 0} → ℕ → Seen V → ResponseOf S → Type 0
 IsDefaultPage code request response = (json : Bool) × PrefersJson request.headers json × (response ≡ page_of json code)
 
 -- a plain text, with the status 200
-abbrev pub text_page : List ℕ → Response
+abbrev pub text_page : {S : Type 0} → List ℕ → ResponseOf S
 text_page text = typed 200 (codes "text/plain; charset=utf-8") text

@@ -5,11 +5,13 @@ ghost use Rattle.rkt_life.specs.HandsBack.{HandsBack};
 ghost use Rattle.rkt_life.specs.Lifecycle.{Responds, Served, LifecycleOf};
 ghost use Rattle.rkt_life.specs.Routes.{matches, tries};
 
-use crate::{Answer, App, Call, Ended, EndedOf, Handler, Response, RunOf, Tables, Which};
+use crate::response::{default_page, text_page};
+use crate::{Answer, App, Call, Ended, EndedOf, Handler, RunOf, Tables, Which};
 use rkt_base::{NoMemory, Seq};
 use rkt_data::Gate;
 use rkt_http::{Origin, Status};
 use rkt_request::{Bad, Ctx, Incoming, Mounted, Request, Types};
+use rkt_response::Response;
 use rkt_turn::Shutdown;
 use std::alloc::Global;
 
@@ -79,13 +81,13 @@ impl<A: App> Tables<A> {
         request: &mut Request<'_, A>,
         faults: &[Bad],
         calls: &mut Seq<Call>,
-    ) -> Result<Response, NoMemory>
+    ) -> Result<Response<A::Stream>, NoMemory>
         requires { calls.old ≡ [] }
         ensures { IfOk result (Responds A.Handler.may self.now faults.now request.old calls.new) }
     {
         match faults {
             [] => self.serve(alloc, request, calls),
-            [..] => Response::default_page(alloc, Status::BadRequest, request),
+            [..] => default_page(alloc, Status::BadRequest, request),
         }
     }
 
@@ -95,13 +97,13 @@ impl<A: App> Tables<A> {
         alloc: Global,
         request: &mut Request<'_, A>,
         calls: &mut Seq<Call>,
-    ) -> Result<Response, NoMemory>
+    ) -> Result<Response<A::Stream>, NoMemory>
         requires { calls.old ≡ [] }
         ensures { IfOk result (Served A.Handler.may self.now request.old calls.new) }
     {
         let routes = self.routes.as_slice();
         let Some(position) = first_match(routes, request) else {
-            return Response::default_page(alloc, Status::NotFound, request);
+            return default_page(alloc, Status::NotFound, request);
         };
         request.set_route(Mounted {
             position,
@@ -112,6 +114,6 @@ impl<A: App> Tables<A> {
             which: Which::Route(position),
             answer: Answer::Success,
         })?;
-        Response::text_page(alloc, text)
+        text_page(alloc, text)
     }
 }

@@ -3,14 +3,11 @@
 
 mod app;
 mod dispatch;
-mod piece;
 mod response;
 mod rocket;
 mod run;
 
 pub use app::{App, Handler};
-pub use piece::Piece;
-pub use response::Response;
 pub use rocket::{Ignite, Rocket, Tables};
 pub use run::{Answer, Call, Ended, EndedOf, Run, RunOf, Which};
 

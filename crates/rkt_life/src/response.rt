@@ -1,36 +1,28 @@
-//! What answers a request.
+//! The responses that an exchange makes.
 ghost use Rattle.std.specs.Prelude.{◌≡◌, IfOk, string_bytes, codes};
 ghost use Rattle.rkt_life.specs.Response.{typed, PrefersJson, IsDefaultPage, text_page};
 
-use rkt_base::{Bytes, NoMemory};
-use rkt_http::{Header, HeaderMap, Status, default_page};
+use rkt_base::NoMemory;
+use rkt_data::Source;
+use rkt_http::{Status, default_page as page};
 use rkt_request::{Request, Types};
+use rkt_response::Response;
 use std::alloc::Global;
 
-/// A status, the groups of headers, and a body of known size.
-#[derive(Debug, Drop)]
-pub struct Response {
-    pub status: Status,
-    pub headers: HeaderMap,
-    pub body: Bytes,
-}
-
 // A body of this type.
-fn typed(
+fn typed<S: Source>(
     alloc: Global,
     status: Status,
     content_type: &str,
     body: String,
-) -> Result<Response, NoMemory>
+) -> Result<Response<S>, NoMemory>
     ensures { IfOk result (λ r. r ≡ typed status.code content_type.now (string_bytes body)) }
 {
-    let mut headers = HeaderMap::new(alloc);
-    headers.add(Header::new(alloc, "Content-Type", content_type)?)?;
-    Ok(Response {
-        status,
-        headers,
-        body: Bytes::from_vec(body.into_bytes()),
-    })
+    let mut response = Response::new(alloc);
+    response.set_status(status);
+    response.adjoin_raw_header("Content-Type", content_type)?;
+    response.set_sized_body(None, body.into_bytes());
+    Ok(response)
 }
 
 // Whether the media type that a request prefers is JSON.
@@ -43,32 +35,30 @@ fn prefers_json<T: Types>(request: &Request<'_, T>) -> bool
     }
 }
 
-impl Response {
-    // The page of a status without a catcher of its own, for this request.
-    pub(crate) fn default_page<T: Types>(
-        alloc: Global,
-        status: Status,
-        request: &Request<'_, T>,
-    ) -> Result<Response, NoMemory>
-        ensures { IfOk result (IsDefaultPage status.code request.now) }
-    {
-        if prefers_json(request) {
-            let page = default_page::json(alloc, status)?;
-            return typed(alloc, status, "application/json", page.into_string());
-        }
-        let page = default_page::html(alloc, status)?;
-        typed(
-            alloc,
-            status,
-            "text/html; charset=utf-8",
-            page.into_string(),
-        )
+// The page of a status without a catcher of its own, for this request.
+pub(crate) fn default_page<T: Types>(
+    alloc: Global,
+    status: Status,
+    request: &Request<'_, T>,
+) -> Result<Response<T::Stream>, NoMemory>
+    ensures { IfOk result (IsDefaultPage status.code request.now) }
+{
+    if prefers_json(request) {
+        let page = page::json(alloc, status)?;
+        return typed(alloc, status, "application/json", page.into_string());
     }
+    let page = page::html(alloc, status)?;
+    typed(
+        alloc,
+        status,
+        "text/html; charset=utf-8",
+        page.into_string(),
+    )
+}
 
-    // A text that a handler gave.
-    pub(crate) fn text_page(alloc: Global, text: String) -> Result<Response, NoMemory>
-        ensures { IfOk result (λ r. r ≡ text_page (string_bytes text)) }
-    {
-        typed(alloc, Status::Ok, "text/plain; charset=utf-8", text)
-    }
+// A text that a handler gave.
+pub(crate) fn text_page<S: Source>(alloc: Global, text: String) -> Result<Response<S>, NoMemory>
+    ensures { IfOk result (λ r. r ≡ text_page (string_bytes text)) }
+{
+    typed(alloc, Status::Ok, "text/plain; charset=utf-8", text)
 }

@@ -1,9 +1,9 @@
 //! What an exchange did, and how it ended.
-use crate::Response;
 use rkt_base::Seq;
 use rkt_cookie::CookieJar;
 use rkt_http::Key;
 use rkt_request::Types;
+use rkt_response::Response;
 use rkt_turn::Shutdown;
 
 /// A callback of the application, by its position.
@@ -41,17 +41,21 @@ pub type Run<A> = RunOf<<A as Types>::Cached>;
 
 /// How an exchange ended. It hands the wire's handle back in either way.
 #[derive(Drop)]
-pub enum EndedOf<C, S> {
+pub enum EndedOf<C, S, W> {
     Finished {
         run: RunOf<C>,
-        response: Response,
-        shutdown: S,
+        response: Response<S>,
+        shutdown: W,
     },
     /// There was no memory.
     Starved {
-        shutdown: S,
+        shutdown: W,
     },
 }
 
 /// How an application's exchange ended.
-pub type Ended<A> = EndedOf<<A as Types>::Cached, Shutdown<<A as Types>::Reason>>;
+pub type Ended<A> = EndedOf<
+    <A as Types>::Cached,
+    <A as Types>::Stream,
+    Shutdown<<A as Types>::Reason>,
+>;

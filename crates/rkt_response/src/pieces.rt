@@ -67,10 +67,10 @@ impl<S: Source> Pieces<S> {
         ensures by_gate { ByGate S.polled gate self.old.response.body.content self.new.response.body.content }
         ensures piece { IfReadyOk result (λ piece. Gives S.meaning self.old piece self.new) }
         ensures bad_head { (result ≡ Ready (Err PieceError.BadHead)) ↔ ((self.old.stage ≡ Stage.Head) × (has_head self.old.response ≡ false)) }
-        ensures body_fault { result ≡ Ready (Err PieceError.BodyFault) → GivesUp S.meaning self.old self.new }
+        ensures body_fault { result ≡ Ready (Err PieceError.BodyFault) → (self.old.stage ≡ Stage.Body) × GivesUp S.meaning self.old self.new }
         ensures over { IfReadyErr result (λ e. e ≢ PieceError.NoMemory → self.new.stage ≡ Stage.Done) }
         ensures no_memory { result ≡ Ready (Err PieceError.NoMemory) → self.new ≡ self.old }
-        ensures pending { result ≡ Pending → Waits S.meaning self.old self.new }
+        ensures pending { result ≡ Pending → (self.old.stage ≡ Stage.Body) × Waits S.meaning self.old self.new }
     {
         match self.stage {
             Stage::Head => Poll::Ready(self.head(alloc)),

@@ -4,6 +4,7 @@ use Rattle.std.proofs.lemmas.Grind.{common_steps}
 use Rattle.std.proofs.lemmas.Bool.Decides.{nat_tests}
 use Rattle.std.specs.List.{list_any, count_by}
 use Rattle.std.specs.Option.{ForSome}
+use Rattle.rkt_data.specs.Source.{Meaning}
 use Rattle.rkt_request.specs.Seen.{Seen}
 use Rattle.rkt_life.specs.Rocket.{SeenTables}
 use Rattle.rkt_life.specs.declared.run.RunOf.{RunOf}
@@ -39,12 +40,12 @@ once_step k number count more here other before = grind (arith, nat_tests)
 unended : (number count : ℕ) → count ≡ (if nat_lt number number then 1 else 0) → count ≡ 0
 unended number count is = grind (arith, nat_tests)
 
-module _ {C K H V : Type 0} (may : H → Seen V → List ℕ → Type 0) (tables : SeenTables H V) (meaning : K → LinkMeaning) where
-  abbrev lift : EventOf C K
+module _ {C S K H V : Type 0} (may : H → Seen V → List ℕ → Type 0) (tables : SeenTables H V) (stream : S → Meaning) (meaning : K → LinkMeaning) where
+  abbrev lift : EventOf C S K
   lift = Lift []
 
   -- a history that begins
-  pub balanced_lift : (given : Option (List Asked)) (window : Option (ℕ × ℕ)) (last : ℕ) → ForSome given (λ asks. asks ≡ []) → Balanced may tables meaning given window last (lift ∷ [])
+  pub balanced_lift : (given : Option (List Asked)) (window : Option (ℕ × ℕ)) (last : ℕ) → ForSome given (λ asks. asks ≡ []) → Balanced may tables stream meaning given window last (lift ∷ [])
   balanced_lift given window last fresh = record {
     ordered = ((refl, refl), tt);
     caused = (refl, tt);
@@ -59,8 +60,8 @@ module _ {C K H V : Type 0} (may : H → Seen V → List ℕ → Type 0) (tables
   }
 
   -- an entry of before
-  entry_kept : (given new : Option (List Asked)) (ask : Option Asked) (events more : List (EventOf C K)) (k : ℕ) → GivesMore given ask new
-      → ForSome given (λ asks. admitted events ≡ length asks) → k < admitted events → HasEntry may tables meaning given events k → HasEntry may tables meaning new (events ++ more) k
+  entry_kept : (given new : Option (List Asked)) (ask : Option Asked) (events more : List (EventOf C S K)) (k : ℕ) → GivesMore given ask new
+      → ForSome given (λ asks. admitted events ≡ length asks) → k < admitted events → HasEntry may tables stream meaning given events k → HasEntry may tables stream meaning new (events ++ more) k
   entry_kept given new ask events more k gives counted lt has = record {
     entry = has.entry;
     found = end_of_front k events more has.entry has.found;
@@ -72,9 +73,9 @@ module _ {C K H V : Type 0} (may : H → Seen V → List ℕ → Type 0) (tables
   }
 
   -- the entry of the exchange that is over
-  entry_new : (given new : Option (List Asked)) (ask : Option Asked) (events : List (EventOf C K)) (entry : EntryOf C K) (number m k : ℕ) → GivesMore given ask new
-      → ForSome given (λ asks. number ≡ length asks) → (meaning entry.link).asked ≡ ask → Caused may tables meaning entry → k ≡ number
-      → list_any (ends k) events ≡ false → HasEntry may tables meaning new (events ++ End number entry m 0 ∷ []) k
+  entry_new : (given new : Option (List Asked)) (ask : Option Asked) (events : List (EventOf C S K)) (entry : EntryOf C S K) (number m k : ℕ) → GivesMore given ask new
+      → ForSome given (λ asks. number ≡ length asks) → (meaning entry.link).asked ≡ ask → Caused may tables stream meaning entry → k ≡ number
+      → list_any (ends k) events ≡ false → HasEntry may tables stream meaning new (events ++ End number entry m 0 ∷ []) k
   entry_new given new ask events entry number m k gives counted same caused at none = record {
     entry = entry;
     found = end_of_past k events (End number entry m 0 ∷ []) none ∙ end_of_this k number entry m 0 at;
@@ -86,14 +87,14 @@ module _ {C K H V : Type 0} (may : H → Seen V → List ℕ → Type 0) (tables
   }
 
   -- a history with one exchange more
-  pub balanced_more : (given new : Option (List Asked)) (window : Option (ℕ × ℕ)) (ask : Option Asked) (events : List (EventOf C K)) (entry : EntryOf C K) (number last m1 m2 : ℕ)
-      → GivesMore given ask new → (meaning entry.link).asked ≡ ask → Caused may tables meaning entry → number ≡ admitted events → last ≤ m1 → m1 ≤ m2
+  pub balanced_more : (given new : Option (List Asked)) (window : Option (ℕ × ℕ)) (ask : Option Asked) (events : List (EventOf C S K)) (entry : EntryOf C S K) (number last m1 m2 : ℕ)
+      → GivesMore given ask new → (meaning entry.link).asked ≡ ask → Caused may tables stream meaning entry → number ≡ admitted events → last ≤ m1 → m1 ≤ m2
       → IsWithin window m1 → IsWithin window m2 → ForSome entry.run (λ run. run.moment ≡ m1)
-      → Balanced may tables meaning given window last events
-      → Balanced may tables meaning new window m2 ((events ++ Admit number m1 0 ∷ []) ++ End number entry m2 0 ∷ [])
+      → Balanced may tables stream meaning given window last events
+      → Balanced may tables stream meaning new window m2 ((events ++ Admit number m1 0 ∷ []) ++ End number entry m2 0 ∷ [])
   balanced_more given new window ask events entry number last m1 m2 gives same caused counted rises1 rises2 within1 within2 timed b =
-      let admit : EventOf C K = Admit number m1 0 in
-      let ended : EventOf C K = End number entry m2 0 in
+      let admit : EventOf C S K = Admit number m1 0 in
+      let ended : EventOf C S K = End number entry m2 0 in
       let middle = events ++ admit ∷ [] in
       let unclosed1 : list_any is_close middle ≡ false = any_push is_close events admit ∙ grind (arith, common_steps, b.unclosed) in
       let latest1 : latest middle ≤ m1 = omega (arith, latest_push events admit, b.latest_by) in
@@ -104,7 +105,7 @@ module _ {C K H V : Type 0} (may : H → Seen V → List ℕ → Type 0) (tables
       let more : admitted (middle ++ ended ∷ []) ≡ number + 1 = (count_push is_admit middle ended).1 refl ∙ (count_push is_admit events admit).0 refl ∙ ap (λ n. n + 1) (sym counted) in
       record {
         ordered = after_push InOrder [] middle ended ordered1 (unclosed1, (is_there, no_end, omega (arith, latest1)));
-        caused = all_push (CauseOf may tables meaning) middle ended (all_push (CauseOf may tables meaning) events admit b.caused tt) caused;
+        caused = all_push (CauseOf may tables stream meaning) middle ended (all_push (CauseOf may tables stream meaning) events admit b.caused tt) caused;
         begun = omega (arith, length-append middle (ended ∷ []));
         unclosed = any_push is_close middle ended ∙ grind (arith, common_steps, unclosed1);
         latest_by = omega (arith, latest_push middle ended, latest1);
@@ -120,10 +121,10 @@ module _ {C K H V : Type 0} (may : H → Seen V → List ℕ → Type 0) (tables
             omega (arith, more, counted, b.all_admitted g.old g.told, ap length g.grown, length-append g.old (g.last ∷ []));
         timed = all_push (TimedIn window) middle ended (all_push (TimedIn window) events admit b.timed within1) (within2, λ run is. subst (λ m. IsWithin window m) (sym (timed run is)) within1);
       } where
-        each_more : (k : ℕ) → (k < number) ⊎ (k ≡ number) → HasEntry may tables meaning new ((events ++ Admit number m1 0 ∷ []) ++ End number entry m2 0 ∷ []) k
+        each_more : (k : ℕ) → (k < number) ⊎ (k ≡ number) → HasEntry may tables stream meaning new ((events ++ Admit number m1 0 ∷ []) ++ End number entry m2 0 ∷ []) k
         each_more k (inl lt) =
             let below : k < admitted events = omega (arith, lt, counted) in
-            subst (λ (es : List (EventOf C K)). HasEntry may tables meaning new es k) (sym (append_assoc events (Admit number m1 0 ∷ []) (End number entry m2 0 ∷ [])))
+            subst (λ (es : List (EventOf C S K)). HasEntry may tables stream meaning new es k) (sym (append_assoc events (Admit number m1 0 ∷ []) (End number entry m2 0 ∷ [])))
             (entry_kept given new ask events (Admit number m1 0 ∷ End number entry m2 0 ∷ []) k gives b.all_admitted below (b.entries k below))
         each_more k (inr at) =
             let before : count_by (ends k) events ≡ (if nat_lt number number then 1 else 0) = b.once k ∙ grind (arith, at, counted) in
@@ -131,15 +132,15 @@ module _ {C K H V : Type 0} (may : H → Seen V → List ℕ → Type 0) (tables
             entry_new given new ask (events ++ Admit number m1 0 ∷ []) entry number m2 k gives (λ asks is. counted ∙ b.all_admitted asks is) same caused at none
 
   -- a history that is over
-  pub legal_closed : (given : Option (List Asked)) (window : Option (ℕ × ℕ)) (last m : ℕ) (events : List (EventOf C K)) → Balanced may tables meaning given window last events → last ≤ m → IsWithin window m
-      → IsLegal may tables meaning given window (events ++ Close m ∷ [])
+  pub legal_closed : (given : Option (List Asked)) (window : Option (ℕ × ℕ)) (last m : ℕ) (events : List (EventOf C S K)) → Balanced may tables stream meaning given window last events → last ≤ m → IsWithin window m
+      → IsLegal may tables stream meaning given window (events ++ Close m ∷ [])
   legal_closed given window last m events b rises within =
-      let close : EventOf C K = Close m in
+      let close : EventOf C S K = Close m in
       let same : admitted (events ++ close ∷ []) ≡ admitted events = (count_push is_admit events close).1 refl in
       record {
         ordered = after_push InOrder [] events close b.ordered (b.unclosed, (b.begun, b.none_open, omega (arith, b.latest_by)));
         closed = (events, m, refl);
-        caused = all_push (CauseOf may tables meaning) events close b.caused tt;
+        caused = all_push (CauseOf may tables stream meaning) events close b.caused tt;
         once = λ k. (count_push (ends k) events close).1 refl ∙ subst (λ n. count_by (ends k) events ≡ (if nat_lt k n then 1 else 0)) (sym same) (b.once k);
         entries = λ k lt.
             let has = b.entries k (omega (arith, lt, same)) in

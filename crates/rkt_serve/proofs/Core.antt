@@ -33,19 +33,19 @@ none_some (Some x) none some = absurd (cc none)
 pub false_true : false ≡ true → ⊥
 false_true e = absurd (cc e)
 
-module _ {C K : Type 0} where
-  by_steps : (P : List (EventOf C K) → Type 0) → ((before : List (EventOf C K)) (e : EventOf C K) → P before → InOrder before e → P (before ++ e ∷ [])) → P [] → (es : List (EventOf C K)) → Ordered es → P es
+module _ {C S K : Type 0} where
+  by_steps : (P : List (EventOf C S K) → Type 0) → ((before : List (EventOf C S K)) (e : EventOf C S K) → P before → InOrder before e → P (before ++ e ∷ [])) → P [] → (es : List (EventOf C S K)) → Ordered es → P es
   by_steps P step start es ordered = after_keeps InOrder P step [] es start ordered
 
   -- the numbers below the count of Admits were admitted once, and no other was
-  abbrev Numbered : List (EventOf C K) → Type 0
+  abbrev Numbered : List (EventOf C S K) → Type 0
   Numbered es = (k : ℕ) → count_by (admits k) es ≡ (if nat_lt k (admitted es) then 1 else 0)
 
-  numbered_other : (b : List (EventOf C K)) (e : EventOf C K) → ((k : ℕ) → admits k e ≡ false) → is_admit e ≡ false → Numbered b → Numbered (b ++ e ∷ [])
+  numbered_other : (b : List (EventOf C S K)) (e : EventOf C S K) → ((k : ℕ) → admits k e ≡ false) → is_admit e ≡ false → Numbered b → Numbered (b ++ e ∷ [])
   numbered_other b e none other h k =
       (count_push (admits k) b e).1 (none k) ∙ subst (λ n. count_by (admits k) b ≡ (if nat_lt k n then 1 else 0)) (sym ((count_push is_admit b e).1 other)) (h k)
 
-  numbered_step : (b : List (EventOf C K)) (e : EventOf C K) → Numbered b → InOrder b e → Numbered (b ++ e ∷ [])
+  numbered_step : (b : List (EventOf C S K)) (e : EventOf C S K) → Numbered b → InOrder b e → Numbered (b ++ e ∷ [])
   numbered_step b (Lift calls) h o = numbered_other b (Lift calls) (λ k. refl) refl h
   numbered_step b (End n x m y) h o = numbered_other b (End n x m y) (λ k. refl) refl h
   numbered_step b (Close m) h o = numbered_other b (Close m) (λ k. refl) refl h
@@ -55,31 +55,31 @@ module _ {C K : Type 0} where
       (subst (λ c. count_by (admits k) b ≡ (if nat_lt k c then 1 else 0)) (sym o.1.1) (h k))
       ((count_push is_admit b (Admit n m y)).0 refl ∙ ap (λ c. c + 1) (sym o.1.1))
 
-  pub numbered : (es : List (EventOf C K)) → Ordered es → (k : ℕ) → count_by (admits k) es ≡ (if nat_lt k (admitted es) then 1 else 0)
+  pub numbered : (es : List (EventOf C S K)) → Ordered es → (k : ℕ) → count_by (admits k) es ≡ (if nat_lt k (admitted es) then 1 else 0)
   numbered = by_steps Numbered numbered_step (λ k. grind (arith, nat_tests))
 
-  once_other : (k : ℕ) (b : List (EventOf C K)) (e : EventOf C K) → ends k e ≡ false → count_by (ends k) b ≤ 1 → count_by (ends k) (b ++ e ∷ []) ≤ 1
+  once_other : (k : ℕ) (b : List (EventOf C S K)) (e : EventOf C S K) → ends k e ≡ false → count_by (ends k) b ≤ 1 → count_by (ends k) (b ++ e ∷ []) ≤ 1
   once_other k b e other h = omega (arith, (count_push (ends k) b e).1 other, h)
 
-  once_this : (k : ℕ) (b : List (EventOf C K)) (e : EventOf C K) (t : Bool) → ends k e ≡ t → (ends k e ≡ true → list_any (ends k) b ≡ false) → count_by (ends k) b ≤ 1 → count_by (ends k) (b ++ e ∷ []) ≤ 1
+  once_this : (k : ℕ) (b : List (EventOf C S K)) (e : EventOf C S K) (t : Bool) → ends k e ≡ t → (ends k e ≡ true → list_any (ends k) b ≡ false) → count_by (ends k) b ≤ 1 → count_by (ends k) (b ++ e ∷ []) ≤ 1
   once_this k b e true is none h = omega (arith, (count_push (ends k) b e).0 is, none_any (ends k) b (none is))
   once_this k b e false is none h = once_other k b e is h
 
-  once_step : (k : ℕ) (b : List (EventOf C K)) (e : EventOf C K) → count_by (ends k) b ≤ 1 → InOrder b e → count_by (ends k) (b ++ e ∷ []) ≤ 1
+  once_step : (k : ℕ) (b : List (EventOf C S K)) (e : EventOf C S K) → count_by (ends k) b ≤ 1 → InOrder b e → count_by (ends k) (b ++ e ∷ []) ≤ 1
   once_step k b (Lift calls) h o = once_other k b (Lift calls) refl h
   once_step k b (Admit n m y) h o = once_other k b (Admit n m y) refl h
   once_step k b (Close m) h o = once_other k b (Close m) refl h
   once_step k b (End n x m y) h o = once_this k b (End n x m y) (n == k) refl (λ t. subst (λ (j : ℕ). list_any (ends j) b ≡ false) (grind (arith, nat_tests, t)) o.1.1) h
 
   -- each number has at most one End
-  pub ended_once : (k : ℕ) (es : List (EventOf C K)) → Ordered es → count_by (ends k) es ≤ 1
+  pub ended_once : (k : ℕ) (es : List (EventOf C S K)) → Ordered es → count_by (ends k) es ≤ 1
   ended_once k es ordered = by_steps (λ es. count_by (ends k) es ≤ 1) (once_step k) (omega arith) es ordered
 
   -- in a closed history a number has an entry exactly where it was admitted
-  pub closed_entry : (k : ℕ) (es : List (EventOf C K)) → Ordered es → IsClosed es → (is_some (end_of k es) ≡ true) ↔ (k < admitted es)
+  pub closed_entry : (k : ℕ) (es : List (EventOf C S K)) → Ordered es → IsClosed es → (is_some (end_of k es) ≡ true) ↔ (k < admitted es)
   closed_entry k es ordered closed =
       let front = closed.0 in
-      let last : EventOf C K = Close closed.1 in
+      let last : EventOf C S K = Close closed.1 in
       let parts = after_last InOrder [] front last (subst Ordered closed.2 ordered) in
       let same : list_any (admits k) front ≡ list_any (ends k) front = parts.1.1.1 k in
       let count : admitted es ≡ admitted front = ap admitted closed.2 ∙ (count_push is_admit front last).1 refl in

@@ -68,19 +68,19 @@ get_some zero entry other (None ∷ ps) is = absurd (cc is)
 get_some zero entry other (Some x ∷ ps) is = is
 get_some (suc k) entry other (p ∷ ps) is = get_some k entry other ps is
 
-module _ {C K : Type 0} where
+module _ {C S K : Type 0} where
   -- each number below the count has its entry at its place
-  abbrev pub Noted : List (Option (EntryOf C K)) → ℕ → List (EventOf C K) → Type 0
+  abbrev pub Noted : List (Option (EntryOf C S K)) → ℕ → List (EventOf C S K) → Type 0
   Noted ps count events = (length ps ≡ count) × ((k : ℕ) → k < count → slice_get ps k ≡ Some (end_of k events))
 
-  end_of_other : (k : ℕ) (xs : List (EventOf C K)) (n : ℕ) (x : EntryOf C K) (m b : ℕ) → (n == k) ≡ false → end_of k (xs ++ End n x m b ∷ []) ≡ end_of k xs
+  end_of_other : (k : ℕ) (xs : List (EventOf C S K)) (n : ℕ) (x : EntryOf C S K) (m b : ℕ) → (n == k) ≡ false → end_of k (xs ++ End n x m b ∷ []) ≡ end_of k xs
   end_of_other k [] n x m b other = grind (arith, nat_tests, other)
   end_of_other k (Lift calls ∷ xs) n x m b other = end_of_other k xs n x m b other
   end_of_other k (Admit j t y ∷ xs) n x m b other = end_of_other k xs n x m b other
   end_of_other k (Close t ∷ xs) n x m b other = end_of_other k xs n x m b other
   end_of_other k (End j e t y ∷ xs) n x m b other = ap (λ rest. if j == k then Some e else rest) (end_of_other k xs n x m b other)
 
-  end_of_none : (k : ℕ) (xs : List (EventOf C K)) (x : EntryOf C K) (m b : ℕ) → end_of k xs ≡ None → end_of k (xs ++ End k x m b ∷ []) ≡ Some x
+  end_of_none : (k : ℕ) (xs : List (EventOf C S K)) (x : EntryOf C S K) (m b : ℕ) → end_of k xs ≡ None → end_of k (xs ++ End k x m b ∷ []) ≡ Some x
   end_of_none k [] x m b none = grind (arith, nat_tests)
   end_of_none k (Lift calls ∷ xs) x m b none = end_of_none k xs x m b none
   end_of_none k (Admit j t y ∷ xs) x m b none = end_of_none k xs x m b none
@@ -91,7 +91,7 @@ module _ {C K : Type 0} where
       step true is more = absurd (cc is)
       step false is more = more is
 
-  end_of_quiet : (k : ℕ) (xs : List (EventOf C K)) (e : EventOf C K) → end_of k (e ∷ []) ≡ None → end_of k (xs ++ e ∷ []) ≡ end_of k xs
+  end_of_quiet : (k : ℕ) (xs : List (EventOf C S K)) (e : EventOf C S K) → end_of k (e ∷ []) ≡ None → end_of k (xs ++ e ∷ []) ≡ end_of k xs
   end_of_quiet k [] e quiet = quiet
   end_of_quiet k (Lift calls ∷ xs) e quiet = end_of_quiet k xs e quiet
   end_of_quiet k (Admit j t y ∷ xs) e quiet = end_of_quiet k xs e quiet
@@ -99,26 +99,26 @@ module _ {C K : Type 0} where
   end_of_quiet k (End j x t y ∷ xs) e quiet = ap (λ rest. if j == k then Some x else rest) (end_of_quiet k xs e quiet)
 
   -- an event that is no End
-  noted_other : (ps : List (Option (EntryOf C K))) (count : ℕ) (xs : List (EventOf C K)) (e : EventOf C K) → ((k : ℕ) → end_of k (e ∷ []) ≡ None) → Noted ps count xs → Noted ps count (xs ++ e ∷ [])
-  noted_other ps count xs e quiet h = (h.0, λ k lt. h.1 k lt ∙ ap (λ (o : Option (EntryOf C K)). Some o) (sym (end_of_quiet k xs e (quiet k))))
+  noted_other : (ps : List (Option (EntryOf C S K))) (count : ℕ) (xs : List (EventOf C S K)) (e : EventOf C S K) → ((k : ℕ) → end_of k (e ∷ []) ≡ None) → Noted ps count xs → Noted ps count (xs ++ e ∷ [])
+  noted_other ps count xs e quiet h = (h.0, λ k lt. h.1 k lt ∙ ap (λ (o : Option (EntryOf C S K)). Some o) (sym (end_of_quiet k xs e (quiet k))))
 
   -- an End
-  noted_end : (ps : List (Option (EntryOf C K))) (count : ℕ) (xs : List (EventOf C K)) (n : ℕ) (x : EntryOf C K) (m b : ℕ) → Noted ps count xs → Noted (with_first n x ps) count (xs ++ End n x m b ∷ [])
+  noted_end : (ps : List (Option (EntryOf C S K))) (count : ℕ) (xs : List (EventOf C S K)) (n : ℕ) (x : EntryOf C S K) (m b : ℕ) → Noted ps count xs → Noted (with_first n x ps) count (xs ++ End n x m b ∷ [])
   noted_end ps count xs n x m b h = (length-with_first n x ps ∙ h.0, λ k lt. by_number k (n == k) refl (h.1 k lt))
     where
-      by_entry : (o : Option (EntryOf C K)) → end_of n xs ≡ o → slice_get ps n ≡ Some o → (end_of n xs ≡ None → end_of n (xs ++ End n x m b ∷ []) ≡ Some x) → slice_get (with_first n x ps) n ≡ Some (end_of n (xs ++ End n x m b ∷ []))
-      by_entry None is at more = get_none n x ps at ∙ ap (λ (o : Option (EntryOf C K)). Some o) (sym (more is))
-      by_entry (Some e) is at more = get_some n x e ps at ∙ ap (λ (o : Option (EntryOf C K)). Some o) (sym (end_of_front n xs (End n x m b ∷ []) e is))
+      by_entry : (o : Option (EntryOf C S K)) → end_of n xs ≡ o → slice_get ps n ≡ Some o → (end_of n xs ≡ None → end_of n (xs ++ End n x m b ∷ []) ≡ Some x) → slice_get (with_first n x ps) n ≡ Some (end_of n (xs ++ End n x m b ∷ []))
+      by_entry None is at more = get_none n x ps at ∙ ap (λ (o : Option (EntryOf C S K)). Some o) (sym (more is))
+      by_entry (Some e) is at more = get_some n x e ps at ∙ ap (λ (o : Option (EntryOf C S K)). Some o) (sym (end_of_front n xs (End n x m b ∷ []) e is))
 
       by_number : (k : ℕ) (t : Bool) → (n == k) ≡ t → slice_get ps k ≡ Some (end_of k xs) → slice_get (with_first n x ps) k ≡ Some (end_of k (xs ++ End n x m b ∷ []))
-      by_number k false other at = get_other n k x ps other ∙ at ∙ ap (λ (o : Option (EntryOf C K)). Some o) (sym (end_of_other k xs n x m b other))
+      by_number k false other at = get_other n k x ps other ∙ at ∙ ap (λ (o : Option (EntryOf C S K)). Some o) (sym (end_of_other k xs n x m b other))
       by_number k true same at =
           let number : n ≡ k = grind (arith, nat_tests, same) in
           subst (λ (j : ℕ). slice_get (with_first n x ps) j ≡ Some (end_of j (xs ++ End n x m b ∷ []))) number
           (by_entry (end_of n xs) refl (subst (λ (j : ℕ). slice_get ps j ≡ Some (end_of j xs)) (sym number) at) (end_of_none n xs x m b))
 
   -- one event more
-  pub noted_more : (ps : List (Option (EntryOf C K))) (count : ℕ) (xs : List (EventOf C K)) (e : EventOf C K) → Noted ps count xs → Noted (noted e ps) count (xs ++ e ∷ [])
+  pub noted_more : (ps : List (Option (EntryOf C S K))) (count : ℕ) (xs : List (EventOf C S K)) (e : EventOf C S K) → Noted ps count xs → Noted (noted e ps) count (xs ++ e ∷ [])
   noted_more ps count xs (End n x m b) h = noted_end ps count xs n x m b h
   noted_more ps count xs (Lift calls) h = noted_other ps count xs (Lift calls) (λ k. refl) h
   noted_more ps count xs (Admit n m b) h = noted_other ps count xs (Admit n m b) (λ k. refl) h
@@ -152,5 +152,5 @@ length-nones E zero = refl
 length-nones E (suc n) = ap suc (length-nones E n)
 
 -- before the first event
-pub noted_none : {C K : Type 0} (ps : List (Option (EntryOf C K))) (count : ℕ) → ps ≡ nones count → Noted ps count []
-noted_none {C} {K} ps count is = (ap length is ∙ length-nones (EntryOf C K) count, λ k lt. ap (λ (xs : List (Option (EntryOf C K))). slice_get xs k) is ∙ nones_at {E = EntryOf C K} count k lt)
+pub noted_none : {C S K : Type 0} (ps : List (Option (EntryOf C S K))) (count : ℕ) → ps ≡ nones count → Noted ps count []
+noted_none {C} {S} {K} ps count is = (ap length is ∙ length-nones (EntryOf C S K) count, λ k lt. ap (λ (xs : List (Option (EntryOf C S K))). slice_get xs k) is ∙ nones_at {E = EntryOf C S K} count k lt)

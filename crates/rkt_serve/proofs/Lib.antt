@@ -2,6 +2,7 @@ pub mod Balance
 pub mod Clocks
 pub mod Core
 pub mod Pieces
+pub mod Sendings
 pub mod Pushes
 pub mod Listening
 pub mod Entries

@@ -1,20 +1,22 @@
--- What is sent piece by piece.
-use Rattle.std.proofs.Common.{◌≡◌, ◌<◌, ◌≤◌, ◌++◌, ℕ, Bool, true, false, if◌then◌else◌, arith, subst, List, [], ◌∷◌, Option, Some, None, option_map, codes, length, map, flat_map, refl, ap, ◌∙◌, sym, append_assoc, append-nil}
+-- What a link holds, piece by piece.
+use Rattle.std.proofs.Common.{◌≡◌, ◌++◌, ℕ, max, arith, subst, List, [], ◌∷◌, Option, Some, None, option_map, Result, Ok, Err, IfOk, ap, ◌∙◌, sym, refl, append_assoc, append-nil}
 use Rattle.std.proofs.lemmas.Grind.{common_steps}
-use Rattle.std.specs.List.{AllByRecursion}
 use Rattle.std.specs.Option.{ForSome}
-use Rattle.rkt_http.specs.Headers.{Field}
+use Rattle.rkt_data.specs.Source.{Meaning}
 use Rattle.rkt_request.specs.Seen.{Seen}
-use Rattle.rkt_request.specs.declared.head.Head.{Head as Asks}
 use Rattle.rkt_life.specs.Lifecycle.{Lifecycle}
 use Rattle.rkt_life.specs.Rocket.{SeenTables}
 use Rattle.rkt_life.specs.declared.run.RunOf.{RunOf}
-use Rattle.rkt_life.specs.declared.piece.Piece.{Piece}
-use Rattle.rkt_life.specs.declared.piece.Piece.TheVariants.{Head, Chunk, End}
-use Rattle.rkt_life.specs.declared.response.Response.{Response}
-use Rattle.rkt_serve.specs.Causes.{Answers}
+use Rattle.rkt_response.specs.Response.{ResponseOf}
+use Rattle.rkt_response.specs.Sending.{ReadOn}
+use Rattle.rkt_response.specs.declared.piece.Piece.{Piece}
+use Rattle.rkt_serve.specs.Asked.{Asked}
+use Rattle.rkt_serve.specs.Causes.{CausedAs, Caused}
 use Rattle.rkt_serve.specs.Link.{LinkMeaning, with_taken}
-use Rattle.rkt_serve.specs.Sent.{Line, line_of, is_length, with_length, without_length, IsChunk, Chunked, Sent, sent_headers}
+use Rattle.rkt_serve.specs.Sent.{IsSentAs}
+use Rattle.rkt_serve.specs.declared.history.End.{End as Ending}
+use Rattle.rkt_serve.specs.declared.history.End.TheVariants.{Answered, Failed, Starved}
+use Rattle.rkt_serve.specs.declared.history.EntryOf.{EntryOf}
 
 taken_none : (h : Option (List Piece)) → option_map (λ held. held ++ []) h ≡ h
 taken_none None = refl
@@ -30,59 +32,52 @@ with_taken-nil link = ap (λ h. record link { held = h }) (taken_none link.held)
 pub with_taken-with_taken : (link : LinkMeaning) (ps qs : List Piece) → with_taken (with_taken link ps) qs ≡ with_taken link (ps ++ qs)
 with_taken-with_taken link ps qs = ap (λ h. record link { held = h }) (taken_more link.held ps qs)
 
--- a chunk in front of chunks
-pub chunked_more : (chunk rest bytes : List ℕ) (pieces : List Piece) → 0 < length chunk → length chunk ≤ 4096 → chunk ++ rest ≡ bytes → Chunked rest pieces → Chunked bytes (Chunk chunk ∷ pieces)
-chunked_more chunk rest bytes pieces some small joined of_rest =
-    (chunk ∷ of_rest.0, (record { some = some; small = small }, of_rest.1), ap (λ (r : List ℕ). chunk ++ r) of_rest.2 ∙ joined, ap (λ (ps : List Piece). Chunk chunk ∷ ps) of_rest.3)
-
--- a head, the chunks of the body and the end, one after another
-pub sent_whole : (response : Response) (headers : List Line) (bytes : List ℕ) (body : List Piece) (m0 m1 m2 m3 : LinkMeaning)
-    → bytes ≡ response.body → headers ≡ sent_headers response.headers (length response.body) → Chunked bytes body
-    → m1 ≡ with_taken m0 (Head response.status.code headers ∷ []) → m2 ≡ with_taken m1 body → m3 ≡ with_taken m2 (End ∷ [])
-    → (pieces : List Piece) × Sent response pieces × (m3 ≡ with_taken m0 pieces)
-sent_whole response headers bytes body m0 m1 m2 m3 same headed chunked one two three =
-    let head : Piece = Head response.status.code headers in
-    let first : m2 ≡ with_taken m0 (head ∷ body) = two ∙ ap (λ (m : LinkMeaning). with_taken m body) one ∙ with_taken-with_taken m0 (head ∷ []) body in
-    let last : m3 ≡ with_taken m0 (head ∷ body ++ End ∷ []) = three ∙ ap (λ (m : LinkMeaning). with_taken m (End ∷ [])) first ∙ with_taken-with_taken m0 (head ∷ body) (End ∷ []) in
-    (head ∷ body ++ End ∷ [], (body, (chunked.0, chunked.1, chunked.2 ∙ same, chunked.3), ap (λ (hs : List Line). Head response.status.code hs ∷ body ++ End ∷ []) headed), last)
-
--- the lines that come of the fields that are left, where the size was told already or not yet
-abbrev pub rest_of : Bool → List ℕ → List Field → List Line
-rest_of told size fields = if told then without_length (map line_of fields) else with_length size (map line_of fields)
-
-pub other_line : (lines : List Line) (told : Bool) (size name value : List ℕ) (rest : List Field) (all : List Line) → is_length (name, value) ≡ false
-    → lines ++ rest_of told size (record { name = name; value = value } ∷ rest) ≡ all → (lines ++ (name, value) ∷ []) ++ rest_of told size rest ≡ all
-other_line lines true size name value rest all other before = grind (arith, common_steps, other, before)
-other_line lines false size name value rest all other before = grind (arith, common_steps, other, before)
-
-pub length_line : (lines : List Line) (size name value : List ℕ) (rest : List Field) (all : List Line) → is_length (name, value) ≡ true
-    → lines ++ rest_of false size (record { name = name; value = value } ∷ rest) ≡ all → (lines ++ (name, size) ∷ []) ++ rest_of true size rest ≡ all
-length_line lines size name value rest all is before = grind (arith, common_steps, is, before)
-
-pub told_line : (lines : List Line) (size name value : List ℕ) (rest : List Field) (all : List Line) → is_length (name, value) ≡ true
-    → lines ++ rest_of true size (record { name = name; value = value } ∷ rest) ≡ all → lines ++ rest_of true size rest ≡ all
-told_line lines size name value rest all is before = grind (arith, common_steps, is, before)
-
 -- what was held before, and then these pieces
 held_only : (h : Option (List Piece)) (pieces held : List Piece) → ForSome h (λ old. old ≡ []) → option_map (λ old. old ++ pieces) h ≡ Some held → held ≡ pieces
 held_only None pieces held fresh is = absurd (cc is)
 held_only (Some old) pieces held fresh is = let empty : old ≡ [] = fresh old refl in grind (arith, common_steps, empty, is)
 
 -- a run whose response was sent on a fresh link
-pub answers_sent : {C H V : Type 0} (may : H → Seen V → List ℕ → Type 0) (tables : SeenTables H V) (old new : LinkMeaning) (head : Asks) (run : RunOf C) (response : Response) (pieces : List Piece)
-    → ForSome old.asked (λ asked. asked.head ≡ head) → ForSome old.held (λ held. held ≡ []) → Lifecycle may tables head run response → Sent response pieces
-    → new ≡ with_taken old pieces → Answers may tables new run response
-answers_sent may tables old new head run response pieces asks fresh lifecycle sent is = (
-  λ asked told. subst (λ (h : Asks). Lifecycle may tables h run response) (sym (asks asked (sym (ap (λ (m : LinkMeaning). m.asked) is) ∙ told))) lifecycle,
-  λ held told. subst (Sent response) (sym (held_only old.held pieces held fresh (sym (ap (λ (m : LinkMeaning). m.held) is) ∙ told))) sent,
+pub caused_sent : {C S K H V : Type 0} (may : H → Seen V → List ℕ → Type 0) (tables : SeenTables H V) (stream : S → Meaning) (meaning : K → LinkMeaning) (entry : EntryOf C S K) (old : LinkMeaning) (run : RunOf C)
+    (first response : ResponseOf S) (ended : Ending) (taken : List Piece) → entry ≡ record { link = entry.link; run = Some run; response = Some response; end = ended }
+    → ForSome old.asked (λ asked. Lifecycle may tables asked.head run first) → ForSome old.held (λ held. held ≡ []) → ReadOn stream first response
+    → IsSentAs stream (max tables.config.turns 1) first response ended taken → meaning entry.link ≡ with_taken old taken → Caused may tables stream meaning entry
+caused_sent may tables stream meaning entry old run first response Starved taken is lifecycle fresh on sent linked = absurd sent
+caused_sent may tables stream meaning entry old run first response Answered taken is lifecycle fresh on sent linked =
+    subst (CausedAs may tables stream meaning entry) (sym (ap (λ (e : EntryOf _ _ _). e.end) is)) (record {
+      run = run;
+      run_kept = ap (λ (e : EntryOf _ _ _). e.run) is;
+      first = first;
+      lifecycle = λ asked told. lifecycle asked (sym (ap (λ (m : LinkMeaning). m.asked) linked) ∙ told);
+      response = response;
+      response_kept = ap (λ (e : EntryOf _ _ _). e.response) is;
+      read_on = on;
+      pieces = taken;
+      sent = sent;
+      held = λ held told. held_only old.held taken held fresh (sym (ap (λ (m : LinkMeaning). m.held) linked) ∙ told);
+    })
+caused_sent may tables stream meaning entry old run first response (Failed failure) taken is lifecycle fresh on sent linked =
+    subst (CausedAs may tables stream meaning entry) (sym (ap (λ (e : EntryOf _ _ _). e.end) is)) (record {
+      run = run;
+      run_kept = ap (λ (e : EntryOf _ _ _). e.run) is;
+      first = first;
+      lifecycle = λ asked told. lifecycle asked (sym (ap (λ (m : LinkMeaning). m.asked) linked) ∙ told);
+      response = response;
+      response_kept = ap (λ (e : EntryOf _ _ _). e.response) is;
+      read_on = on;
+      pieces = taken;
+      sent = sent;
+      held = λ held told. held_only old.held taken held fresh (sym (ap (λ (m : LinkMeaning). m.held) linked) ∙ told);
+    })
+
+-- how a sending ended, said of equal values
+pub ended_as : {S E : Type 0} (stream : S → Meaning) (answer : Result Ending E) (turns n : ℕ) (begun first last left : ResponseOf S) (old new : LinkMeaning) → turns ≡ n → begun ≡ first → last ≡ left
+    → IfOk answer (λ ended. (taken : List Piece) × IsSentAs stream turns begun last ended taken × (new ≡ with_taken old taken))
+    → IfOk answer (λ ended. (taken : List Piece) × IsSentAs stream n first left ended taken × (new ≡ with_taken old taken))
+ended_as stream (Err e) turns n begun first last left old new same_turns same_first same_left ended = tt
+ended_as stream (Ok e) turns n begun first last left old new same_turns same_first same_left ended = (
+  ended.0,
+  subst (λ (p : ResponseOf _). IsSentAs stream n first p e ended.0) same_left
+      (subst (λ (p : ResponseOf _). IsSentAs stream n p last e ended.0) same_first (subst (λ (k : ℕ). IsSentAs stream k begun last e ended.0) same_turns ended.1)),
+  ended.2,
 )
-
--- nothing is left, and the size was told
-pub told_already : (lines : List Line) (told : Bool) (size : List ℕ) (all : List Line) → told ≡ true → lines ++ rest_of told size [] ≡ all → lines ≡ all
-told_already lines true size all told before = sym (append-nil lines) ∙ before
-told_already lines false size all told before = absurd (cc told)
-
--- nothing is left, and the size is told last
-pub told_last : (lines : List Line) (told : Bool) (size : List ℕ) (all : List Line) → told ≡ false → lines ++ rest_of told size [] ≡ all → lines ++ (codes "Content-Length", size) ∷ [] ≡ all
-told_last lines true size all told before = absurd (cc told)
-told_last lines false size all told before = before

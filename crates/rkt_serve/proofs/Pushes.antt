@@ -69,13 +69,13 @@ get_within [] y k lt = absurd (omega (arith, lt))
 get_within (z ∷ zs) y zero lt = refl
 get_within (z ∷ zs) y (suc k) lt = get_within zs y k (omega (arith, lt))
 
-module _ {C K : Type 0} where
-  pub latest_push : (xs : List (EventOf C K)) (e : EventOf C K) → latest (xs ++ e ∷ []) ≡ max (latest xs) (moment_of e)
+module _ {C S K : Type 0} where
+  pub latest_push : (xs : List (EventOf C S K)) (e : EventOf C S K) → latest (xs ++ e ∷ []) ≡ max (latest xs) (moment_of e)
   latest_push [] e = omega arith
   latest_push (x ∷ xs) e = omega (arith, latest_push xs e)
 
   -- an entry of the front
-  pub end_of_front : (k : ℕ) (xs ys : List (EventOf C K)) (e : EntryOf C K) → end_of k xs ≡ Some e → end_of k (xs ++ ys) ≡ Some e
+  pub end_of_front : (k : ℕ) (xs ys : List (EventOf C S K)) (e : EntryOf C S K) → end_of k xs ≡ Some e → end_of k (xs ++ ys) ≡ Some e
   end_of_front k [] ys e found = absurd (cc found)
   end_of_front k (Lift calls ∷ xs) ys e found = end_of_front k xs ys e found
   end_of_front k (Admit n m b ∷ xs) ys e found = end_of_front k xs ys e found
@@ -87,7 +87,7 @@ module _ {C K : Type 0} where
       front_step false f more = more f
 
   -- an entry behind a front without one
-  pub end_of_past : (k : ℕ) (xs ys : List (EventOf C K)) → list_any (ends k) xs ≡ false → end_of k (xs ++ ys) ≡ end_of k ys
+  pub end_of_past : (k : ℕ) (xs ys : List (EventOf C S K)) → list_any (ends k) xs ≡ false → end_of k (xs ++ ys) ≡ end_of k ys
   end_of_past k [] ys none = refl
   end_of_past k (Lift calls ∷ xs) ys none = end_of_past k xs ys none
   end_of_past k (Admit n m b ∷ xs) ys none = end_of_past k xs ys none
@@ -99,7 +99,7 @@ module _ {C K : Type 0} where
       past_step false f more = more f
 
   -- a number with an End has an entry
-  pub has_end : (k : ℕ) (xs : List (EventOf C K)) → list_any (ends k) xs ≡ is_some (end_of k xs)
+  pub has_end : (k : ℕ) (xs : List (EventOf C S K)) → list_any (ends k) xs ≡ is_some (end_of k xs)
   has_end k [] = refl
   has_end k (Lift calls ∷ xs) = has_end k xs
   has_end k (Admit n m b ∷ xs) = has_end k xs
@@ -111,5 +111,5 @@ module _ {C K : Type 0} where
       end_step false same = same
 
   -- the entry of its own number
-  pub end_of_this : (k n : ℕ) (e : EntryOf C K) (m b : ℕ) → k ≡ n → end_of k (End n e m b ∷ []) ≡ Some e
+  pub end_of_this : (k n : ℕ) (e : EntryOf C S K) (m b : ℕ) → k ≡ n → end_of k (End n e m b ∷ []) ≡ Some e
   end_of_this k n e m b same = grind (arith, nat_tests, same)

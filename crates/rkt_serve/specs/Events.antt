@@ -13,58 +13,58 @@ with_first zero entry (None ∷ places) = Some entry ∷ places
 with_first zero entry (Some other ∷ places) = Some other ∷ places
 with_first (suc at) entry (place ∷ places) = place ∷ with_first at entry places
 
-module _ {C K : Type 0} where
-  abbrev pub is_admit : EventOf C K → Bool
+module _ {C S K : Type 0} where
+  abbrev pub is_admit : EventOf C S K → Bool
   is_admit (Admit n m b) = true
   is_admit (Lift calls) = false
   is_admit (End n e m b) = false
   is_admit (Close m) = false
 
-  abbrev pub is_close : EventOf C K → Bool
+  abbrev pub is_close : EventOf C S K → Bool
   is_close (Close m) = true
   is_close (Lift calls) = false
   is_close (Admit n m b) = false
   is_close (End n e m b) = false
 
   -- it admits this number
-  abbrev pub admits : ℕ → EventOf C K → Bool
+  abbrev pub admits : ℕ → EventOf C S K → Bool
   admits number (Admit n m b) = n == number
   admits number (Lift calls) = false
   admits number (End n e m b) = false
   admits number (Close m) = false
 
   -- this worker admits this number
-  abbrev pub admits_by : ℕ → ℕ → EventOf C K → Bool
+  abbrev pub admits_by : ℕ → ℕ → EventOf C S K → Bool
   admits_by number by (Admit n m b) = n == number && b == by
   admits_by number by (Lift calls) = false
   admits_by number by (End n e m b) = false
   admits_by number by (Close m) = false
 
   -- it ends this number
-  abbrev pub ends : ℕ → EventOf C K → Bool
+  abbrev pub ends : ℕ → EventOf C S K → Bool
   ends number (End n e m b) = n == number
   ends number (Lift calls) = false
   ends number (Admit n m b) = false
   ends number (Close m) = false
 
   -- the moment of an event, or 0 where it has none
-  abbrev pub moment_of : EventOf C K → ℕ
+  abbrev pub moment_of : EventOf C S K → ℕ
   moment_of (Lift calls) = 0
   moment_of (Admit n m b) = m
   moment_of (End n e m b) = m
   moment_of (Close m) = m
 
   -- the latest moment
-  abbrev pub latest : List (EventOf C K) → ℕ
+  abbrev pub latest : List (EventOf C S K) → ℕ
   latest [] = 0
   latest (e ∷ es) = max (moment_of e) (latest es)
 
   -- how many were admitted
-  abbrev pub admitted : List (EventOf C K) → ℕ
+  abbrev pub admitted : List (EventOf C S K) → ℕ
   admitted events = count_by is_admit events
 
   -- the entry of the first End of a number
-  abbrev pub end_of : ℕ → List (EventOf C K) → Option (EntryOf C K)
+  abbrev pub end_of : ℕ → List (EventOf C S K) → Option (EntryOf C S K)
   end_of number [] = None
   end_of number (End n e m b ∷ es) = if n == number then Some e else end_of number es
   end_of number (Lift calls ∷ es) = end_of number es
@@ -72,14 +72,14 @@ module _ {C K : Type 0} where
   end_of number (Close m ∷ es) = end_of number es
 
   -- with the entry of an End at the place of its number
-  abbrev pub noted : EventOf C K → List (Option (EntryOf C K)) → List (Option (EntryOf C K))
+  abbrev pub noted : EventOf C S K → List (Option (EntryOf C S K)) → List (Option (EntryOf C S K))
   noted (End number entry m b) places = with_first number entry places
   noted (Lift calls) places = places
   noted (Admit n m b) places = places
   noted (Close m) places = places
 
   -- what each event needs of those before it
-  abbrev pub MayCome : List (EventOf C K) → EventOf C K → Type 0
+  abbrev pub MayCome : List (EventOf C S K) → EventOf C S K → Type 0
   -- it is the first
   MayCome before (Lift calls) = before ≡ []
   -- numbers are given in order
@@ -90,16 +90,16 @@ module _ {C K : Type 0} where
   MayCome before (Close moment) = (0 < length before) × ((k : ℕ) → list_any (admits k) before ≡ list_any (ends k) before) × (latest before ≤ moment)
 
   -- nothing comes after a Close
-  abbrev pub InOrder : List (EventOf C K) → EventOf C K → Type 0
+  abbrev pub InOrder : List (EventOf C S K) → EventOf C S K → Type 0
   InOrder before event = (list_any is_close before ≡ false) × MayCome before event
 
-  abbrev pub Ordered : List (EventOf C K) → Type 0
+  abbrev pub Ordered : List (EventOf C S K) → Type 0
   Ordered events = AfterFrom InOrder [] events
 
   -- the last event is Close
-  abbrev pub IsClosed : List (EventOf C K) → Type 0
-  IsClosed events = (others : List (EventOf C K)) × (moment : ℕ) × (events ≡ others ++ Close moment ∷ [])
+  abbrev pub IsClosed : List (EventOf C S K) → Type 0
+  IsClosed events = (others : List (EventOf C S K)) × (moment : ℕ) × (events ≡ others ++ Close moment ∷ [])
 
   -- each number that was admitted has exactly one End, and no other number has one
-  abbrev pub EachEndsOnce : List (EventOf C K) → Type 0
+  abbrev pub EachEndsOnce : List (EventOf C S K) → Type 0
   EachEndsOnce events = (k : ℕ) → count_by (ends k) events ≡ (if nat_lt k (admitted events) then 1 else 0)

@@ -2,6 +2,7 @@
 use Rattle.std.specs.Prelude.{◌≡◌, ◌<◌, ◌≤◌, ℕ, Bool, false, List, Option, Some, None, length, slice_get}
 use Rattle.std.specs.List.{AllByRecursion, list_any}
 use Rattle.std.specs.Option.{ForSome}
+use Rattle.rkt_data.specs.Source.{Meaning}
 use Rattle.rkt_request.specs.Seen.{Seen}
 use Rattle.rkt_life.specs.Rocket.{SeenTables}
 use Rattle.rkt_life.specs.declared.run.RunOf.{RunOf}
@@ -14,33 +15,33 @@ use Rattle.rkt_serve.specs.declared.history.EntryOf.{EntryOf}
 use Rattle.rkt_serve.specs.declared.history.EventOf.{EventOf}
 use Rattle.rkt_serve.specs.declared.history.EventOf.TheVariants.{Lift, Admit, End, Close}
 
-module _ {C K : Type 0} where
+module _ {C S K : Type 0} where
   -- as many were admitted as were given
-  abbrev pub AllAdmitted : Option (List Asked) → List (EventOf C K) → Type 0
+  abbrev pub AllAdmitted : Option (List Asked) → List (EventOf C S K) → Type 0
   AllAdmitted given events = ForSome given (λ asks. admitted events ≡ length asks)
 
   -- the moments of an event and of its run lie in the window
-  abbrev pub TimedIn : Option (ℕ × ℕ) → EventOf C K → Type 0
+  abbrev pub TimedIn : Option (ℕ × ℕ) → EventOf C S K → Type 0
   TimedIn window (Lift calls) = Unit {0}
   TimedIn window (Admit number moment by) = IsWithin window moment
   TimedIn window (End number entry moment by) = IsWithin window moment × ForSome entry.run (λ run. IsWithin window run.moment)
   TimedIn window (Close moment) = IsWithin window moment
 
-  abbrev pub AllTimed : Option (ℕ × ℕ) → List (EventOf C K) → Type 0
+  abbrev pub AllTimed : Option (ℕ × ℕ) → List (EventOf C S K) → Type 0
   AllTimed window events = AllByRecursion (TimedIn window) events
 
-module _ {C K H V : Type 0} (may : H → Seen V → List ℕ → Type 0) (tables : SeenTables H V) (meaning : K → LinkMeaning) where
+module _ {C S K H V : Type 0} (may : H → Seen V → List ℕ → Type 0) (tables : SeenTables H V) (stream : S → Meaning) (meaning : K → LinkMeaning) where
   -- the number k has an entry with its cause, and its link asks what was given as the k-th
-  pub record HasEntry (given : Option (List Asked)) (events : List (EventOf C K)) (k : ℕ) : Type 0 where
-    pub entry : EntryOf C K
+  pub record HasEntry (given : Option (List Asked)) (events : List (EventOf C S K)) (k : ℕ) : Type 0 where
+    pub entry : EntryOf C S K
     pub found : end_of k events ≡ Some entry
-    pub caused : Caused may tables meaning entry
+    pub caused : Caused may tables stream meaning entry
     pub asks : ForSome given (λ asks. (meaning entry.link).asked ≡ slice_get asks k)
 
   -- exchanges that are over, up to a moment, with what the listener has given
-  pub record Balanced (given : Option (List Asked)) (window : Option (ℕ × ℕ)) (last : ℕ) (events : List (EventOf C K)) : Type 0 where
+  pub record Balanced (given : Option (List Asked)) (window : Option (ℕ × ℕ)) (last : ℕ) (events : List (EventOf C S K)) : Type 0 where
     pub ordered : Ordered events
-    pub caused : AllCaused may tables meaning events
+    pub caused : AllCaused may tables stream meaning events
     pub begun : 0 < length events
     pub unclosed : list_any is_close events ≡ false
     pub latest_by : latest events ≤ last
@@ -51,10 +52,10 @@ module _ {C K H V : Type 0} (may : H → Seen V → List ℕ → Type 0) (tables
     pub timed : AllTimed window events
 
   -- a history that is legal and closed, with what the listener has given
-  pub record IsLegal (given : Option (List Asked)) (window : Option (ℕ × ℕ)) (events : List (EventOf C K)) : Type 0 where
+  pub record IsLegal (given : Option (List Asked)) (window : Option (ℕ × ℕ)) (events : List (EventOf C S K)) : Type 0 where
     pub ordered : Ordered events
     pub closed : IsClosed events
-    pub caused : AllCaused may tables meaning events
+    pub caused : AllCaused may tables stream meaning events
     pub once : EachEndsOnce events
     pub entries : (k : ℕ) → k < admitted events → HasEntry given events k
     pub all_admitted : AllAdmitted given events

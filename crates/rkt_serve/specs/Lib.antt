@@ -8,4 +8,5 @@ pub mod Kept
 pub mod Link
 pub mod Listener
 pub mod Memory
+pub mod Progress
 pub mod Sent

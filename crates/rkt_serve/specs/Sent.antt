@@ -1,51 +1,27 @@
--- The pieces that a response is sent as.
-use Rattle.std.specs.Prelude.{◌≡◌, ◌<◌, ◌≤◌, ◌++◌, ℕ, List, [], ◌∷◌, Bool, length, map, flat_map, filter, not, codes, is_some, if◌then◌else◌}
-use Rattle.std.specs.Fmt.{decimal}
-use Rattle.std.specs.List.{AllByRecursion}
-use Rattle.std.specs.Str.{str_eq_ignore_ascii_case}
-use Rattle.rkt_http.specs.Headers.{Field, Group, group_of, fields_of}
-use Rattle.rkt_life.specs.declared.piece.Piece.{Piece}
-use Rattle.rkt_life.specs.declared.piece.Piece.TheVariants.{Head, Chunk, End}
-use Rattle.rkt_life.specs.declared.response.Response.{Response}
+-- How the sending of a response ended.
+use Rattle.std.specs.Prelude.{◌≡◌, ◌≢◌, ◌⊎◌, ◌++◌, ℕ, false, List, []}
+use Rattle.rkt_data.specs.Source.{Meaning}
+use Rattle.rkt_data.specs.declared.source.SourceError.{SourceError}
+use Rattle.rkt_response.specs.Reading.{StreamErrs}
+use Rattle.rkt_response.specs.Response.{ResponseOf}
+use Rattle.rkt_response.specs.Sending.{MayWait}
+use Rattle.rkt_response.specs.Sent.{Sent, has_head}
+use Rattle.rkt_response.specs.declared.piece.Piece.{Piece}
+use Rattle.rkt_serve.specs.declared.history.End.{End as Ending}
+use Rattle.rkt_serve.specs.declared.history.End.TheVariants.{Answered, Failed, Starved}
+use Rattle.rkt_serve.specs.declared.history.Failure.TheVariants.{BadHead, BodyFault}
 
--- a name and a value
-abbrev pub Line : Type 0
-Line = List ℕ × List ℕ
+-- the pieces are such ones without the last or more of them
+abbrev pub IsProperFront : (List Piece → Type 0) → List Piece → Type 0
+IsProperFront Whole pieces = (rest : List Piece) × (rest ≢ []) × Whole (pieces ++ rest)
 
-abbrev pub line_of : Field → Line
-line_of field = (field.name, field.value)
+-- why the body of a response failed that was `first` and is `last` now: its source refused, or may be Pending so often
+abbrev pub BodyFails : {S : Type 0} → (S → Meaning) → ℕ → ResponseOf S → ResponseOf S → Type 0
+BodyFails stream turns first last = ((e : SourceError) × StreamErrs stream e first.body.content last.body.content) ⊎ MayWait stream turns first.body.content
 
--- the lines of a header map: group by group, and in each value by value
-abbrev pub lines_of : List Group → List Line
-lines_of groups = map line_of (fields_of groups)
-
-abbrev pub is_length : Line → Bool
-is_length line = str_eq_ignore_ascii_case line.0 (codes "Content-Length")
-
--- without Content-Length
-abbrev pub without_length : List Line → List Line
-without_length lines = filter (λ line. not (is_length line)) lines
-
--- with this value as the only one of Content-Length, at the place and in the spelling of the first, or else behind the others
-abbrev pub with_length : List ℕ → List Line → List Line
-with_length size [] = (codes "Content-Length", size) ∷ []
-with_length size (line ∷ lines) = if is_length line then (line.0, size) ∷ without_length lines else line ∷ with_length size lines
-
--- the size of a body is told, but beside a Transfer-Encoding (RFC 9112, section 6.2)
-abbrev pub sent_headers : List Group → ℕ → List Line
-sent_headers groups size =
-    if is_some (group_of groups (codes "Transfer-Encoding")) then without_length (lines_of groups) else with_length (decimal size) (lines_of groups)
-
--- what one chunk may hold
-pub record IsChunk (bytes : List ℕ) : Type 0 where
-  pub some : 0 < length bytes
-  pub small : length bytes ≤ 4096
-
--- the bytes, cut into chunks in some way
-abbrev pub Chunked : List ℕ → List Piece → Type 0
-Chunked bytes pieces = (chunks : List (List ℕ)) × AllByRecursion IsChunk chunks × (flat_map (λ chunk. chunk) chunks ≡ bytes) × (pieces ≡ map Chunk chunks)
-
--- a head, the body in chunks, and the end
-abbrev pub Sent : Response → List Piece → Type 0
-Sent response pieces = (body : List Piece) × Chunked response.body body
-    × (pieces ≡ Head response.status.code (sent_headers response.headers (length response.body)) ∷ body ++ End ∷ [])
+-- a response that was `first` and is `last` now was sent as these pieces, and that ended so
+abbrev pub IsSentAs : {S : Type 0} → (S → Meaning) → ℕ → ResponseOf S → ResponseOf S → Ending → List Piece → Type 0
+IsSentAs stream turns first last Answered pieces = Sent stream first pieces
+IsSentAs stream turns first last (Failed BadHead) pieces = (has_head first ≡ false) × (pieces ≡ [])
+IsSentAs stream turns first last (Failed BodyFault) pieces = BodyFails stream turns first last × IsProperFront (Sent stream first) pieces
+IsSentAs stream turns first last Starved pieces = ⊥

@@ -5,8 +5,9 @@ ghost use Rattle.std.specs.Option.{option_copied};
 ghost use Rattle.rkt_serve.specs.Events.{noted, with_first, is_admit, admitted, admits, ends, end_of, Ordered, IsClosed};
 
 use rkt_base::{NoMemory, Seq};
-use rkt_life::{Response, RunOf};
+use rkt_life::RunOf;
 use rkt_request::Types;
+use rkt_response::Response;
 use std::alloc::Global;
 
 /// How the call of a liftoff callback ended.
@@ -17,30 +18,41 @@ pub enum Called {
     Starved,
 }
 
+/// Why a response could not be sent.
+#[derive(Clone, Copy, Debug, PartialEq, Eq)]
+pub enum Failure {
+    /// No head can be formed, and nothing was sent.
+    BadHead,
+    /// The source of the body refused, or was Pending too often in a row.
+    BodyFault,
+}
+
 /// How an exchange ended.
 #[derive(Clone, Copy, Debug, PartialEq, Eq)]
 pub enum End {
     /// The link took the whole response.
     Answered,
+    /// The response could not be sent, or not to its end.
+    Failed(Failure),
     /// There was no memory for it.
     Starved,
 }
 
 /// What is kept of one exchange.
 #[derive(Drop)]
-pub struct EntryOf<C, K> {
+pub struct EntryOf<C, S, K> {
     pub link: K,
     pub run: Option<RunOf<C>>,
-    pub response: Option<Response>,
+    pub response: Option<Response<S>>,
     pub end: End,
 }
 
 /// What is kept of one exchange of an application.
-pub type Entry<A, K> = EntryOf<<A as Types>::Cached, K>;
+pub type Entry<A, K> = EntryOf<<A as Types>::Cached, <A as Types>::Stream, K>;
 
 /// One event of a launch. `by` is the number of the worker that entered it.
 #[derive(Drop)]
-pub enum EventOf<C, K> {
+pub enum EventOf<C, S, K> {
     /// The liftoff callbacks were called.
     Lift {
         calls: Seq<Called>,
@@ -54,7 +66,7 @@ pub enum EventOf<C, K> {
     /// The exchange with that link is over.
     End {
         number: u64,
-        entry: EntryOf<C, K>,
+        entry: EntryOf<C, S, K>,
         moment: u64,
         by: u64,
     },
@@ -65,58 +77,67 @@ pub enum EventOf<C, K> {
 }
 
 /// One event of a launch of an application.
-pub type Event<A, K> = EventOf<<A as Types>::Cached, K>;
+pub type Event<A, K> = EventOf<<A as Types>::Cached, <A as Types>::Stream, K>;
 
 /// The events of a launch, in order.
 #[derive(Drop)]
-pub struct HistoryOf<C, K> {
-    pub events: Seq<EventOf<C, K>>,
+pub struct HistoryOf<C, S, K> {
+    pub events: Seq<EventOf<C, S, K>>,
 }
 
 /// The events of a launch of an application, in order.
-pub type History<A, K> = HistoryOf<<A as Types>::Cached, K>;
+pub type History<A, K> = HistoryOf<<A as Types>::Cached, <A as Types>::Stream, K>;
 
-fn is_admit<C, K>(event: &EventOf<C, K>) -> bool
+fn is_admit<C, S, K>(event: &EventOf<C, S, K>) -> bool
     ensures { result ≡ is_admit event.now }
 {
     matches!(event, EventOf::Admit { .. })
 }
 
-impl<C, K> HistoryOf<C, K> {
+fn count_admits<C, S, K>(events: &[EventOf<C, S, K>]) -> u64
+    ensures { result ≡ admitted events.now }
+{
+    events.iter().filter(|event| is_admit(event)).count() as u64
+}
+
+// The entry of the first End of a number.
+fn find_entry<C, S, K>(events: &Seq<EventOf<C, S, K>>, number: u64) -> Option<&EntryOf<C, S, K>>
+    ensures { option_copied result ≡ end_of number events.now }
+{
+    for event in events.as_slice() {
+        if let EventOf::End {
+            number: other,
+            entry,
+            ..
+        } = event
+            && *other == number
+        {
+            return Some(entry);
+        }
+    }
+    None
+}
+
+impl<C, S, K> HistoryOf<C, S, K> {
     /// How many requests were admitted.
     pub fn admitted(&self) -> u64
         ensures count { result ≡ admitted self.now.events }
         ensures numbers { Ordered self.now.events → (k : ℕ) → count_by (admits k) self.now.events ≡ (if nat_lt k result then 1 else 0) }
     {
-        self.events
-            .as_slice()
-            .iter()
-            .filter(|event| is_admit(event))
-            .count() as u64
+        count_admits(self.events.as_slice())
     }
 
     /// The entry of a number.
-    pub fn entry(&self, number: u64) -> Option<&EntryOf<C, K>>
+    pub fn entry(&self, number: u64) -> Option<&EntryOf<C, S, K>>
         ensures found { option_copied result ≡ end_of number self.now.events }
         ensures once { Ordered self.now.events → count_by (ends number) self.now.events ≤ 1 }
         ensures closed { Ordered self.now.events → IsClosed self.now.events → IsSome result ↔ (number < admitted self.now.events) }
     {
-        for event in self.events.as_slice() {
-            if let EventOf::End {
-                number: other,
-                entry,
-                ..
-            } = event
-                && *other == number
-            {
-                return Some(entry);
-            }
-        }
-        None
+        find_entry(&self.events, number)
     }
 
     /// The entries of the numbers that were admitted, by number, in one walk over the events.
-    pub fn entries(&self, alloc: Global) -> Result<Vec<Option<&EntryOf<C, K>>>, NoMemory>
+    pub fn entries(&self, alloc: Global) -> Result<Vec<Option<&EntryOf<C, S, K>>>, NoMemory>
         ensures count { IfOk result (λ entries. length entries.items ≡ admitted self.now.events) }
         ensures each { IfOk result (λ entries. (k : ℕ) → k < admitted self.now.events → slice_get (map (λ entry. option_copied entry) entries.items) k ≡ Some (end_of k self.now.events)) }
     {
@@ -129,10 +150,10 @@ impl<C, K> HistoryOf<C, K> {
 }
 
 // As many places, with nothing in them.
-fn none_of<'a, C, K>(
+fn none_of<'a, C, S, K>(
     alloc: Global,
     count: usize,
-) -> Result<Vec<Option<&'a EntryOf<C, K>>>, NoMemory>
+) -> Result<Vec<Option<&'a EntryOf<C, S, K>>>, NoMemory>
     ensures { IfOk result (λ entries. map (λ entry. option_copied entry) entries.items ≡ replicate count None) }
 {
     let mut entries = Vec::new(alloc);
@@ -143,7 +164,7 @@ fn none_of<'a, C, K>(
 }
 
 // Notes the entry of an End at the place of its number.
-fn note<'a, C, K>(entries: &mut Vec<Option<&'a EntryOf<C, K>>>, event: &'a EventOf<C, K>)
+fn note<'a, C, S, K>(entries: &mut Vec<Option<&'a EntryOf<C, S, K>>>, event: &'a EventOf<C, S, K>)
     ensures { map (λ entry. option_copied entry) entries.new.items ≡ noted event.now (map (λ entry. option_copied entry) entries.old.items) }
 {
     if let EventOf::End { number, entry, .. } = event {
@@ -152,10 +173,10 @@ fn note<'a, C, K>(entries: &mut Vec<Option<&'a EntryOf<C, K>>>, event: &'a Event
 }
 
 // Notes an entry at its place, unless one stands there or there is no such place.
-fn enter_first<'a, C, K>(
-    entries: &mut Vec<Option<&'a EntryOf<C, K>>>,
+fn enter_first<'a, C, S, K>(
+    entries: &mut Vec<Option<&'a EntryOf<C, S, K>>>,
     at: usize,
-    entry: &'a EntryOf<C, K>,
+    entry: &'a EntryOf<C, S, K>,
 )
     ensures { map (λ entry. option_copied entry) entries.new.items ≡ with_first at entry.now (map (λ entry. option_copied entry) entries.old.items) }
 {

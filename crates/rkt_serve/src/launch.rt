@@ -40,7 +40,7 @@ pub trait Launch<A: App>: Sized {
         ensures handle { IfOk result (λ l. hands_back self l.rocket.handle) }
         // Legal: the events are in order, and each has its cause.
         ensures ordered { IfOk result (λ l. Ordered l.history.events) }
-        ensures caused { IfOk result (λ l. AllCaused A.Handler.may l.rocket.tables L.Link.meaning l.history.events) }
+        ensures caused { IfOk result (λ l. AllCaused A.Handler.may l.rocket.tables A.Stream.meaning L.Link.meaning l.history.events) }
         ensures closed { IfOk result (λ l. IsClosed l.history.events) }
         ensures ended { IfOk result (λ l. (L.meaning l.listener).ended ≡ true) }
         ensures sound { IfOk result (λ l. (L.meaning l.listener).faults ≡ 0) }
@@ -48,13 +48,13 @@ pub trait Launch<A: App>: Sized {
         ensures offers { IfOk result (λ l. ForSome (L.meaning listener).offers (λ all. (L.meaning l.listener).given ≡ Some all)) }
         ensures ends { IfOk result (λ l. EachEndsOnce l.history.events) }
         ensures entries { IfOk result (λ l. (k : ℕ) → k < admitted l.history.events
-            → HasEntry A.Handler.may l.rocket.tables L.Link.meaning (L.meaning l.listener).given l.history.events k) }
+            → HasEntry A.Handler.may l.rocket.tables A.Stream.meaning L.Link.meaning (L.meaning l.listener).given l.history.events k) }
         ensures moments { IfOk result (λ l. AllTimed (C.meaning clock).window l.history.events) }
         // What is kept for want of memory is legal and closed too, and only need not have come to the listener's end.
         ensures kept_tables { IfErr result (λ e. IfKept e (λ l. lifts self l.rocket.tables)) }
         ensures kept_handle { IfErr result (λ e. IfKept e (λ l. hands_back self l.rocket.handle)) }
         ensures kept_legal { IfErr result (λ e. IfKept e (λ l.
-            IsLegal A.Handler.may l.rocket.tables L.Link.meaning (L.meaning l.listener).given (C.meaning clock).window l.history.events)) }
+            IsLegal A.Handler.may l.rocket.tables A.Stream.meaning L.Link.meaning (L.meaning l.listener).given (C.meaning clock).window l.history.events)) }
         ensures kept_sound { IfErr result (λ e. IfKept e (λ l. (L.meaning l.listener).faults ≡ 0)) };
 }
 

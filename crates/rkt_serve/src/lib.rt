@@ -16,7 +16,7 @@ mod working;
 
 pub use clock::Clock;
 pub use error::{Error, ErrorKind, ErrorKindOf, Launched, LaunchedOf};
-pub use history::{Called, End, Entry, EntryOf, Event, EventOf, History, HistoryOf};
+pub use history::{Called, End, Entry, EntryOf, Event, EventOf, Failure, History, HistoryOf};
 pub use launch::Launch;
 pub use link::{Link, SendError};
 pub use list_clock::ListClock;

@@ -1,21 +1,20 @@
 //! How a response is sent.
-ghost use Rattle.std.specs.Prelude.{◌≡◌, ◌++◌, ◌∷◌, [], List, ℕ, IfOk, OnOk, length};
-ghost use Rattle.rkt_http.specs.Headers.{Group};
-ghost use Rattle.rkt_life.specs.declared.piece.Piece.{Piece};
+ghost use Rattle.std.specs.Prelude.{◌≡◌, ◌≢◌, ◌∷◌, [], Err, List, IfOk, OnOk, false, max};
+ghost use Rattle.rkt_response.specs.Sending.{ReadOn};
+ghost use Rattle.rkt_response.specs.Sent.{has_head};
+ghost use Rattle.rkt_response.specs.declared.piece.Piece.{Piece};
+ghost use Rattle.rkt_response.specs.declared.piece.PieceError.{PieceError};
+ghost use Rattle.rkt_response.specs.declared.stage.Stage.{Stage};
 ghost use Rattle.rkt_serve.specs.Link.{with_taken};
-ghost use Rattle.rkt_serve.specs.Sent.{Sent, Chunked, sent_headers, is_length};
+ghost use Rattle.rkt_serve.specs.Progress.{Advances};
+ghost use Rattle.rkt_serve.specs.Sent.{BodyFails, IsSentAs};
 
-use crate::{Link, SendError};
-use rkt_base::{Bytes, NoMemory, Poll, Seq, Text};
-use rkt_http::HeaderMap;
-use rkt_life::{Piece, Response};
+use crate::{End, Failure, Link, SendError};
+use rkt_base::{NoMemory, Poll};
+use rkt_data::{Gate, Source};
+use rkt_response::{Piece, PieceError, Pieces, Response};
 use std::alloc::{AllocError, Global};
 use std::sync::Wait;
-
-// The most that one chunk holds.
-const CHUNK: usize = 4096;
-
-const CONTENT_LENGTH: &str = "Content-Length";
 
 // Sends one piece, and waits until it is taken.
 fn put<R: Wait, K: Link>(rt: &R, link: &mut K, piece: &Piece) -> Result<(), NoMemory>
@@ -32,70 +31,75 @@ fn put<R: Wait, K: Link>(rt: &R, link: &mut K, piece: &Piece) -> Result<(), NoMe
     unreachable!()
 }
 
-// The lines of the headers, with the size of the body.
-fn sent_headers(
+// The next piece, polled until it is there.
+fn next_piece<R: Wait, S: Source>(
+    rt: &R,
     alloc: Global,
-    headers: &HeaderMap,
-    size: usize,
-) -> Result<Seq<(Text, Text)>, NoMemory>
-    ensures { IfOk result (λ lines. lines ≡ sent_headers headers.now size) }
+    pieces: &mut Pieces<S>,
+    gate: Gate,
+) -> Result<Piece, PieceError>
+    requires going { pieces.old.stage ≢ Stage.Done }
+    requires read_on { pieces.old.stage ≡ Stage.Body → ReadOn S.meaning pieces.old.begun pieces.old.response }
+    ensures begun { pieces.new.begun ≡ pieces.old.begun }
+    ensures turns { pieces.new.turns ≡ pieces.old.turns }
+    ensures read_on { ReadOn S.meaning pieces.new.begun pieces.new.response }
+    ensures piece { IfOk result (λ piece. Advances S.meaning pieces.old piece pieces.new) }
+    ensures bad_head { result ≡ Err PieceError.BadHead → (pieces.old.stage ≡ Stage.Head) × (has_head pieces.old.response ≡ false) }
+    ensures body_fault { result ≡ Err PieceError.BodyFault → (pieces.old.stage ≡ Stage.Body) × BodyFails S.meaning pieces.old.turns pieces.old.begun pieces.new.response }
 {
-    let size = size.to_string(alloc)?;
-    let mut told = headers.contains("Transfer-Encoding");
-    let mut lines = Seq::new(alloc);
-    for (name, value) in headers.iter() {
-        if !name.eq_ignore_ascii_case(CONTENT_LENGTH) {
-            lines.push((Text::new(alloc, name)?, Text::new(alloc, value)?))?;
-        } else if !told {
-            lines.push((Text::new(alloc, name)?, Text::new(alloc, size.as_str())?))?;
-            told = true;
+    for _ in rt.forever() {
+        match pieces.poll_next(alloc, gate) {
+            Poll::Ready(answer) => return answer,
+            Poll::Pending => {}
         }
     }
-    if !told {
-        lines.push((
-            Text::new(alloc, CONTENT_LENGTH)?,
-            Text::new(alloc, size.as_str())?,
-        ))?;
-    }
-    Ok(lines)
+    unreachable!()
 }
 
-// Sends bytes in chunks.
-fn put_body<R: Wait, K: Link>(
+// Sends all pieces of a response.
+fn put_all<R: Wait, K: Link, S: Source>(
     rt: &R,
     alloc: Global,
     link: &mut K,
-    bytes: &[u8],
-) -> Result<(), NoMemory>
-    ensures ok { OnOk result ((pieces : List Piece) × Chunked bytes.now pieces × (K.meaning link.new ≡ with_taken (K.meaning link.old) pieces)) }
+    pieces: &mut Pieces<S>,
+    gate: Gate,
+) -> Result<End, NoMemory>
+    requires begins { pieces.old.stage ≡ Stage.Head }
+    requires first { pieces.old.response ≡ pieces.old.begun }
+    ensures begun { pieces.new.begun ≡ pieces.old.begun }
+    ensures ended { IfOk result (λ ended. (taken : List Piece) × IsSentAs S.meaning pieces.old.turns pieces.old.begun pieces.new.response ended taken × (K.meaning link.new ≡ with_taken (K.meaning link.old) taken)) }
     ensures asked { (K.meaning link.new).asked ≡ (K.meaning link.old).asked }
 {
-    let mut rest = bytes;
-    while !rest.is_empty() {
-        let (chunk, after) = rest.split_at(rest.len().min(CHUNK));
-        let chunk = Bytes::from_vec(chunk.to_vec(alloc)?);
-        put(rt, link, &Piece::Chunk(chunk))?;
-        rest = after;
+    for _ in rt.forever() {
+        let piece = match next_piece(rt, alloc, pieces, gate) {
+            Ok(piece) => piece,
+            Err(PieceError::BadHead) => return Ok(End::Failed(Failure::BadHead)),
+            Err(PieceError::BodyFault) => return Ok(End::Failed(Failure::BodyFault)),
+            Err(PieceError::NoMemory) => return Err(AllocError),
+        };
+        put(rt, link, &piece)?;
+        if let Piece::End = piece {
+            return Ok(End::Answered);
+        }
     }
-    Ok(())
+    unreachable!()
 }
 
-/// Sends a whole response.
-pub(crate) fn send<R: Wait, K: Link>(
+/// Sends a response, and answers how that ended. The source of its body is polled under this Gate, and fails where it
+/// is Pending `turns` times in a row.
+pub(crate) fn send<R: Wait, K: Link, S: Source>(
     rt: &R,
     alloc: Global,
     link: &mut K,
-    response: &Response,
-) -> Result<(), NoMemory>
-    ensures ok { OnOk result ((pieces : List Piece) × Sent response.now pieces × (K.meaning link.new ≡ with_taken (K.meaning link.old) pieces)) }
+    response: Response<S>,
+    turns: u32,
+    gate: Gate,
+) -> (Response<S>, Result<End, NoMemory>)
+    ensures read_on { ReadOn S.meaning response result.0 }
+    ensures ended { IfOk result.1 (λ ended. (taken : List Piece) × IsSentAs S.meaning (max turns 1) response result.0 ended taken × (K.meaning link.new ≡ with_taken (K.meaning link.old) taken)) }
     ensures asked { (K.meaning link.new).asked ≡ (K.meaning link.old).asked }
 {
-    let head = Piece::Head {
-        status: response.status.code,
-        headers: sent_headers(alloc, &response.headers, response.body.len())?,
-    };
-    put(rt, link, &head)?;
-    put_body(rt, alloc, link, response.body.as_slice())?;
-    put(rt, link, &Piece::End)?;
-    Ok(())
+    let mut pieces = Pieces::new(response, turns);
+    let ended = put_all(rt, alloc, link, &mut pieces, gate);
+    (pieces.into_response(), ended)
 }

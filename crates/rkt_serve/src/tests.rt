@@ -3,17 +3,20 @@ ghost use Rattle.std.specs.Prelude.{◌≡◌, [], IfOk, codes};
 ghost use Rattle.rkt_serve.specs.Listener.{IsFresh};
 ghost use Rattle.rkt_serve.specs.Memory.{listener_meaning};
 
+use crate::send::send;
 use crate::{
-    Accepted, Clock, End, EventOf, History, Launch, ListClock, ListListener, Listener, MemoryLink,
-    SystemClock,
+    Accepted, Clock, End, EventOf, Failure, History, Launch, ListClock, ListListener, Listener,
+    MemoryLink, SystemClock,
 };
 use rkt_base::{NoMemory, Poll, Seq, Text, Want};
-use rkt_data::MemorySource;
+use rkt_data::{Gate, MemorySource};
 use rkt_http::{InvalidUri, Origin};
-use rkt_life::{App, Handler, Ignite, Piece, Rocket};
+use rkt_life::{App, Handler, Ignite, Rocket};
 use rkt_request::{Config, Head, Managed, Request, Types};
+use rkt_response::{Piece, Response};
 use rkt_turn::Reason;
 use std::alloc::Global;
+use std::sync::Wait;
 use std::test::Fail;
 
 /// Answers with `hello`.
@@ -169,5 +172,48 @@ fn a_listed_clock_tells_the_greatest_so_far(rt: HostRuntime) -> Result<(), Fail>
         assert_eq!(rt; clock.now(), moment);
     }
     assert_eq!(rt; ListClock::new(Vec::new(rt.alloc())).now(), 0);
+    Ok(())
+}
+
+const GATE: Gate = Gate {
+    moment: 7,
+    tripped: None,
+    grace: 2,
+    mercy: 3,
+};
+
+/// How the sending of a response ends, and how many pieces the link holds then.
+fn sent<R: Wait>(
+    rt: &R,
+    alloc: Global,
+    response: Response<MemorySource>,
+) -> Result<(End, usize), NoMemory> {
+    let mut link = link(alloc, "GET", "/page")?;
+    let (_response, ended) = send(rt, alloc, &mut link, response, 1, GATE);
+    let end = ended?;
+    Ok((end, link.held().len()))
+}
+
+#[test]
+fn a_response_without_a_head_fails_and_nothing_is_sent(rt: HostRuntime) -> Result<(), Fail> {
+    let mut response = Response::new(rt.alloc());
+    response.set_raw_header("X-Broken", "a\nb")?;
+    let (end, pieces) = sent(&rt, rt.alloc(), response)?;
+    assert_eq!(rt; end, End::Failed(Failure::BadHead));
+    assert_eq!(rt; pieces, 0);
+    Ok(())
+}
+
+#[test]
+fn a_body_whose_second_read_is_refused_fails_behind_its_first_chunk(
+    rt: HostRuntime,
+) -> Result<(), Fail> {
+    let bytes = b"abcdef".to_vec(rt.alloc())?;
+    let fails = [1].to_vec(rt.alloc())?;
+    let mut response = Response::new(rt.alloc());
+    response.set_streamed_body(MemorySource::new(bytes, 4, fails));
+    let (end, pieces) = sent(&rt, rt.alloc(), response)?;
+    assert_eq!(rt; end, End::Failed(Failure::BodyFault));
+    assert_eq!(rt; pieces, 2);
     Ok(())
 }

@@ -1,11 +1,11 @@
 //! The work of a launch: each link that the listener gives is served, one after another.
-ghost use Rattle.std.specs.Prelude.{◌≡◌, ◌≤◌, ◌<◌, ◌+◌, ◌++◌, ◌∷◌, [], List, ℕ, Option, Some, IfOk, OnOk, true, vec_len, vec_capacity};
+ghost use Rattle.std.specs.Prelude.{◌≡◌, ◌≤◌, ◌<◌, ◌+◌, ◌++◌, ◌∷◌, [], List, ℕ, Option, None, Some, IfOk, OnOk, true, vec_len, vec_capacity};
 ghost use Rattle.std.specs.Option.{ForSome};
 ghost use Rattle.rkt_life.specs.Ended.{IfFinished, handle_of};
 ghost use Rattle.rkt_life.specs.HandsBack.{HandsBack};
 ghost use Rattle.rkt_life.specs.Lifecycle.{Lifecycle};
 ghost use Rattle.rkt_serve.specs.Asked.{Asked};
-ghost use Rattle.rkt_serve.specs.Causes.{Answers, Caused};
+ghost use Rattle.rkt_serve.specs.Causes.{Caused};
 ghost use Rattle.rkt_serve.specs.Clock.{IsWithin};
 ghost use Rattle.rkt_serve.specs.Events.{admitted};
 ghost use Rattle.rkt_serve.specs.Headline.{Balanced};
@@ -16,8 +16,9 @@ use crate::send::send;
 use crate::{Accepted, Clock, End, Entry, EntryOf, Event, EventOf, Link, Listener};
 use rkt_base::{NoMemory, Poll};
 use rkt_data::Gate;
-use rkt_life::{App, Ended, EndedOf, Handler, Tables};
+use rkt_life::{App, Ended, EndedOf, Handler, Run, Tables};
 use rkt_request::{Head, Request};
+use rkt_response::Response;
 use rkt_turn::Shutdown;
 use std::alloc::{AllocError, Global};
 use std::sync::Wait;
@@ -43,20 +44,47 @@ pub(crate) struct Worker<'a, A: App, R> {
     pub(crate) tables: &'a Tables<A>,
 }
 
+// What is kept of an exchange for which there was no memory.
+fn starved<C, S, K>(link: K) -> EntryOf<C, S, K>
+    ensures { result ≡ record { link = link; run = None; response = None; end = End.Starved } }
+{
+    EntryOf {
+        link,
+        run: None,
+        response: None,
+        end: End::Starved,
+    }
+}
+
 impl<'a, A: App, R> Worker<'a, A, R> {
-    // The exchange of a head.
-    fn exchange(&self, head: &Head, shutdown: Shutdown<A::Reason>, moment: u64) -> Ended<A>
-        ensures lifecycle { IfFinished result (Lifecycle A.Handler.may self.now.tables.now head.now) }
-        ensures moment { IfFinished result (λ run response. run.moment ≡ moment) }
-        ensures handle { HandsBack shutdown (handle_of result) }
+    // What an exchange is told of the outside. There is no trip yet.
+    fn gate(&self, moment: u64) -> Gate
+        ensures { result.moment ≡ moment }
     {
         let tables = self.tables;
-        let gate = Gate {
+        Gate {
             moment,
             tripped: None,
             grace: tables.config.grace,
             mercy: tables.config.mercy,
-        };
+        }
+    }
+
+    // How often in a row the source of a body may be Pending.
+    fn turns(&self) -> u32
+        ensures { result ≡ self.now.tables.now.config.turns }
+    {
+        let tables = self.tables;
+        tables.config.turns
+    }
+
+    // The exchange of a head.
+    fn exchange(&self, head: &Head, shutdown: Shutdown<A::Reason>, gate: Gate) -> Ended<A>
+        ensures lifecycle { IfFinished result (Lifecycle A.Handler.may self.now.tables.now head.now) }
+        ensures moment { IfFinished result (λ run response. run.moment ≡ gate.moment) }
+        ensures handle { HandsBack shutdown (handle_of result) }
+    {
+        let tables = self.tables;
         match Request::from_incoming(self.alloc, head, &tables.config, &tables.managed) {
             Ok(incoming) => tables.dispatch(self.alloc, incoming, shutdown, gate),
             Err(_) => EndedOf::Starved { shutdown },
@@ -65,67 +93,53 @@ impl<'a, A: App, R> Worker<'a, A, R> {
 }
 
 impl<'a, A: App, R: Wait> Worker<'a, A, R> {
-    // Runs one exchange, and sends its response.
-    fn answer<K: Link>(&self, link: &mut K, shutdown: Shutdown<A::Reason>, moment: u64) -> Ended<A>
-        requires fresh { IsFreshLink (K.meaning link.old) }
-        ensures answers { IfFinished result (Answers A.Handler.may self.now.tables.now (K.meaning link.new)) }
-        ensures moment { IfFinished result (λ run response. run.moment ≡ moment) }
-        ensures handle { HandsBack shutdown (handle_of result) }
-        ensures asked { (K.meaning link.new).asked ≡ (K.meaning link.old).asked }
+    // Sends the response of a run, and keeps both with how that ended.
+    fn answer<K: Link>(
+        &self,
+        mut link: K,
+        run: Run<A>,
+        response: Response<A::Stream>,
+        gate: Gate,
+    ) -> Entry<A, K>
+        requires fresh { IsFreshLink (K.meaning link) }
+        requires lifecycle { ForSome (K.meaning link).asked (λ asked. Lifecycle A.Handler.may self.now.tables.now asked.head run response) }
+        ensures asked { (K.meaning result.link).asked ≡ (K.meaning link).asked }
+        ensures caused { Caused A.Handler.may self.now.tables.now A.Stream.meaning K.meaning result }
+        ensures moment { ForSome result.run (λ kept. kept.moment ≡ run.moment) }
     {
-        match self.exchange(link.head(), shutdown, moment) {
-            EndedOf::Finished {
-                run,
-                response,
-                shutdown,
-            } => match send(self.rt, self.alloc, link, &response) {
-                Ok(()) => EndedOf::Finished {
-                    run,
-                    response,
-                    shutdown,
-                },
-                Err(_) => EndedOf::Starved { shutdown },
+        let (response, sent) = send(self.rt, self.alloc, &mut link, response, self.turns(), gate);
+        match sent {
+            Ok(ended) => EntryOf {
+                link,
+                run: Some(run),
+                response: Some(response),
+                end: ended,
             },
-            EndedOf::Starved { shutdown } => EndedOf::Starved { shutdown },
+            Err(_) => starved(link),
         }
     }
 
     // One exchange, kept with its end, and the handle that it was given.
     fn serve<K: Link>(
         &self,
-        mut link: K,
+        link: K,
         shutdown: Shutdown<A::Reason>,
         moment: u64,
     ) -> (Entry<A, K>, Shutdown<A::Reason>)
         requires fresh { IsFreshLink (K.meaning link) }
         ensures asked { (K.meaning result.0.link).asked ≡ (K.meaning link).asked }
-        ensures caused { Caused A.Handler.may self.now.tables.now K.meaning result.0 }
+        ensures caused { Caused A.Handler.may self.now.tables.now A.Stream.meaning K.meaning result.0 }
         ensures moment { ForSome result.0.run (λ run. run.moment ≡ moment) }
         ensures handle { HandsBack shutdown result.1 }
     {
-        match self.answer(&mut link, shutdown, moment) {
+        let gate = self.gate(moment);
+        match self.exchange(link.head(), shutdown, gate) {
             EndedOf::Finished {
                 run,
                 response,
                 shutdown,
-            } => {
-                let entry = EntryOf {
-                    link,
-                    run: Some(run),
-                    response: Some(response),
-                    end: End::Answered,
-                };
-                (entry, shutdown)
-            }
-            EndedOf::Starved { shutdown } => {
-                let entry = EntryOf {
-                    link,
-                    run: None,
-                    response: None,
-                    end: End::Starved,
-                };
-                (entry, shutdown)
-            }
+            } => (self.answer(link, run, response, gate), shutdown),
+            EndedOf::Starved { shutdown } => (starved(link), shutdown),
         }
     }
 
@@ -142,8 +156,8 @@ impl<'a, A: App, R: Wait> Worker<'a, A, R> {
         requires number { number ≡ admitted events.old.items }
         requires room { vec_len events.old + 2 < vec_capacity events.old }
         ensures balanced { (given new : Option (List Asked)) (window : Option (ℕ × ℕ)) → GivesMore given (K.meaning link).asked new → window ≡ (C.meaning clock.old).window
-            → Balanced A.Handler.may self.now.tables.now K.meaning given window (C.meaning clock.old).last events.old.items
-            → Balanced A.Handler.may self.now.tables.now K.meaning new window (C.meaning clock.new).last events.new.items }
+            → Balanced A.Handler.may self.now.tables.now A.Stream.meaning K.meaning given window (C.meaning clock.old).last events.old.items
+            → Balanced A.Handler.may self.now.tables.now A.Stream.meaning K.meaning new window (C.meaning clock.new).last events.new.items }
         ensures handle { HandsBack shutdown result }
         ensures window { (C.meaning clock.new).window ≡ (C.meaning clock.old).window }
         ensures count { admitted events.new.items ≡ number + 1 }
@@ -182,9 +196,9 @@ impl<'a, A: App, R: Wait> Worker<'a, A, R> {
         events: &mut Vec<Event<A, L::Link>>,
     ) -> (Shutdown<A::Reason>, Result<(), NoMemory>)
         requires none { admitted events.old.items ≡ 0 }
-        requires balanced { Balanced A.Handler.may self.now.tables.now L.Link.meaning (L.meaning listener.old).given (C.meaning clock.old).window (C.meaning clock.old).last events.old.items }
+        requires balanced { Balanced A.Handler.may self.now.tables.now A.Stream.meaning L.Link.meaning (L.meaning listener.old).given (C.meaning clock.old).window (C.meaning clock.old).last events.old.items }
         requires room { vec_len events.old < vec_capacity events.old }
-        ensures balanced { Balanced A.Handler.may self.now.tables.now L.Link.meaning (L.meaning listener.new).given (C.meaning clock.old).window (C.meaning clock.new).last events.new.items }
+        ensures balanced { Balanced A.Handler.may self.now.tables.now A.Stream.meaning L.Link.meaning (L.meaning listener.new).given (C.meaning clock.old).window (C.meaning clock.new).last events.new.items }
         ensures handle { HandsBack shutdown result.0 }
         ensures ended { OnOk result.1 ((L.meaning listener.new).ended ≡ true) }
         ensures offers { OnOk result.1 (ForSome (L.meaning listener.old).offers (λ all. (L.meaning listener.new).given ≡ Some all)) }

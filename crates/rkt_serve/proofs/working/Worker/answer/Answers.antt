@@ -1,7 +1,12 @@
-use Rattle.rkt_serve.proofs.Pieces.{answers_sent}
+use Rattle.std.proofs.Common.{◌≡◌, ℕ, max, refl, subst}
+use Rattle.rkt_serve.proofs.Pieces.{caused_sent}
+use Rattle.rkt_serve.specs.Sent.{IsSentAs}
 use Rattle.rkt_serve.proofs.working.Worker.answer.Goals as goal
 
-pub returns-in-Ok-clause-answers : goal.returns-in-Ok-clause-answers
-returns-in-Ok-clause-answers g c =
-    answers_sent g.A.Handler.Handler.may c.args.self.now.tables.now (g.K.Link.meaning c.args.link.now) _ c.head.result.now c.in-Finished.run' c.in-Finished.response c.in-Ok.ensures.ok.0
-    c.head.ensures c.requires.fresh.none_held c.in-Finished.ensures.lifecycle c.in-Ok.ensures.ok.1 c.in-Ok.ensures.ok.2
+pub returns-in-Ok-clause-caused : goal.returns-in-Ok-clause-caused
+returns-in-Ok-clause-caused g c =
+    let stream = g.A.Stream.Source.meaning in
+    let ended = rw c.in-Ok.is at c.send-response.ensures.ended in
+    caused_sent g.A.Handler.Handler.may c.args.self.now.tables.now stream g.K.Link.meaning _ (g.K.Link.meaning c.args.link) c.args.run c.args.response c.send-response.result.0 c.in-Ok.ended ended.0
+    refl c.requires.lifecycle c.requires.fresh.none_held c.send-response.ensures.read_on
+    (subst (λ (n : ℕ). IsSentAs stream (max n 1) c.args.response c.send-response.result.0 c.in-Ok.ended ended.0) c.turns.ensures ended.1) ended.2

@@ -1,6 +1,6 @@
 use Rattle.std.proofs.Common.{◌≡◌, drop}
 use Rattle.rkt_serve.specs.Events.{end_of}
-use Rattle.rkt_serve.proofs.history.HistoryOf.entry.Given as goal
+use Rattle.rkt_serve.proofs.history.find_entry.Given as goal
 
 -- none of the events so far ends the number
 abbrev pub invariant-loop-event : goal.invariant-loop-event

@@ -1,0 +1,7 @@
+use Rattle.rkt_serve.proofs.Sendings.{Waited}
+use Rattle.rkt_serve.proofs.send.next_piece.Given as goal
+
+-- it was only Pending
+abbrev pub invariant-loop : goal.invariant-loop
+invariant-loop g l = (goal.iterator-loop g).can_next l.iterator' × (goal.iterator-loop g).is_finite l.iterator'
+    × Waited g.S.Source.meaning l.initial.pieces l.pieces
