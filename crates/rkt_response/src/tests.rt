@@ -1,4 +1,4 @@
-use crate::{Body, Response};
+use crate::{Body, Builder, Response};
 use rkt_base::Poll;
 use rkt_data::{DataError, Gate, MemorySource};
 use rkt_http::{ContentType, Header, Known, Status};
@@ -167,28 +167,39 @@ fn shown(alloc: Global, response: &Response<MemorySource>) -> Result<String, Fai
     Ok(text)
 }
 
-#[test]
-fn headers_keep_their_places(rt: HostRuntime) -> Result<(), Fail> {
-    let mut response = Response::<MemorySource>::new(rt.alloc());
+type Answer = Response<MemorySource>;
+
+fn keeps_its_places(rt: &impl Abort, alloc: Global, response: &mut Answer) -> Result<(), Fail> {
     assert!(rt; !response.set_raw_header("A", "1")?);
     response.adjoin_raw_header("B", "2")?;
-    response.adjoin_header(Header::new(rt.alloc(), "a", "3")?)?;
-    assert_eq!(rt; shown(rt.alloc(), &response)?.as_str(), "A=1;A=3;B=2;");
-    assert!(rt; response.set_header(Header::new(rt.alloc(), "a", "4")?)?);
-    assert_eq!(rt; shown(rt.alloc(), &response)?.as_str(), "A=4;B=2;");
+    response.adjoin_header(Header::new(alloc, "a", "3")?)?;
+    assert_eq!(rt; shown(alloc, response)?.as_str(), "A=1;A=3;B=2;");
+    assert!(rt; response.set_header(Header::new(alloc, "a", "4")?)?);
+    assert_eq!(rt; shown(alloc, response)?.as_str(), "A=4;B=2;");
     response.remove_header("A");
-    assert_eq!(rt; shown(rt.alloc(), &response)?.as_str(), "B=2;");
+    assert_eq!(rt; shown(alloc, response)?.as_str(), "B=2;");
     Ok(())
 }
 
 #[test]
-fn headers_are_read_afresh(rt: HostRuntime) -> Result<(), Fail> {
-    let mut response = Response::<MemorySource>::new(rt.alloc());
+fn headers_keep_their_places(rt: HostRuntime) -> Result<(), Fail> {
+    let mut response = Answer::new(rt.alloc());
+    keeps_its_places(&rt, rt.alloc(), &mut response)
+}
+
+fn reads_its_type_afresh(
+    rt: &impl Abort,
+    alloc: Global,
+    response: &mut Answer,
+) -> Result<(), Fail> {
     assert!(rt; response.content_type()?.is_none());
-    let json = ContentType::known(rt.alloc(), Known::JSON)?;
-    response.set_header(json.header(rt.alloc())?)?;
-    let found = response.content_type()?;
-    assert!(rt; found.is_some());
+    let json = ContentType::known(alloc, Known::JSON)?;
+    response.set_header(json.header(alloc)?)?;
+    assert!(rt; response.content_type()?.is_some());
+    Ok(())
+}
+
+fn reads_its_cookies_afresh(rt: &impl Abort, response: &mut Answer) -> Result<(), Fail> {
     response.adjoin_raw_header("Set-Cookie", "a=1")?;
     response.adjoin_raw_header("Set-Cookie", "none")?;
     response.adjoin_raw_header("Set-Cookie", "b=2; Path=/")?;
@@ -200,16 +211,35 @@ fn headers_are_read_afresh(rt: HostRuntime) -> Result<(), Fail> {
 }
 
 #[test]
-fn a_merge_takes_what_is_set(rt: HostRuntime) -> Result<(), Fail> {
-    let mut response = Response::<MemorySource>::new(rt.alloc());
-    response.set_status(Status::NotFound);
+fn headers_are_read_afresh(rt: HostRuntime) -> Result<(), Fail> {
+    let mut response = Answer::new(rt.alloc());
+    reads_its_type_afresh(&rt, rt.alloc(), &mut response)?;
+    reads_its_cookies_afresh(&rt, &mut response)
+}
+
+/// Sets the headers A and B, and a body.
+fn set_two(alloc: Global, response: &mut Answer) -> Result<(), Fail> {
     response.set_raw_header("A", "1")?;
     response.set_raw_header("B", "2")?;
-    response.set_sized_body(None, b"hello".to_vec(rt.alloc())?);
-    let mut other = Response::new(rt.alloc());
-    other.adjoin_raw_header("b", "3")?;
-    other.adjoin_raw_header("b", "4")?;
-    other.adjoin_raw_header("C", "5")?;
+    response.set_sized_body(None, b"hello".to_vec(alloc)?);
+    Ok(())
+}
+
+/// Adjoins two headers B and a header C.
+fn adjoin_three(response: &mut Answer) -> Result<(), Fail> {
+    response.adjoin_raw_header("b", "3")?;
+    response.adjoin_raw_header("b", "4")?;
+    response.adjoin_raw_header("C", "5")?;
+    Ok(())
+}
+
+#[test]
+fn a_merge_takes_what_is_set(rt: HostRuntime) -> Result<(), Fail> {
+    let mut response = Answer::new(rt.alloc());
+    response.set_status(Status::NotFound);
+    set_two(rt.alloc(), &mut response)?;
+    let mut other = Answer::new(rt.alloc());
+    adjoin_three(&mut other)?;
     response.merge(other)?;
     assert_eq!(rt; response.status().code, 404);
     assert_eq!(rt; shown(rt.alloc(), &response)?.as_str(), "A=1;B=3;B=4;C=5;");
@@ -217,16 +247,22 @@ fn a_merge_takes_what_is_set(rt: HostRuntime) -> Result<(), Fail> {
     Ok(())
 }
 
+/// Sets the header A, and a body with its size.
+fn set_one(alloc: Global, response: &mut Answer) -> Result<(), Fail> {
+    response.set_raw_header("a", "2")?;
+    response.set_sized_body(Some(5), b"hello".to_vec(alloc)?);
+    Ok(())
+}
+
 #[test]
 fn a_join_keeps_what_is_set(rt: HostRuntime) -> Result<(), Fail> {
-    let mut response = Response::<MemorySource>::new(rt.alloc());
+    let mut response = Answer::new(rt.alloc());
     assert_eq!(rt; response.status().code, 200);
     response.set_status(Status::Ok);
     response.set_raw_header("A", "1")?;
-    let mut other = Response::new(rt.alloc());
+    let mut other = Answer::new(rt.alloc());
     other.set_status(Status::NotFound);
-    other.set_raw_header("a", "2")?;
-    other.set_sized_body(Some(5), b"hello".to_vec(rt.alloc())?);
+    set_one(rt.alloc(), &mut other)?;
     response.join(other)?;
     assert_eq!(rt; response.status().code, 200);
     assert_eq!(rt; shown(rt.alloc(), &response)?.as_str(), "A=1;A=2;");
@@ -234,31 +270,52 @@ fn a_join_keeps_what_is_set(rt: HostRuntime) -> Result<(), Fail> {
     Ok(())
 }
 
-#[test]
-fn a_builder_builds_once(rt: HostRuntime) -> Result<(), Fail> {
-    let mut builder = Response::<MemorySource>::build(rt.alloc());
-    builder.header(Header::new(rt.alloc(), "A", "1")?)?;
-    builder.header_adjoin(Header::new(rt.alloc(), "A", "2")?)?;
+fn build(alloc: Global, builder: &mut Builder<MemorySource>) -> Result<(), Fail> {
+    builder.header(Header::new(alloc, "A", "1")?)?;
+    builder.header_adjoin(Header::new(alloc, "A", "2")?)?;
     builder.raw_header("B", "3")?;
     builder.raw_header_adjoin("B", "4")?;
     builder
         .status(Status::Created)
-        .sized_body(None, b"hello".to_vec(rt.alloc())?)
+        .sized_body(None, b"hello".to_vec(alloc)?)
         .max_chunk_size(7);
-    let mut other = Response::new(rt.alloc());
+    Ok(())
+}
+
+fn merge_and_join(alloc: Global, builder: &mut Builder<MemorySource>) -> Result<(), Fail> {
+    let mut other = Answer::new(alloc);
     other.set_status(Status::Ok);
     builder.merge(other)?;
-    builder.join(Response::new(rt.alloc()))?;
-    let response = builder.finalize();
+    builder.join(Answer::new(alloc))?;
+    Ok(())
+}
+
+fn is_built(rt: &impl Abort, alloc: Global, response: &Answer) -> Result<(), Fail> {
     assert_eq!(rt; response.status().code, 200);
-    assert_eq!(rt; shown(rt.alloc(), &response)?.as_str(), "A=1;A=2;B=3;B=4;");
+    assert_eq!(rt; shown(alloc, response)?.as_str(), "A=1;A=2;B=3;B=4;");
     assert_eq!(rt; response.body().max_chunk_size(), 7);
-    let mut again = Response::build_from(response);
-    again.streamed_body(source(rt.alloc(), b"hello")?);
-    let again: Result<Response<MemorySource>, Fail> = again.ok();
-    assert_eq!(rt; again?.body().max_chunk_size(), 4096);
+    Ok(())
+}
+
+#[test]
+fn a_builder_builds_once(rt: HostRuntime) -> Result<(), Fail> {
+    let mut builder = Answer::build(rt.alloc());
+    build(rt.alloc(), &mut builder)?;
+    merge_and_join(rt.alloc(), &mut builder)?;
+    is_built(&rt, rt.alloc(), &builder.finalize())?;
     let empty = builder.finalize();
     assert_eq!(rt; empty.status().code, 200);
     assert!(rt; empty.headers().is_empty() && empty.body().is_none());
+    Ok(())
+}
+
+#[test]
+fn a_response_is_built_upon(rt: HostRuntime) -> Result<(), Fail> {
+    let mut response = Answer::new(rt.alloc());
+    response.set_max_chunk_size(7);
+    let mut again = Answer::build_from(response);
+    again.streamed_body(source(rt.alloc(), b"hello")?);
+    let again: Result<Answer, Fail> = again.ok();
+    assert_eq!(rt; again?.body().max_chunk_size(), 4096);
     Ok(())
 }
