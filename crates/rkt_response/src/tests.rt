@@ -6,6 +6,8 @@ use std::alloc::Global;
 use std::process::Abort;
 use std::test::Fail;
 
+mod responders;
+
 const GATE: Gate = Gate {
     moment: 0,
     tripped: None,

@@ -12,7 +12,7 @@ use rkt_http::Status;
 use rkt_request::{Ctx, Request, Types};
 use std::alloc::Global;
 
-/// The status 201, and where that is which was created.
+/// The status 201, and the place of what was created.
 #[derive(Debug, Drop, PartialEq)]
 pub struct Created<R> {
     location: Text,
