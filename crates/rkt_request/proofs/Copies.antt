@@ -1,5 +1,5 @@
 -- Lists whose items are read one after another.
-use Rattle.std.proofs.Common.{zero, suc, ◌≡◌, ◌+◌, ◌≤◌, ◌++◌, List, [], ◌∷◌, ℕ, Some, None, length, take, slice_get, refl, ap, ◌∙◌, add-one, arith}
+use Rattle.std.proofs.Common.{zero, suc, ◌≡◌, ◌+◌, ◌≤◌, ◌++◌, List, [], ◌∷◌, ℕ, Some, None, length, take, slice_get, ap, ◌∙◌, add-one, arith}
 use Rattle.std.proofs.Math.Seq.{take-suc}
 use Rattle.std.proofs.lemmas.Option.{slice_get_within, get_or_from_slice_get}
 

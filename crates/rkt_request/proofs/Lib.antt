@@ -9,3 +9,4 @@ pub mod Copies
 pub mod FirstValues
 pub mod HeaderReads
 pub mod Readings
+pub mod LimitTexts

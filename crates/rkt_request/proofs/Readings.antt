@@ -1,8 +1,8 @@
 -- Polls of a state that gathers a body, and what they make of a guard's reading.
-use Rattle.std.proofs.Common.{◌≡◌, ◌≢◌, ℕ, ◌+◌, ◌-◌, ◌<◌, ◌≤◌, ◌++◌, List, [], ◌∷◌, Option, Some, None, Result, Ok, Err, false, refl, sym, ◌∙◌, arith}
+use Rattle.std.proofs.Common.{◌≡◌, ◌≢◌, ℕ, ◌+◌, ◌-◌, ◌<◌, ◌≤◌, ◌++◌, List, [], ◌∷◌, Option, Some, None, Result, Ok, Err, false, refl, ◌∙◌, arith}
 use Rattle.std.specs.Result.{MatchResult}
 use Rattle.rkt_base.specs.declared.poll.Poll.{Poll}
-use Rattle.rkt_base.specs.declared.poll.Poll.TheVariants.{Ready, Pending}
+use Rattle.rkt_base.specs.declared.poll.Poll.TheVariants.{Ready}
 use Rattle.rkt_data.specs.Body.{Body}
 use Rattle.rkt_data.specs.Gathering.{Gathering}
 use Rattle.rkt_data.specs.Source.{Meaning}
@@ -12,7 +12,7 @@ use Rattle.rkt_data.specs.declared.error.DataError.{DataError}
 use Rattle.rkt_data.specs.declared.error.DataError.TheVariants.{NoMemory}
 use Rattle.rkt_data.specs.declared.source.Gate.{Gate}
 use Rattle.rkt_request.specs.Guarding.{AnswersData, Guarded}
-use Rattle.rkt_request.specs.Guards.{Leads, IsReading, Ends, IsLimit, capped_guard, or_bad_request, pended, pendings}
+use Rattle.rkt_request.specs.Guards.{Leads, IsReading, capped_guard, or_bad_request, pended, pendings}
 use Rattle.rkt_request.specs.Seen.{Seen}
 use Rattle.rkt_request.specs.declared.from_data.GuardError.{GuardError}
 

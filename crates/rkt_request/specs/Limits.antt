@@ -1,5 +1,7 @@
 -- Limits, each kept under a name in lower case, in the order of these names.
 use Rattle.std.specs.Prelude.{◌≡◌, ◌≤◌, ◌⊎◌, ℕ, List, [], ◌∷◌, ◌++◌, Option, Some, None, All, length, codes}
+use Rattle.std.specs.Fmt.{decimal}
+use Rattle.std.specs.List.{join_by}
 use Rattle.std.specs.Str.{bytes_eq}
 use Rattle.std.specs.Map.{lookup}
 use Rattle.rkt_data.specs.declared.data_stream.ByteUnit.{ByteUnit}
@@ -31,3 +33,11 @@ default_limits =
     ∷ (codes "msgpack", record { 0 = 1048576 })
     ∷ (codes "string", record { 0 = 8192 })
     ∷ []
+
+-- one limit, as it prints: its name, and how many bytes
+abbrev pub limit_text : List ℕ × ByteUnit → List ℕ
+limit_text entry = entry.0 ++ codes " = " ++ decimal entry.1.0
+
+-- all of them, in the order of their names
+abbrev pub limits_text : List (List ℕ × ByteUnit) → List ℕ
+limits_text limits = join_by limit_text (codes ", ") limits

@@ -1,10 +1,11 @@
-ghost use Rattle.std.specs.Prelude.{◌≡◌, ◌≢◌, [], ◌↔◌, IsTrue, IfOk, None, map, string_bytes};
+ghost use Rattle.std.specs.Prelude.{◌≡◌, ◌≢◌, [], ◌↔◌, IsTrue, IfOk, None, Some, map, string_bytes};
 ghost use Rattle.std.specs.Char.{to_ascii_lowercase};
 ghost use Rattle.std.specs.Ordering.{nat_cmp};
 ghost use Rattle.std.specs.Cmp.Lexicographic.{slice_cmp};
 ghost use Rattle.std.specs.BTreeMap.{insert_entry};
 ghost use Rattle.std.specs.List.{join_with_byte};
-ghost use Rattle.rkt_request.specs.Limits.{IsLimitOf, default_limits};
+ghost use Rattle.std.specs.Fmt.{DisplaysOnOk};
+ghost use Rattle.rkt_request.specs.Limits.{IsLimitOf, default_limits, limit_text, limits_text};
 ghost use Rattle.rkt_request.specs.Joined.{bytes_of};
 
 use crate::joined::Joined;
@@ -143,13 +144,25 @@ impl PartialEq for Limits {
     }
 }
 
+/// One limit, as `name = bytes`.
+fn write_limit<W: fmt::Write>(f: &mut fmt::Formatter<W>, name: &str, limit: ByteUnit) -> fmt::Result
+    ensures { DisplaysOnOk W.write_str_gives f.old result (Some (limit_text (name.now, limit))) f.new }
+{
+    write!(f, "{} = {}", name, limit.0)
+}
+
 impl fmt::Display for Limits {
+    ghost output = { λ limits. Some (limits_text limits) };
+
     fn fmt<W: fmt::Write>(&self, f: &mut fmt::Formatter<W>) -> fmt::Result {
-        for (place, (name, limit)) in self.limits.iter().enumerate() {
-            if place != 0 {
-                f.write_str(", ")?;
-            }
-            write!(f, "{} = {}", name.as_str(), limit.0)?;
+        let mut limits = self.limits.iter();
+        let Some((name, limit)) = limits.next() else {
+            return Ok(());
+        };
+        write_limit(f, name.as_str(), *limit)?;
+        for (name, limit) in limits {
+            f.write_str(", ")?;
+            write_limit(f, name.as_str(), *limit)?;
         }
         Ok(())
     }
