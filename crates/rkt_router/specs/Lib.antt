@@ -1,0 +1,6 @@
+pub mod Catchers
+pub mod Collisions
+pub mod RouteUri
+pub mod Router
+pub mod Segment
+pub mod Tries

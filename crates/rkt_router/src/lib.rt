@@ -1,0 +1,16 @@
+//! Ranked routes and catchers, and which of them a request is answered by.
+#![tactic(auto)]
+
+mod catcher;
+mod color;
+mod route;
+mod route_uri;
+mod router;
+mod segment;
+
+pub use catcher::{Catcher, Catching};
+pub use color::Color;
+pub use route::{Route, Sentry};
+pub use route_uri::RouteUri;
+pub use router::Router;
+pub use segment::Segment;
