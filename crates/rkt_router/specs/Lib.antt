@@ -4,3 +4,7 @@ pub mod RouteUri
 pub mod Router
 pub mod Segment
 pub mod Tries
+pub mod Calling
+pub mod CallbackLaws
+pub mod Callbacks
+pub mod Dummies

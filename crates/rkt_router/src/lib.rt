@@ -3,14 +3,22 @@
 
 mod catcher;
 mod color;
+mod dummy;
+mod handler;
+mod outcome;
 mod route;
 mod route_uri;
 mod router;
 mod segment;
+mod step;
 
 pub use catcher::{Catcher, Catching};
 pub use color::Color;
+pub use dummy::Dummy;
+pub use handler::{CatchHandler, Handler};
+pub use outcome::{RouteOutcome, error, forward, from};
 pub use route::{Route, Sentry};
 pub use route_uri::RouteUri;
 pub use router::Router;
 pub use segment::Segment;
+pub use step::Step;
