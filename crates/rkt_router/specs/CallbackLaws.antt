@@ -1,5 +1,5 @@
 -- That callbacks keep their laws.
-use Rattle.std.specs.Prelude.{◌≡◌, ℕ, [], List, ◌≤◌}
+use Rattle.std.specs.Prelude.{◌≡◌, []}
 use Rattle.std.proofs.Common.{sym, ap, ◌∙◌}
 use Rattle.std.proofs.Math.Nat.{le_refl}
 use Rattle.std.proofs.lemmas.List.{append-nil}

@@ -16,9 +16,12 @@ pub use catcher::{Catcher, Catching};
 pub use color::Color;
 pub use dummy::Dummy;
 pub use handler::{CatchHandler, Handler};
-pub use outcome::{RouteOutcome, error, forward, from};
+pub use outcome::{RouteOutcome, error, forward, from, try_from};
 pub use route::{Route, Sentry};
 pub use route_uri::RouteUri;
 pub use router::Router;
 pub use segment::Segment;
 pub use step::Step;
+
+#[cfg(test)]
+mod tests;

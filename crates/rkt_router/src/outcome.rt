@@ -1,8 +1,6 @@
 //! What a handler answers, made of what a responder does.
-ghost use Rattle.std.specs.Prelude.{◌≡◌, IfOk, OnErr, Ok};
-ghost use Rattle.rkt_http.specs.declared.outcome.Outcome.TheVariants.{Error};
-ghost use Rattle.rkt_response.specs.Responder.{Answer};
-ghost use Rattle.rkt_router.specs.Callbacks.{reply_of, MadeBy};
+ghost use Rattle.std.specs.Prelude.{◌≡◌, IfOk, OnErr, Ok, Err};
+ghost use Rattle.rkt_router.specs.Callbacks.{MadeBy};
 
 use rkt_base::{NoMemory, Want};
 use rkt_http::{Outcome, Status};
@@ -27,6 +25,24 @@ pub fn from<T: Types, R: Responder<T>>(
         Ok(response) => Ok(Outcome::Success(response)),
         Err(Want::Refused(status)) => Ok(Outcome::Error(status)),
         Err(Want::NoMemory) => Err(AllocError),
+    }
+}
+
+/// What `from` makes of a responder, and Error of 500 where there is none.
+pub fn try_from<T: Types, R: Responder<T> + Drop, E: Drop>(
+    alloc: Global,
+    request: &Request<'_, T>,
+    ctx: &mut Ctx<T>,
+    value: Result<R, E>,
+) -> Result<RouteOutcome<T>, NoMemory>
+    ensures some { (responder : R) → value ≡ Ok responder
+        → IfOk result (λ reply. MadeBy (λ given. R.may responder request.now ctx.old given ctx.new) reply) }
+    ensures none { (e : E) → value ≡ Err e
+        → (result ≡ Ok (Outcome.Error record { code = 500 })) × (ctx.new ≡ ctx.old) }
+{
+    match value {
+        Ok(responder) => from(alloc, request, ctx, responder),
+        Err(_) => Ok(Outcome::Error(Status::InternalServerError)),
     }
 }
 
