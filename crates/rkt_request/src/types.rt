@@ -24,9 +24,19 @@ pub type Body0<T> = Data<CancellableIo<<T as Types>::Source>>;
 
 /// `Body0` by a name of its own. A trait whose method takes a body says `T::Body`, and its impls say `Body0<T>`.
 pub trait HasBody: Types {
+    ghost use Rattle.std.specs.Prelude.{List, Option, ℕ};
+
     type Body: Drop;
+
+    /// All bytes of a body, where its source tells them.
+    ghost whole: { Self.Body → Option (List ℕ) };
 }
 
 impl<T: Types> HasBody for T {
+    ghost use Rattle.rkt_data.specs.Cancel.{cut_meaning};
+    ghost use Rattle.rkt_data.specs.Tap.{body};
+
     type Body = Body0<T>;
+
+    ghost whole = { λ b. body (λ c. cut_meaning c.stage (T.Source.meaning c.io)) b.held b.tap };
 }

@@ -1,0 +1,10 @@
+pub mod Catchers
+pub mod Collisions
+pub mod RouteUri
+pub mod Router
+pub mod Segment
+pub mod Tries
+pub mod Calling
+pub mod CallbackLaws
+pub mod Callbacks
+pub mod Dummies

@@ -1,0 +1,27 @@
+//! Ranked routes and catchers, and which of them a request is answered by.
+#![tactic(auto)]
+
+mod catcher;
+mod color;
+mod dummy;
+mod handler;
+mod outcome;
+mod route;
+mod route_uri;
+mod router;
+mod segment;
+mod step;
+
+pub use catcher::{Catcher, Catching};
+pub use color::Color;
+pub use dummy::Dummy;
+pub use handler::{CatchHandler, Handler};
+pub use outcome::{RouteOutcome, error, forward, from, try_from};
+pub use route::{Route, Sentry};
+pub use route_uri::RouteUri;
+pub use router::Router;
+pub use segment::Segment;
+pub use step::Step;
+
+#[cfg(test)]
+mod tests;
