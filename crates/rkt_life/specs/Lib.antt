@@ -1,5 +1,4 @@
 pub mod Ended
-pub mod HandsBack
 pub mod Lifecycle
 pub mod Response
 pub mod Rocket

@@ -1,7 +1,7 @@
 //! One exchange with the tables of a rocket.
 ghost use Rattle.std.specs.Prelude.{◌≡◌, ◌<◌, [], IfOk, IfSome, length, slice_get};
 ghost use Rattle.rkt_life.specs.Ended.{IfFinished, handle_of};
-ghost use Rattle.rkt_life.specs.HandsBack.{HandsBack};
+ghost use Rattle.rkt_turn.specs.HandsBack.{HandsBack};
 ghost use Rattle.rkt_life.specs.Lifecycle.{Responds, Served, LifecycleOf};
 ghost use Rattle.rkt_life.specs.Routes.{matches, tries};
 

@@ -1,5 +1,5 @@
 -- What handlers and catchers are handed, what they answer, and the laws that they keep.
-use Rattle.std.specs.Prelude.{◌≡◌, ◌<◌, ◌≤◌, ℕ, List, Option, Ok, Err, ⊤}
+use Rattle.std.specs.Prelude.{◌≡◌, ℕ, List, Option, Ok, Err, ⊤}
 use Rattle.rkt_data.specs.declared.source.Gate.{Gate}
 use Rattle.rkt_http.specs.Grammar.{IsFrontOf}
 use Rattle.rkt_http.specs.declared.outcome.Outcome.{Outcome}
@@ -9,7 +9,7 @@ use Rattle.rkt_request.specs.Lent.{Kept}
 use Rattle.rkt_request.specs.Seen.{Seen}
 use Rattle.rkt_response.specs.Responder.{Answer}
 use Rattle.rkt_response.specs.Response.{ResponseOf}
-use Rattle.rkt_turn.specs.Shutdown.{Handle}
+use Rattle.rkt_turn.specs.HandsBack.{HandsBack}
 use Rattle.rkt_router.specs.Calling.{Calling}
 
 -- what a handler is handed; V is the type of managed values, B that of bodies
@@ -26,12 +26,6 @@ Reply R B = Outcome (ResponseOf R) Status (B × Status)
 pub record Refused (V : Type 0) : Type 0 where
   pub status : Status
   pub request : Seen V
-
--- a handle of the same wire, which has looked no less; a word that was seen stays seen
-pub record HandsBack (old new : Handle) : Type 0 where
-  pub wire : new.wire ≡ old.wire
-  pub looked : old.looked ≤ new.looked
-  pub seen : 0 < old.seen → new.seen ≡ old.seen
 
 -- what a callback may do to what it is lent: originals and floor stay, the log and the cache grow, and the handle stays one
 -- of its wire; C is the type of cached values

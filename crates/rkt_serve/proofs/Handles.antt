@@ -1,7 +1,7 @@
 -- A handle that is lent again and again.
 use Rattle.std.proofs.Common.{◌≡◌, ◌<◌, ◌≤◌, ℕ, max, ◌∙◌, refl, sym, subst, arith}
 use Rattle.rkt_turn.specs.Shutdown.{Handle}
-use Rattle.rkt_life.specs.HandsBack.{HandsBack}
+use Rattle.rkt_turn.specs.HandsBack.{HandsBack}
 
 pub hands_back_same : (h : Handle) → HandsBack h h
 hands_back_same h = record { wire = refl; looked = omega arith; seen = λ some. refl }

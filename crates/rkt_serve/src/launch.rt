@@ -1,7 +1,7 @@
 //! The launch of a rocket.
 ghost use Rattle.std.specs.Prelude.{◌≡◌, ◌<◌, ℕ, Some, true, IfOk, IfErr};
 ghost use Rattle.std.specs.Option.{ForSome};
-ghost use Rattle.rkt_life.specs.HandsBack.{HandsBack};
+ghost use Rattle.rkt_turn.specs.HandsBack.{HandsBack};
 ghost use Rattle.rkt_life.specs.Rocket.{SeenTables};
 ghost use Rattle.rkt_turn.specs.Shutdown.{Handle};
 ghost use Rattle.rkt_serve.specs.Causes.{AllCaused};

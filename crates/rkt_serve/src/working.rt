@@ -2,7 +2,7 @@
 ghost use Rattle.std.specs.Prelude.{◌≡◌, ◌≤◌, ◌<◌, ◌+◌, ◌++◌, ◌∷◌, [], List, ℕ, Option, None, Some, IfOk, OnOk, true, vec_len, vec_capacity};
 ghost use Rattle.std.specs.Option.{ForSome};
 ghost use Rattle.rkt_life.specs.Ended.{IfFinished, handle_of};
-ghost use Rattle.rkt_life.specs.HandsBack.{HandsBack};
+ghost use Rattle.rkt_turn.specs.HandsBack.{HandsBack};
 ghost use Rattle.rkt_life.specs.Lifecycle.{Lifecycle};
 ghost use Rattle.rkt_serve.specs.Asked.{Asked};
 ghost use Rattle.rkt_serve.specs.Causes.{Caused};

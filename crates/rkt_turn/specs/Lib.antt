@@ -5,3 +5,4 @@ pub mod Shutdown
 pub mod Turn
 pub mod TurnRule
 pub mod Wire
+pub mod HandsBack

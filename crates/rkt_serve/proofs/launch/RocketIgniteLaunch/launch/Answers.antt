@@ -1,5 +1,5 @@
 use Rattle.std.proofs.Common.{rules, ◌∙◌, sym, ap, subst}
-use Rattle.rkt_life.specs.HandsBack.{HandsBack}
+use Rattle.rkt_turn.specs.HandsBack.{HandsBack}
 use Rattle.rkt_serve.specs.Clock.{IsWithin}
 use Rattle.rkt_serve.specs.Headline.{IsLegal}
 use Rattle.rkt_serve.proofs.Balance.{balanced_lift, legal_closed}

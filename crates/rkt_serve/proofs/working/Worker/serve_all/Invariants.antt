@@ -1,5 +1,5 @@
 use Rattle.std.proofs.Common.{◌≡◌, ◌≤◌, ◌<◌, vec_len, vec_capacity}
-use Rattle.rkt_life.specs.HandsBack.{HandsBack}
+use Rattle.rkt_turn.specs.HandsBack.{HandsBack}
 use Rattle.rkt_serve.specs.Events.{admitted}
 use Rattle.rkt_serve.specs.Headline.{Balanced}
 use Rattle.rkt_serve.proofs.working.Worker.serve_all.Given as goal
