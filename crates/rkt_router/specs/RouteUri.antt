@@ -1,7 +1,9 @@
 -- The URI of a route.
-use Rattle.std.specs.Prelude.{◌≡◌, ℕ, ◌+◌, ◌*◌, ℤ, pos, ◌-ℤ◌, List, [], ◌∷◌, ◌++◌, not, None, filter, map, unwrap_or}
+use Rattle.std.specs.Prelude.{◌≡◌, ◌⊎◌, ℕ, ◌+◌, ◌*◌, ℤ, pos, ◌-ℤ◌, List, [], ◌∷◌, ◌++◌, not, None, filter, map, unwrap_or}
 use Rattle.std.specs.List.{before_first, after_first}
-use Rattle.rkt_http.specs.Origin.{Target, is_equals, normalized, pieces, raw_segments_of}
+use Rattle.rkt_http.specs.Grammar.{LeavesAt}
+use Rattle.rkt_http.specs.Origin.{Target, IsOrigin, Spells, is_equals, normalized, pieces, raw_segments_of}
+use Rattle.rkt_http.specs.declared.origin_place.Profile.TheVariants.{Request, Route}
 use Rattle.rkt_router.specs.Segment.{segment_of, color_of, weight}
 use Rattle.rkt_router.specs.declared.segment.Segment.{Segment}
 
@@ -22,6 +24,18 @@ mounted_at base uri = record {
   unmounted = normalized uri;
   origin = normalized (record { path = base.path ++ uri.path; query = uri.query });
 }
+
+-- the texts of a base and of what is mounted there spell this
+pub record SpellsMounted (base uri : List ℕ) (mounted : MountedUri) : Type 0 where
+  pub base_target : Target
+  pub uri_target : Target
+  pub base_spelled : Spells Request base base_target
+  pub uri_spelled : Spells Route uri uri_target
+  pub joined : mounted ≡ mounted_at base_target uri_target
+
+-- the text of a base leaves its grammar at this place, or that of what is mounted there does and the base is one
+abbrev pub LeavesMountedAt : List ℕ → List ℕ → ℕ → Type 0
+LeavesMountedAt base uri at = LeavesAt (IsOrigin Request) base at ⊎ (IsOrigin Request base × LeavesAt (IsOrigin Route) uri at)
 
 -- the segments of a path
 abbrev pub path_segments : Target → List Segment
