@@ -1,2 +1,3 @@
 pub mod Mounted
+pub mod NormalForms
 pub mod Strips

@@ -1,13 +1,17 @@
 -- A base and what is mounted there, in one text.
-use Rattle.std.proofs.Common.{◌≡◌, ℕ, ◌==◌, ◌||◌, codes, Bool, true, false, List, [], ◌∷◌, ◌++◌, refl, sym, ◌∙◌, ap, append_assoc}
+use Rattle.std.proofs.Common.{◌≡◌, ℕ, ◌==◌, ◌||◌, codes, Bool, true, false, List, [], ◌∷◌, ◌++◌, refl, sym, subst, inl, inr, Result, Ok, Err, None, ◌∙◌, ap, append_assoc}
 use Rattle.std.proofs.lemmas.Bool.{false≢true}
 use Rattle.std.specs.List.{list_any}
-use Rattle.rkt_http.specs.Grammar.{OnlyOf}
-use Rattle.rkt_http.specs.Origin.{Target, IsTarget, Spells, is_alphanumeric, is_bracket, is_path_byte, query_text, spelling}
+use Rattle.rkt_base.specs.Want.{IfRefused}
+use Rattle.rkt_base.specs.declared.want.Want.{Want}
+use Rattle.rkt_base.specs.declared.want.Want.TheVariants.{Refused, NoMemory}
+use Rattle.rkt_http.specs.Grammar.{LeavesAt, OnlyOf}
+use Rattle.rkt_http.specs.Origin.{Target, IsOrigin, IsTarget, Spells, is_alphanumeric, is_bracket, is_path_byte, query_text, spelling}
 use Rattle.rkt_http.specs.declared.origin_place.Profile.{Profile}
 use Rattle.rkt_http.specs.declared.origin_place.Profile.TheVariants.{Request, Route}
 use Rattle.rkt_http.proofs.OriginLemmas.{target_said}
-use Rattle.rkt_router.specs.RouteUri.{MountedUri, SpellsMounted, mounted_at}
+use Rattle.rkt_router.proofs.NormalForms.{only_append}
+use Rattle.rkt_router.specs.RouteUri.{MountedUri, SpellsMounted, LeavesMountedAt, IsRebased, mounted_at}
 
 -- a test that passes goes on to pass where more passes
 wider : (a b more : Bool) → (a || b || false) ≡ true → (a || b || more) ≡ true
@@ -18,9 +22,9 @@ wider false false more is = absurd (false≢true is)
 route_byte : (b : ℕ) → is_path_byte Request b ≡ true → is_path_byte Route b ≡ true
 route_byte b is = wider (is_alphanumeric b) (list_any (λ c. c == b) (codes "-._~%!$&'()*+,;=:@/")) (is_bracket Route b) is
 
-both_only : (front rest : List ℕ) → OnlyOf (is_path_byte Request) front → OnlyOf (is_path_byte Route) rest → OnlyOf (is_path_byte Route) (front ++ rest)
-both_only [] rest of_front of_rest = of_rest
-both_only (b ∷ front) rest of_front of_rest = (route_byte b of_front.0, both_only front rest of_front.1 of_rest)
+route_bytes : (text : List ℕ) → OnlyOf (is_path_byte Request) text → OnlyOf (is_path_byte Route) text
+route_bytes [] only = tt
+route_bytes (b ∷ bs) only = (route_byte b only.0, route_bytes bs only.1)
 
 -- a base before what is mounted there is the origin of a route
 pub spells_both : (base uri : Target) (text : List ℕ) → IsTarget Request base → IsTarget Route uri → text ≡ base.path ++ spelling uri
@@ -28,7 +32,7 @@ pub spells_both : (base uri : Target) (text : List ℕ) → IsTarget Request bas
 spells_both base uri text base_fits uri_fits is = record {
   fits = record {
     begins = (base_fits.begins.0 ++ uri.path, ap (λ (p : List ℕ). p ++ uri.path) base_fits.begins.1);
-    path = both_only base.path uri.path base_fits.path uri_fits.path;
+    path = only_append (is_path_byte Route) base.path uri.path (route_bytes base.path base_fits.path) uri_fits.path;
     query = uri_fits.query;
   };
   spelled = is ∙ sym (append_assoc base.path uri.path (query_text uri.query));
@@ -45,3 +49,31 @@ mounted_alike base uri m n of_m of_n =
     ∙ ap (λ (b : Target). mounted_at b of_m.uri_target) (spelled_alike Request base of_m.base_target of_n.base_target of_m.base_spelled of_n.base_spelled)
     ∙ ap (mounted_at of_n.base_target) (spelled_alike Route uri of_m.uri_target of_n.uri_target of_m.uri_spelled of_n.uri_spelled)
     ∙ sym of_n.joined
+
+-- what is mounted, with its text in place of it
+pub rebased : (uri : MountedUri) (base text : List ℕ) (m : MountedUri) → IsTarget Route uri.unmounted → text ≡ spelling uri.unmounted
+    → SpellsMounted base text m → IsRebased uri base m
+rebased uri base text m fits is s = record {
+  base = s.base_target;
+  spelled = s.base_spelled;
+  joined = s.joined ∙ ap (mounted_at s.base_target) (spelled_alike Route text s.uri_target uri.unmounted s.uri_spelled (record { fits = fits; spelled = is }));
+}
+
+-- the root is a base
+root_spelled : IsOrigin Request (codes "/")
+root_spelled = (record { path = codes "/"; query = None }, record { fits = record { begins = ([], refl); path = (refl, tt); query = tt }; spelled = refl })
+
+pub leaves_below_root : (uri : List ℕ) (at : ℕ) → LeavesMountedAt (codes "/") uri at → LeavesAt (IsOrigin Route) uri at
+leaves_below_root uri at leaves = elim leaves [ inl of_base ↦ absurd (of_base.outside root_spelled) | inr of_uri ↦ of_uri.1 ]
+
+-- what follows from the reason of a refusal
+pub IfRefused-weaker : {T E : Type 0} (r : Result T (Want E)) (P Q : E → Type 0) → ((e : E) → P e → Q e) → IfRefused r P → IfRefused r Q
+IfRefused-weaker (Ok x) P Q more given = tt
+IfRefused-weaker (Err (Refused e)) P Q more given = more e given
+IfRefused-weaker (Err NoMemory) P Q more given = tt
+
+-- a refusal that is passed on has the same reason
+pub refused_again : {T U E : Type 0} (r : Result T (Want E)) (s : Result U (Want E)) (w : Want E) (P : E → Type 0) → r ≡ Err w → s ≡ Err w → IfRefused r P → IfRefused s P
+refused_again {T} {U} {E} r s (Refused e) P is also given = let Q : Result U (Want E) → Type 0 = λ t. IfRefused t P in
+    subst Q (sym also) (let R : Result T (Want E) → Type 0 = λ t. IfRefused t P in subst R is given)
+refused_again {T} {U} {E} r s NoMemory P is also given = let Q : Result U (Want E) → Type 0 = λ t. IfRefused t P in subst Q (sym also) tt

@@ -1,5 +1,6 @@
 pub mod Catchers
 pub mod Collisions
+pub mod Route
 pub mod RouteUri
 pub mod Router
 pub mod Segment

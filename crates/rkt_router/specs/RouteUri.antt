@@ -2,7 +2,7 @@
 use Rattle.std.specs.Prelude.{◌≡◌, ◌⊎◌, ℕ, ◌+◌, ◌*◌, ℤ, pos, ◌-ℤ◌, List, [], ◌∷◌, ◌++◌, not, None, filter, map, unwrap_or}
 use Rattle.std.specs.List.{before_first, after_first}
 use Rattle.rkt_http.specs.Grammar.{LeavesAt}
-use Rattle.rkt_http.specs.Origin.{Target, IsOrigin, Spells, is_equals, normalized, pieces, raw_segments_of}
+use Rattle.rkt_http.specs.Origin.{Target, IsTarget, IsOrigin, Spells, is_equals, normalized, pieces, raw_segments_of}
 use Rattle.rkt_http.specs.declared.origin_place.Profile.TheVariants.{Request, Route}
 use Rattle.rkt_router.specs.Segment.{segment_of, color_of, weight}
 use Rattle.rkt_router.specs.declared.segment.Segment.{Segment}
@@ -37,6 +37,12 @@ pub record SpellsMounted (base uri : List ℕ) (mounted : MountedUri) : Type 0 w
 abbrev pub LeavesMountedAt : List ℕ → List ℕ → ℕ → Type 0
 LeavesMountedAt base uri at = LeavesAt (IsOrigin Request) base at ⊎ (IsOrigin Request base × LeavesAt (IsOrigin Route) uri at)
 
+-- the same path, mounted at the base that a text spells
+pub record IsRebased (uri : MountedUri) (text : List ℕ) (moved : MountedUri) : Type 0 where
+  pub base : Target
+  pub spelled : Spells Request text base
+  pub joined : moved ≡ mounted_at base uri.unmounted
+
 -- the segments of a path
 abbrev pub path_segments : Target → List Segment
 path_segments origin = map segment_of (raw_segments_of origin)
@@ -62,8 +68,9 @@ query_weight (segment ∷ segments) = weight (color_of (segment ∷ segments))
 abbrev pub default_rank : Target → ℤ
 default_rank origin = pos 3 -ℤ pos (4 * weight (color_of (path_segments origin)) + query_weight (query_segments origin))
 
--- the parts that are kept beside a URI are those of it
-pub record IsRead (origin : Target) (segments : List Segment) (fields : List (List ℕ × List ℕ)) (rank : ℤ) : Type 0 where
-  pub segments_are : segments ≡ path_segments origin
-  pub fields_are : fields ≡ static_fields origin
-  pub rank_is : rank ≡ default_rank origin
+-- what is mounted has a spelling, and the parts that are kept beside the URI are those of it
+pub record IsRead (uri : MountedUri) (segments : List Segment) (fields : List (List ℕ × List ℕ)) (rank : ℤ) : Type 0 where
+  pub unmounted_fits : IsTarget Route uri.unmounted
+  pub segments_are : segments ≡ path_segments uri.origin
+  pub fields_are : fields ≡ static_fields uri.origin
+  pub rank_is : rank ≡ default_rank uri.origin

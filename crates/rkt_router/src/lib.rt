@@ -1,9 +1,9 @@
 //! Ranked routes and catchers, and which of them a request is answered by.
 #![tactic(auto)]
 
-mod catcher;
+pub mod catcher;
 mod color;
-mod route;
+pub mod route;
 mod route_uri;
 mod router;
 mod segment;

@@ -1,8 +1,9 @@
-ghost use Rattle.std.specs.Prelude.{◌≡◌, ◌++◌, ◌<◌, IfOk, Some, filter, map, not, option_copied};
+ghost use Rattle.std.specs.Prelude.{◌≡◌, ◌++◌, ◌<◌, IfOk, Some, codes, filter, map, not, option_copied};
 ghost use Rattle.rkt_base.specs.Want.{IfRefused, GivesUnlessNoMemory};
-ghost use Rattle.rkt_http.specs.Origin.{IsTarget, pieces, spelling};
+ghost use Rattle.rkt_http.specs.Grammar.{LeavesAt};
+ghost use Rattle.rkt_http.specs.Origin.{IsOrigin, IsTarget, pieces, spelling};
 ghost use Rattle.rkt_router.specs.Segment.{segment_of};
-ghost use Rattle.rkt_router.specs.RouteUri.{MountedUri, SpellsMounted, LeavesMountedAt, default_rank, path_segments, raw_field, static_fields};
+ghost use Rattle.rkt_router.specs.RouteUri.{MountedUri, SpellsMounted, LeavesMountedAt, IsRebased, default_rank, path_segments, raw_field, static_fields};
 
 use crate::Segment;
 use crate::color::rank;
@@ -30,7 +31,7 @@ impl Model for RouteUri {
 
     ghost view = { λ u. record { base = u.base; unmounted = u.unmounted; origin = u.origin } };
 
-    ghost invariant = { λ u. IsRead u.origin u.segments u.fields u.rank };
+    ghost invariant = { λ u. IsRead (record { base = u.base; unmounted = u.unmounted; origin = u.origin }) u.segments u.fields u.rank };
 }
 
 /// The segments between the separators, but for empty ones.
@@ -100,6 +101,24 @@ impl RouteUri {
         )?)
     }
 
+    /// A path mounted at the base `/`.
+    pub(crate) fn at_root(alloc: Global, uri: &str) -> Result<RouteUri, Want<InvalidUri>>
+        ensures accepted { IfOk result (SpellsMounted (codes "/") uri.now) }
+        ensures complete { (m : MountedUri) → SpellsMounted (codes "/") uri.now m → GivesUnlessNoMemory result m }
+        ensures refused { IfRefused result (λ e. LeavesAt (IsOrigin Profile.Route) uri.now e.at) }
+    {
+        RouteUri::try_new(alloc, "/", uri)
+    }
+
+    /// The same path, mounted at the base that a text spells.
+    pub(crate) fn at_base(&self, alloc: Global, base: &str) -> Result<RouteUri, Want<InvalidUri>>
+        ensures accepted { IfOk result (IsRebased self.now base.now) }
+        ensures complete { (m : MountedUri) → IsRebased self.now base.now m → GivesUnlessNoMemory result m }
+        ensures refused { IfRefused result (λ e. LeavesAt (IsOrigin Profile.Request) base.now e.at) }
+    {
+        RouteUri::try_new(alloc, base, self.unmounted.as_str())
+    }
+
     // The URI of these parts, with what is read from them.
     fn of_parts(
         alloc: Global,
@@ -107,6 +126,7 @@ impl RouteUri {
         unmounted: Origin,
         origin: Origin,
     ) -> Result<RouteUri, NoMemory>
+        requires { IsTarget Profile.Route unmounted }
         ensures { IfOk result (λ u. u ≡ record { base = base; unmounted = unmounted; origin = origin }) }
     {
         let segments = read_segments(alloc, origin.path(), '/')?;

@@ -1,6 +1,8 @@
 use Rattle.std.proofs.Common.{rules}
 use Rattle.rkt_router.specs.RouteUri.{SpellsMounted}
+use Rattle.rkt_http.specs.declared.origin_place.Profile.TheVariants.{Route}
 use Rattle.rkt_router.proofs.Mounted.{mounted_alike}
+use Rattle.rkt_router.proofs.NormalForms.{normalized_fits}
 use Rattle.rkt_router.proofs.route_uri.RouteUri.try_new.Goals as goal
 
 pub returns-clause-complete : goal.returns-clause-complete
@@ -13,3 +15,6 @@ returns-clause-complete c = λ m spelled.
       joined = search rules;
     } in
     mounted_alike c.args.base.now c.args.uri.now c.in_ok-of_parts.field-0 m accepted spelled
+
+pub of_parts-requires : goal.of_parts-requires
+of_parts-requires c = rw c.in_ok-into_normalized-2.ensures.value (normalized_fits Route c.in_ok-unmounted.unmounted c.in_ok-unmounted.ensures.accepted.fits)
