@@ -1,17 +1,14 @@
 -- A base and what is mounted there, in one text.
-use Rattle.std.proofs.Common.{◌≡◌, ℕ, ◌==◌, ◌||◌, codes, Bool, true, false, List, [], ◌∷◌, ◌++◌, refl, sym, subst, inl, inr, Result, Ok, Err, None, ◌∙◌, ap, append_assoc}
+use Rattle.std.proofs.Common.{◌≡◌, ℕ, ◌==◌, ◌||◌, codes, Bool, true, false, List, [], ◌∷◌, ◌++◌, refl, sym, inl, inr, ◌∙◌, ap, append_assoc}
 use Rattle.std.proofs.lemmas.Bool.{false≢true}
 use Rattle.std.specs.List.{list_any}
-use Rattle.rkt_base.specs.Want.{IfRefused}
-use Rattle.rkt_base.specs.declared.want.Want.{Want}
-use Rattle.rkt_base.specs.declared.want.Want.TheVariants.{Refused, NoMemory}
 use Rattle.rkt_http.specs.Grammar.{LeavesAt, OnlyOf}
 use Rattle.rkt_http.specs.Origin.{Target, IsOrigin, IsTarget, Spells, is_alphanumeric, is_bracket, is_path_byte, query_text, spelling}
 use Rattle.rkt_http.specs.declared.origin_place.Profile.{Profile}
 use Rattle.rkt_http.specs.declared.origin_place.Profile.TheVariants.{Request, Route}
 use Rattle.rkt_http.proofs.OriginLemmas.{target_said}
 use Rattle.rkt_router.proofs.NormalForms.{only_append}
-use Rattle.rkt_router.specs.RouteUri.{MountedUri, SpellsMounted, LeavesMountedAt, IsRebased, mounted_at}
+use Rattle.rkt_router.specs.RouteUri.{MountedUri, SpellsMounted, LeavesMountedAt, IsRebased, mounted_at, root}
 
 -- a test that passes goes on to pass where more passes
 wider : (a b more : Bool) → (a || b || false) ≡ true → (a || b || more) ≡ true
@@ -60,20 +57,8 @@ rebased uri base text m fits is s = record {
 }
 
 -- the root is a base
-root_spelled : IsOrigin Request (codes "/")
-root_spelled = (record { path = codes "/"; query = None }, record { fits = record { begins = ([], refl); path = (refl, tt); query = tt }; spelled = refl })
+pub root_spelled : Spells Request (codes "/") root
+root_spelled = record { fits = record { begins = ([], refl); path = (refl, tt); query = tt }; spelled = refl }
 
 pub leaves_below_root : (uri : List ℕ) (at : ℕ) → LeavesMountedAt (codes "/") uri at → LeavesAt (IsOrigin Route) uri at
-leaves_below_root uri at leaves = elim leaves [ inl of_base ↦ absurd (of_base.outside root_spelled) | inr of_uri ↦ of_uri.1 ]
-
--- what follows from the reason of a refusal
-pub IfRefused-weaker : {T E : Type 0} (r : Result T (Want E)) (P Q : E → Type 0) → ((e : E) → P e → Q e) → IfRefused r P → IfRefused r Q
-IfRefused-weaker (Ok x) P Q more given = tt
-IfRefused-weaker (Err (Refused e)) P Q more given = more e given
-IfRefused-weaker (Err NoMemory) P Q more given = tt
-
--- a refusal that is passed on has the same reason
-pub refused_again : {T U E : Type 0} (r : Result T (Want E)) (s : Result U (Want E)) (w : Want E) (P : E → Type 0) → r ≡ Err w → s ≡ Err w → IfRefused r P → IfRefused s P
-refused_again {T} {U} {E} r s (Refused e) P is also given = let Q : Result U (Want E) → Type 0 = λ t. IfRefused t P in
-    subst Q (sym also) (let R : Result T (Want E) → Type 0 = λ t. IfRefused t P in subst R is given)
-refused_again {T} {U} {E} r s NoMemory P is also given = let Q : Result U (Want E) → Type 0 = λ t. IfRefused t P in subst Q (sym also) tt
+leaves_below_root uri at leaves = elim leaves [ inl of_base ↦ absurd (of_base.outside (root, root_spelled)) | inr of_uri ↦ of_uri.1 ]

@@ -1,3 +1,4 @@
+pub mod Catcher
 pub mod Catchers
 pub mod Collisions
 pub mod Route

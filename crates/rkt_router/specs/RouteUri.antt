@@ -1,5 +1,5 @@
 -- The URI of a route.
-use Rattle.std.specs.Prelude.{◌≡◌, ◌⊎◌, ℕ, ◌+◌, ◌*◌, ℤ, pos, ◌-ℤ◌, List, [], ◌∷◌, ◌++◌, not, None, filter, map, unwrap_or}
+use Rattle.std.specs.Prelude.{◌≡◌, ◌⊎◌, ℕ, ◌+◌, ◌*◌, ℤ, pos, ◌-ℤ◌, List, [], ◌∷◌, ◌++◌, codes, not, None, filter, map, unwrap_or}
 use Rattle.std.specs.List.{before_first, after_first}
 use Rattle.rkt_http.specs.Grammar.{LeavesAt}
 use Rattle.rkt_http.specs.Origin.{Target, IsTarget, IsOrigin, Spells, is_equals, normalized, pieces, raw_segments_of}
@@ -12,6 +12,10 @@ pub record MountedUri : Type 0 where
   pub base : Target
   pub unmounted : Target
   pub origin : Target
+
+-- the base `/`
+abbrev pub root : Target
+root = record { path = codes "/"; query = None }
 
 -- a path alone
 abbrev pub path_alone : Target → Target

@@ -8,7 +8,7 @@ mod route_uri;
 mod router;
 mod segment;
 
-pub use catcher::{Catcher, Catching};
+pub use catcher::{BadCode, Catcher, Catching};
 pub use color::Color;
 pub use route::{Route, Sentry};
 pub use route_uri::RouteUri;

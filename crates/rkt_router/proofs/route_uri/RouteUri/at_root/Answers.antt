@@ -3,7 +3,8 @@ use Rattle.rkt_http.specs.Grammar.{LeavesAt}
 use Rattle.rkt_http.specs.Origin.{IsOrigin}
 use Rattle.rkt_http.specs.declared.origin_place.Profile.TheVariants.{Route}
 use Rattle.rkt_router.specs.RouteUri.{LeavesMountedAt}
-use Rattle.rkt_router.proofs.Mounted.{leaves_below_root, IfRefused-weaker}
+use Rattle.rkt_router.proofs.Calls.{IfRefused-weaker}
+use Rattle.rkt_router.proofs.Mounted.{leaves_below_root}
 use Rattle.rkt_router.proofs.route_uri.RouteUri.at_root.Goals as goal
 
 pub returns-clause-refused : goal.returns-clause-refused
