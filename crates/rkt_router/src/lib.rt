@@ -7,6 +7,8 @@ pub mod route;
 mod route_uri;
 mod router;
 mod segment;
+#[cfg(test)]
+mod tests;
 
 pub use catcher::{BadCode, Catcher, Catching};
 pub use color::Color;

@@ -1,0 +1,3 @@
+//! Cases from the tables of this project and from the original's documentation.
+
+mod uri;
