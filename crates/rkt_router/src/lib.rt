@@ -1,7 +1,7 @@
 //! Ranked routes and catchers, and which of them a request is answered by.
 #![tactic(auto)]
 
-mod catcher;
+pub mod catcher;
 mod color;
 mod dummy;
 mod handler;
@@ -11,8 +11,14 @@ mod route_uri;
 mod router;
 mod segment;
 mod step;
+pub mod route;
+mod route_uri;
+mod router;
+mod segment;
+#[cfg(test)]
+mod tests;
 
-pub use catcher::{Catcher, Catching};
+pub use catcher::{BadCode, Catcher, Catching};
 pub use color::Color;
 pub use dummy::Dummy;
 pub use handler::{CatchHandler, Handler};

@@ -1,10 +1,16 @@
-ghost use Rattle.std.specs.Prelude.{◌≡◌, option_copied};
-ghost use Rattle.rkt_http.specs.Origin.{spelling};
-ghost use Rattle.rkt_router.specs.RouteUri.{default_rank, path_segments, static_fields};
+ghost use Rattle.std.specs.Prelude.{◌≡◌, ◌++◌, ◌<◌, IfOk, Some, codes, filter, map, not, option_copied};
+ghost use Rattle.rkt_base.specs.Want.{IfRefused, GivesUnlessNoMemory};
+ghost use Rattle.rkt_http.specs.Grammar.{LeavesAt};
+ghost use Rattle.rkt_http.specs.Origin.{IsOrigin, IsTarget, pieces, spelling};
+ghost use Rattle.rkt_router.specs.Segment.{segment_of};
+ghost use Rattle.rkt_router.specs.RouteUri.{MountedUri, SpellsMounted, LeavesMountedAt, IsRebased, default_rank, path_segments, raw_field, static_fields};
 
 use crate::Segment;
-use rkt_base::{Seq, Text};
-use rkt_http::Origin;
+use crate::color::rank;
+use rkt_base::{NoMemory, Seq, Text, Want};
+use rkt_http::{InvalidUri, Origin, Profile};
+use std::alloc::Global;
+use std::fmt;
 use std::marker::Model;
 
 /// Where a route is mounted: a base, and a path below it, maybe with a query.
@@ -25,10 +31,118 @@ impl Model for RouteUri {
 
     ghost view = { λ u. record { base = u.base; unmounted = u.unmounted; origin = u.origin } };
 
-    ghost invariant = { λ u. IsRead u.origin u.segments u.fields u.rank };
+    ghost invariant = { λ u. IsRead (record { base = u.base; unmounted = u.unmounted; origin = u.origin }) u.segments u.fields u.rank };
+}
+
+/// The segments between the separators, but for empty ones.
+fn read_segments(alloc: Global, text: &str, separator: char) -> Result<Seq<Segment>, NoMemory>
+    requires { separator < 128 }
+    ensures { IfOk result (λ v. v ≡ map segment_of (pieces separator text.now)) }
+{
+    let mut segments = Seq::new(alloc);
+    for piece in text.split(separator) {
+        if !piece.is_empty() {
+            segments.push(Segment::from(alloc, piece)?)?;
+        }
+    }
+    Ok(segments)
+}
+
+fn read_field(alloc: Global, piece: &str) -> Result<(Text, Text), NoMemory>
+    ensures { IfOk result (λ field. field ≡ raw_field piece.now) }
+{
+    let (name, value) = piece.split_once('=').unwrap_or((piece, ""));
+    Ok((Text::new(alloc, name)?, Text::new(alloc, value)?))
+}
+
+/// The fields that these segments of a query stand for, but for dynamic ones.
+fn read_fields(alloc: Global, segments: &[Segment]) -> Result<Seq<(Text, Text)>, NoMemory>
+    ensures { IfOk result (λ v. v ≡ map (λ s. raw_field s.value) (filter (λ s. not s.dynamic) segments.now)) }
+{
+    let mut fields = Seq::new(alloc);
+    for segment in segments {
+        if !segment.dynamic {
+            fields.push(read_field(alloc, segment.value.as_str())?)?;
+        }
+    }
+    Ok(fields)
+}
+
+/// A base's path, and behind it what is mounted there.
+fn joined(alloc: Global, base: &Origin, uri: &Origin) -> Result<Origin, Want<InvalidUri>>
+    requires base_fits { IsTarget Profile.Request base.now }
+    requires uri_fits { IsTarget Profile.Route uri.now }
+    ensures { GivesUnlessNoMemory result (record { path = base.now.path ++ uri.now.path; query = uri.now.query }) }
+{
+    let mut text = String::from_str(alloc, base.path())?;
+    text.push_str(uri.as_str())?;
+    Origin::parse_route(alloc, text.as_str())
 }
 
 impl RouteUri {
+    /// A path, maybe with a query, mounted at a base, whose own query is dropped.
+    pub fn try_new(alloc: Global, base: &str, uri: &str) -> Result<RouteUri, Want<InvalidUri>>
+        // What is accepted is a base and a path as the two texts spell them.
+        ensures accepted { IfOk result (SpellsMounted base.now uri.now) }
+        // What the two texts spell is accepted, unless memory runs out.
+        ensures complete { (m : MountedUri) → SpellsMounted base.now uri.now m → GivesUnlessNoMemory result m }
+        // A refusal names the place where the base leaves its grammar, or else where the path does.
+        ensures refused { IfRefused result (λ e. LeavesMountedAt base.now uri.now e.at) }
+    {
+        let mut base = Origin::parse(alloc, base)?;
+        let unmounted = Origin::parse_route(alloc, uri)?;
+        let origin = joined(alloc, &base, &unmounted)?;
+        base.clear_query();
+        Ok(RouteUri::of_parts(
+            alloc,
+            base.into_normalized(alloc)?,
+            unmounted.into_normalized(alloc)?,
+            origin.into_normalized(alloc)?,
+        )?)
+    }
+
+    /// A path mounted at the base `/`.
+    pub(crate) fn at_root(alloc: Global, uri: &str) -> Result<RouteUri, Want<InvalidUri>>
+        ensures accepted { IfOk result (SpellsMounted (codes "/") uri.now) }
+        ensures complete { (m : MountedUri) → SpellsMounted (codes "/") uri.now m → GivesUnlessNoMemory result m }
+        ensures refused { IfRefused result (λ e. LeavesAt (IsOrigin Profile.Route) uri.now e.at) }
+    {
+        RouteUri::try_new(alloc, "/", uri)
+    }
+
+    /// The same path, mounted at the base that a text spells.
+    pub(crate) fn at_base(&self, alloc: Global, base: &str) -> Result<RouteUri, Want<InvalidUri>>
+        ensures accepted { IfOk result (IsRebased self.now base.now) }
+        ensures complete { (m : MountedUri) → IsRebased self.now base.now m → GivesUnlessNoMemory result m }
+        ensures refused { IfRefused result (λ e. LeavesAt (IsOrigin Profile.Request) base.now e.at) }
+    {
+        RouteUri::try_new(alloc, base, self.unmounted.as_str())
+    }
+
+    // The URI of these parts, with what is read from them.
+    fn of_parts(
+        alloc: Global,
+        base: Origin,
+        unmounted: Origin,
+        origin: Origin,
+    ) -> Result<RouteUri, NoMemory>
+        requires { IsTarget Profile.Route unmounted }
+        ensures { IfOk result (λ u. u ≡ record { base = base; unmounted = unmounted; origin = origin }) }
+    {
+        let segments = read_segments(alloc, origin.path(), '/')?;
+        let query = read_segments(alloc, origin.query().unwrap_or(""), '&')?;
+        let fields = read_fields(alloc, query.as_slice())?;
+        let rank = rank(segments.as_slice(), query.as_slice());
+        Ok(RouteUri {
+            base,
+            unmounted,
+            origin,
+            segments,
+            fields,
+            rank,
+        })
+    }
+
     /// The path of the base.
     pub fn base(&self) -> &str
         ensures { result.now ≡ self.now.base.path }
@@ -95,5 +209,13 @@ impl RouteUri {
         ensures { result.now ≡ static_fields self.now.origin }
     {
         self.fields.as_slice()
+    }
+}
+
+impl fmt::Display for RouteUri {
+    ghost output = { λ u. Some (spelling u.origin) };
+
+    fn fmt<W: fmt::Write>(&self, f: &mut fmt::Formatter<W>) -> fmt::Result {
+        self.as_str().fmt(f)
     }
 }

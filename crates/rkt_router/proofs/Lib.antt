@@ -1,0 +1,4 @@
+pub mod Calls
+pub mod Mounted
+pub mod NormalForms
+pub mod Strips
