@@ -2,13 +2,16 @@
 #![tactic(auto)]
 
 mod catcher;
+mod collide;
 mod color;
+mod matches;
 mod route;
 mod route_uri;
 mod router;
 mod segment;
 
 pub use catcher::{Catcher, Catching};
+pub use collide::Collide;
 pub use color::Color;
 pub use route::{Route, Sentry};
 pub use route_uri::RouteUri;

@@ -1,0 +1,4 @@
+pub mod Among
+pub mod Decided
+pub mod Formats
+pub mod Paths
