@@ -1,17 +1,17 @@
 -- What is among the items of a list.
-use Rattle.std.proofs.Common.{◌≡◌, ◌↔◌, ◌<◌, ℕ, zero, suc, List, [], ◌∷◌, arith, sym, ◌∙◌, refl, length, get_or, subst}
+use Rattle.std.proofs.Common.{◌≡◌, ◌↔◌, ◌<◌, ℕ, zero, suc, List, [], ◌∷◌, arith, sym, refl, length, get_or, subst}
 use Rattle.std.specs.List.{IsAmong}
 
 pub among_none : {X : Type 0} (v : X) → ¬ IsAmong [] v
 among_none v among = absurd (omega (arith, among.1.0))
 
-among_first : {X : Type 0} (x : X) (xs : List X) → IsAmong (x ∷ xs) x
+pub among_first : {X : Type 0} (x : X) (xs : List X) → IsAmong (x ∷ xs) x
 among_first x xs = (0, (omega arith, refl))
 
-among_later : {X : Type 0} (x v : X) (xs : List X) → IsAmong xs v → IsAmong (x ∷ xs) v
+pub among_later : {X : Type 0} (x v : X) (xs : List X) → IsAmong xs v → IsAmong (x ∷ xs) v
 among_later x v xs among = (suc among.0, (omega (arith, among.1.0), among.1.1))
 
-not_first : {X : Type 0} (x v : X) (xs : List X) → ¬ (v ≡ x) → (i : ℕ) → i < length (x ∷ xs) → v ≡ get_or (x ∷ xs) i v → IsAmong xs v
+pub not_first : {X : Type 0} (x v : X) (xs : List X) → ¬ (v ≡ x) → (i : ℕ) → i < length (x ∷ xs) → v ≡ get_or (x ∷ xs) i v → IsAmong xs v
 not_first x v xs other zero within is = absurd (other is)
 not_first x v xs other (suc i) within is = (i, (omega arith, is))
 

@@ -1,5 +1,5 @@
 -- Whether a route matches, by its parts.
-use Rattle.std.proofs.Common.{◌≡◌, ◌↔◌, IsTrue, ℕ, ◌<◌, ◌≤◌, ◌+◌, List, Bool, true, false, get_or, sym, ◌∙◌, subst, arith, length, ◌⊎◌, inl, inr, ap, Option}
+use Rattle.std.proofs.Common.{◌≡◌, ◌↔◌, IsTrue, ℕ, ◌<◌, ◌≤◌, ◌+◌, List, Bool, get_or, sym, ◌∙◌, subst, arith, length, ◌⊎◌, inl, inr, ap, Option}
 use Rattle.std.specs.List.{All, AllWithin, IsAmong}
 use Rattle.rkt_http.specs.Origin.{fields_of, segments_of}
 use Rattle.std.proofs.lemmas.List.{get_or_default}

@@ -1,9 +1,9 @@
 -- A text spells one media type and one list of them at most, so a request has one format.
-use Rattle.std.proofs.Common.{◌≡◌, ◌≢◌, ◌↔◌, IsTrue, ℕ, ◌<◌, List, [], ◌∷◌, ◌++◌, Bool, true, false, Option, Some, None, ◌⊎◌, inl, inr, refl, sym, ◌∙◌, ap, subst, arith, map}
+use Rattle.std.proofs.Common.{◌≡◌, ◌↔◌, IsTrue, ℕ, ◌<◌, List, [], ◌∷◌, ◌++◌, Bool, true, false, Option, Some, None, ◌⊎◌, inl, inr, refl, sym, ◌∙◌, ap, subst, arith, map}
 use Rattle.std.specs.Prelude.{MatchBool, slice_get, IsSomeAnd}
 use Rattle.std.proofs.lemmas.Bool.{false≢true}
 use Rattle.std.proofs.lemmas.List.{append_cancel_right}
-use Rattle.rkt_http.specs.Accept.{Weighed, Prefers, Outranks, IsPreferred, weighed}
+use Rattle.rkt_http.specs.Accept.{Weighed, Prefers, weighed}
 use Rattle.rkt_http.specs.AcceptText.{is_gap, ListsMedia, CommaThen, SpellsAccept}
 use Rattle.rkt_http.specs.Media.{Media, Parameter}
 use Rattle.rkt_http.specs.MediaRests.{along, tail_same}
@@ -14,7 +14,7 @@ use Rattle.rkt_http.proofs.AcceptReads.{media_more, comma_stops, list_goes_on}
 use Rattle.rkt_http.proofs.MediaReads.{semicolon_more, parameter_read, nothing_more}
 use Rattle.rkt_http.proofs.MediaParts.{media_same}
 use Rattle.rkt_router.specs.Tries.{FormatFits, FormatMatches}
-use Rattle.rkt_request.specs.Seen.{Seen, IsAccept, IsAccepted, IsContentType, IsFormat, IsPreferredOf, MaybeReadAs, ReadAs}
+use Rattle.rkt_request.specs.Seen.{Seen, IsAccept, IsAccepted, IsContentType, IsFormat, MaybeReadAs}
 
 no_quote : (text inside : List ℕ) → Starts is_token_byte text → text ≡ 34 ∷ inside → ⊥
 no_quote text inside starts opened = let first : Starts is_token_byte (34 ∷ inside) = subst (Starts is_token_byte) opened starts in false≢true first

@@ -1,6 +1,6 @@
 -- How the segments of a route are walked beside the names of a path.
-use Rattle.std.proofs.Common.{◌≡◌, ◌↔◌, ◌<◌, ◌≤◌, ◌+◌, ℕ, zero, suc, List, [], ◌∷◌, Bool, true, false, not, Option, Some, None, drop, add-one, sym, ◌∙◌, ap, refl, subst, cond}
-use Rattle.std.specs.Prelude.{slice_get, ⊤}
+use Rattle.std.proofs.Common.{◌≡◌, ◌↔◌, ◌+◌, ℕ, zero, suc, List, [], ◌∷◌, Bool, true, false, not, Some, None, drop, add-one, sym, ◌∙◌, ap, subst, cond}
+use Rattle.std.specs.Prelude.{slice_get}
 use Rattle.std.specs.List.{take_while}
 use Rattle.std.proofs.lemmas.List.Sums.{take_while-cons}
 use Rattle.rkt_router.specs.Tries.{Agrees}

@@ -1,6 +1,10 @@
 pub mod Catchers
+pub mod Choice
 pub mod Collisions
+pub mod Order
+pub mod Pairs
 pub mod RouteUri
 pub mod Router
 pub mod Segment
 pub mod Tries
+pub mod Walk
