@@ -2,3 +2,11 @@ pub mod Calls
 pub mod Mounted
 pub mod NormalForms
 pub mod Strips
+pub mod Among
+pub mod Choices
+pub mod Decided
+pub mod Formats
+pub mod Orders
+pub mod Pairs
+pub mod Paths
+pub mod Walks

@@ -14,11 +14,15 @@ use Rattle.rkt_router.specs.declared.segment.Segment.{Segment}
 abbrev pub SegmentsMeet : Segment → Segment → Type 0
 SegmentsMeet a b = (a.dynamic ≡ true) ⊎ (b.dynamic ≡ true) ⊎ (a.value ≡ b.value)
 
--- some path may be both, pair by pair: a trailing segment takes all that is left, which may be nothing
+-- no name has to come: none is left, or a trailing segment, which may take nothing
+abbrev pub MayEnd : List Segment → Type 0
+MayEnd [] = ⊤
+MayEnd (segment ∷ segments) = segment.trailing ≡ true
+
+-- some path may be both, pair by pair: a trailing segment takes all that is left
 abbrev pub PathsCollide : List Segment → List Segment → Type 0
-PathsCollide [] [] = ⊤
-PathsCollide [] (b ∷ others) = b.trailing ≡ true
-PathsCollide (a ∷ more) [] = a.trailing ≡ true
+PathsCollide [] others = MayEnd others
+PathsCollide (a ∷ more) [] = MayEnd (a ∷ more)
 PathsCollide (a ∷ more) (b ∷ others) = (a.trailing ≡ true) ⊎ (b.trailing ≡ true) ⊎ (SegmentsMeet a b × PathsCollide more others)
 
 -- with a payload two formats collide where both are there and some media type may be both, and where one is missing

@@ -1,7 +1,10 @@
 pub mod Catcher
 pub mod Catchers
+pub mod Choice
 pub mod Collisions
 pub mod Route
+pub mod Order
+pub mod Pairs
 pub mod RouteUri
 pub mod Router
 pub mod Segment
@@ -10,3 +13,4 @@ pub mod Calling
 pub mod CallbackLaws
 pub mod Callbacks
 pub mod Dummies
+pub mod Walk

@@ -1,7 +1,7 @@
 -- A router as contracts see it.
 use Rattle.std.specs.Prelude.{◌<◌, ◌↔◌, ℕ, List, length}
-use Rattle.std.specs.List.{AllPairs, IsAmong}
-use Rattle.rkt_router.specs.Tries.{Before}
+use Rattle.std.specs.List.{IsAmong}
+use Rattle.rkt_router.specs.Order.{IsSorted}
 use Rattle.rkt_router.specs.declared.catcher.Catcher.{Catcher}
 use Rattle.rkt_router.specs.declared.route.Route.{Route}
 
@@ -15,4 +15,4 @@ pub record SeenRouter (H C S : Type 0) : Type 0 where
 -- all positions, in the order in which routes are tried
 pub record IsOrder {H S : Type 0} (routes : List (Route H S)) (order : List ℕ) : Type 0 where
   pub each : (position : ℕ) → IsAmong order position ↔ (position < length routes)
-  pub ordered : AllPairs (Before routes) order
+  pub sorted : IsSorted routes order

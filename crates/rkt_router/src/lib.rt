@@ -6,6 +6,13 @@ mod color;
 mod dummy;
 mod handler;
 mod outcome;
+mod catcher;
+mod chosen;
+mod collide;
+mod collisions;
+mod color;
+mod matches;
+mod order;
 mod route;
 mod route_uri;
 mod router;
@@ -19,6 +26,11 @@ mod segment;
 mod tests;
 
 pub use catcher::{BadCode, Catcher, Catching};
+mod tries;
+
+pub use catcher::{Catcher, Catching};
+pub use collide::Collide;
+pub use collisions::Collisions;
 pub use color::Color;
 pub use dummy::Dummy;
 pub use handler::{CatchHandler, Handler};
@@ -31,3 +43,4 @@ pub use step::Step;
 
 #[cfg(test)]
 mod tests;
+pub use tries::Tries;

@@ -1,0 +1,58 @@
+ghost use Rattle.std.specs.Prelude.{◌≡◌};
+
+use crate::Route;
+use crate::order::{first_match, route_at};
+use rkt_request::{Request, Types};
+use std::marker::Model;
+
+/// The routes that a request is tried on, in order, each with its position.
+#[derive(Drop)]
+pub struct Tries<'a, H, S, T: Types> {
+    routes: &'a [Route<H, S>],
+    order: &'a [usize],
+    request: &'a Request<'a, T>,
+    // How many positions of the order have been looked at.
+    place: usize,
+}
+
+impl<'a, H, S, T: Types> Model for Tries<'a, H, S, T> {
+    ghost use Rattle.rkt_router.specs.Walk.{SeenTries};
+
+    ghost Value = { SeenTries H S T.Value };
+
+    ghost view = { λ t. record { routes = t.routes.now; order = t.order.now; request = t.request.now; place = t.place } };
+}
+
+impl<'a, H, S, T: Types> Tries<'a, H, S, T> {
+    pub(crate) fn new(
+        routes: &'a [Route<H, S>],
+        order: &'a [usize],
+        request: &'a Request<'a, T>,
+    ) -> Tries<'a, H, S, T>
+        ensures { result ≡ record { routes = routes.entry.now; order = order.entry.now; request = request.entry.now; place = 0 } }
+    {
+        Tries {
+            routes,
+            order,
+            request,
+            place: 0,
+        }
+    }
+}
+
+impl<'a, H, S, T: Types> Iterator for Tries<'a, H, S, T> {
+    ghost use Rattle.rkt_router.specs.Walk.{TriesOn, most_left};
+
+    type Item = (usize, &'a Route<H, S>);
+
+    ghost next_gives = { TriesOn };
+
+    ghost remaining = { most_left };
+
+    fn next(&mut self) -> Option<(usize, &'a Route<H, S>)> {
+        let place = first_match(self.routes, self.order, self.request, self.place)?;
+        self.place = place + 1;
+        let position = self.order[place];
+        Some((position, route_at(self.routes, position)))
+    }
+}
