@@ -2,33 +2,25 @@
 #![tactic(auto)]
 
 pub mod catcher;
-mod color;
-mod dummy;
-mod handler;
-mod outcome;
-mod catcher;
 mod chosen;
 mod collide;
 mod collisions;
 mod color;
+mod dummy;
+mod handler;
 mod matches;
 mod order;
-mod route;
-mod route_uri;
-mod router;
-mod segment;
-mod step;
+mod outcome;
 pub mod route;
 mod route_uri;
 mod router;
 mod segment;
+mod step;
 #[cfg(test)]
 mod tests;
-
-pub use catcher::{BadCode, Catcher, Catching};
 mod tries;
 
-pub use catcher::{Catcher, Catching};
+pub use catcher::{BadCode, Catcher, Catching};
 pub use collide::Collide;
 pub use collisions::Collisions;
 pub use color::Color;
@@ -40,7 +32,4 @@ pub use route_uri::RouteUri;
 pub use router::Router;
 pub use segment::Segment;
 pub use step::Step;
-
-#[cfg(test)]
-mod tests;
 pub use tries::Tries;

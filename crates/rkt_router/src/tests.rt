@@ -1,4 +1,4 @@
-mod handlers;
 //! Cases from the tables of this project and from the original's documentation.
 
+mod handlers;
 mod uri;
