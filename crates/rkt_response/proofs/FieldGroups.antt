@@ -1,12 +1,12 @@
 -- Groups that are put together field by field.
-use Rattle.std.proofs.Common.{◌≡◌, ◌≢◌, ℕ, cond, Bool, true, false, if◌then◌else◌, List, [], ◌∷◌, ◌++◌, refl, sym, ◌∙◌, ap, Option, Some, None, append_assoc, append-nil}
+use Rattle.std.proofs.Common.{◌≡◌, ◌≢◌, ℕ, Bool, true, false, if◌then◌else◌, List, [], ◌∷◌, ◌++◌, refl, ◌∙◌, ap, append_assoc}
 use Rattle.std.specs.Prelude.{fold, map}
 use Rattle.std.specs.Str.{bytes_eq}
 use Rattle.std.proofs.lemmas.List.Sums.{fold-append}
-use Rattle.rkt_http.specs.Headers.{Field, Group, added, added_all, fields_of, group_fields, group_of, is_named, replaced_all, with_group}
+use Rattle.rkt_http.specs.Headers.{Field, Group, added, added_all, fields_of, group_fields, is_named, replaced_all, with_group}
 use Rattle.rkt_response.specs.Response.{joined_groups}
 use Rattle.rkt_response.specs.Tidy.{IsTidy}
-use Rattle.rkt_response.proofs.TidyGroups.{KeepsNames, folded, named_back, named_folded, not_first}
+use Rattle.rkt_response.proofs.TidyGroups.{KeepsNames, folded, named_folded}
 
 -- values behind those that a change has left
 values_more : (change change' : Group → Group) (name : List ℕ) (values more : List (List ℕ)) (groups : List Group) → KeepsNames change
@@ -53,42 +53,3 @@ fold-added-fields groups (g ∷ gs) tidy =
     fold-append added groups (group_fields g) (fields_of gs)
     ∙ ap (λ (x : List Group). fold added x (fields_of gs)) (fold-added-group groups g g.values refl tidy.0)
     ∙ fold-added-fields (added_all groups g.name g.values) gs tidy.2
-
--- no group of the second list has a name of the first
-abbrev Apart : List Group → List Group → Type 0
-Apart groups [] = Unit {0}
-Apart groups (g ∷ gs) = (group_of groups g.name ≡ None) × Apart groups gs
-
-apart_none : (gs : List Group) → Apart [] gs
-apart_none [] = tt
-apart_none (g ∷ gs) = (refl, apart_none gs)
-
-not_behind : (groups : List Group) (g : Group) (name : List ℕ) → group_of groups name ≡ None → is_named name g ≡ false → group_of (groups ++ g ∷ []) name ≡ None
-not_behind [] g name none off = ap (λ (t : Bool). cond t (Some g) None) off
-not_behind (h ∷ hs) g name none off =
-    let first = not_first (is_named name h) h (group_of hs name) none in
-    ap (λ (t : Bool). cond t (Some h) (group_of (hs ++ g ∷ []) name)) first.0 ∙ not_behind hs g name first.1 off
-
-apart_more : (groups : List Group) (g : Group) (gs : List Group) → group_of gs g.name ≡ None → Apart groups gs → Apart (groups ++ g ∷ []) gs
-apart_more groups g [] none apart = tt
-apart_more groups g (h ∷ hs) none apart =
-    let first = not_first (is_named g.name h) h (group_of hs g.name) none in
-    (not_behind groups g h.name apart.0 (named_back g h first.0), apart_more groups g hs first.1 apart.1)
-
--- values under a new name stand behind the others
-added_last : (groups : List Group) (g : Group) → group_of groups g.name ≡ None → added_all groups g.name g.values ≡ groups ++ g ∷ []
-added_last [] g none = refl
-added_last (h ∷ hs) g none =
-    let first = not_first (is_named g.name h) h (group_of hs g.name) none in
-    ap (λ (t : Bool). if t then record h { values = h.values ++ g.values } ∷ hs else h ∷ added_all hs g.name g.values) first.0 ∙ ap (λ (x : List Group). h ∷ x) (added_last hs g first.1)
-
-joined_apart : (groups others : List Group) → IsTidy others → Apart groups others → joined_groups groups others ≡ groups ++ others
-joined_apart groups [] tidy apart = sym (append-nil groups)
-joined_apart groups (g ∷ gs) tidy apart =
-    ap (λ (x : List Group). joined_groups x gs) (added_last groups g apart.0)
-    ∙ joined_apart (groups ++ g ∷ []) gs tidy.2 (apart_more groups g gs tidy.1 apart.1)
-    ∙ append_assoc groups (g ∷ []) gs
-
--- nothing stands before groups that are joined to none
-pub joined_none : (groups : List Group) → IsTidy groups → joined_groups [] groups ≡ groups
-joined_none groups tidy = joined_apart [] groups tidy (apart_none groups)

@@ -72,6 +72,11 @@ module _ {S L : Type 0} where
 abbrev pub streamed : {S : Type 0} → S → ResponseOf S
 streamed stream = with_body empty_response (body_of (content.Streamed stream))
 
+-- the place of what was created, and what responds beside it
+pub record Creation (R : Type 0) : Type 0 where
+  pub location : List ℕ
+  pub responder : Option R
+
 -- what was created is there
 abbrev pub created_at : {S : Type 0} → List ℕ → ResponseOf S → ResponseOf S
 created_at location response = with_header (codes "Location") location (with_status 201 response)

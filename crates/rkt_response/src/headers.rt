@@ -67,13 +67,6 @@ fn merged(alloc: Global, mut map: HeaderMap, other: &HeaderMap) -> Result<Header
     Ok(map)
 }
 
-fn try_clone(alloc: Global, map: &HeaderMap) -> Result<HeaderMap, NoMemory>
-    requires tidy { IsTidy map.now }
-    ensures { IfOk result (λ copy. copy ≡ map.now) }
-{
-    Ok(joined(alloc, HeaderMap::new(alloc), map)?)
-}
-
 impl Headers {
     pub fn new(alloc: Global) -> Headers
         ensures { result ≡ [] }
@@ -117,7 +110,7 @@ impl Headers {
         ensures stays { OnOk result ((name : List ℕ) → group_of other.now name ≡ None → group_of self.new name ≡ group_of self.old name) }
         ensures err { OnErr result (self.new ≡ self.old) }
     {
-        let map = try_clone(self.alloc, &self.map)?;
+        let map = self.map.try_clone(self.alloc)?;
         self.map = merged(self.alloc, map, &other.map)?;
         Ok(())
     }
@@ -127,7 +120,7 @@ impl Headers {
         ensures ok { OnOk result (self.new ≡ joined_groups self.old other.now) }
         ensures err { OnErr result (self.new ≡ self.old) }
     {
-        let map = try_clone(self.alloc, &self.map)?;
+        let map = self.map.try_clone(self.alloc)?;
         self.map = joined(self.alloc, map, &other.map)?;
         Ok(())
     }

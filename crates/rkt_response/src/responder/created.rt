@@ -11,12 +11,23 @@ use rkt_data::Source;
 use rkt_http::Status;
 use rkt_request::{Ctx, Request, Types};
 use std::alloc::Global;
+use std::marker::Model;
 
 /// The status 201, and the place of what was created.
 #[derive(Debug, Drop, PartialEq)]
 pub struct Created<R> {
     location: Text,
     responder: Option<R>,
+}
+
+impl<R> Model for Created<R> {
+    ghost use Rattle.rkt_response.specs.Responder.{Creation};
+
+    ghost Value = { Creation R };
+
+    ghost view = { λ c. record { location = c.location; responder = c.responder } };
+
+    ghost inverse = { λ c. record { location = c.location; responder = c.responder } };
 }
 
 impl<R> Created<R> {
