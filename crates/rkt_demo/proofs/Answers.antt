@@ -7,10 +7,9 @@ use Rattle.std.proofs.lemmas.Bool.{false≢true}
 use Rattle.std.proofs.lemmas.Option.{none-some}
 use Rattle.rkt_http.specs.DefaultPage.{html_page}
 use Rattle.rkt_http.specs.Method.{method_of}
-use Rattle.rkt_http.specs.Origin.{Target, Spells, target_of, segments_of}
+use Rattle.rkt_http.specs.Origin.{Target, Spells, SaysWhatItSpells, target_of, segments_of}
 use Rattle.rkt_http.specs.declared.method.Method.{Method}
 use Rattle.rkt_http.specs.declared.origin_place.Profile.TheVariants.{Request}
-use Rattle.rkt_http.proofs.OriginLemmas.{target_said}
 use Rattle.rkt_request.specs.Incoming.{faults_of, headers_of, root}
 use Rattle.rkt_http.specs.Accept.{Weighed}
 use Rattle.rkt_http.specs.Headers.{Group}
@@ -125,33 +124,33 @@ module _ {V : Type 0} (tables : SeenTables Page V) where
   responds_bad (Some m) (Some t) request calls response none bad responds = absurd (false≢true (sym bad))
 
   -- the request asks for what the target of its head says
-  asks_as : (head : Head) (target : Option Target) (uri : Target) → is_some target ≡ true → ReadAs (Spells Request) head.target target → uri ≡ unwrap_or target root → target_of head.target ≡ uri
-  asks_as head None uri some read is = absurd (false≢true some)
-  asks_as head (Some t) uri some read is = target_said Request head.target t read ∙ sym is
+  asks_as : SaysWhatItSpells → (head : Head) (target : Option Target) (uri : Target) → is_some target ≡ true → ReadAs (Spells Request) head.target target → uri ≡ unwrap_or target root → target_of head.target ≡ uri
+  asks_as says head None uri some read is = absurd (false≢true some)
+  asks_as says head (Some t) uri some read is = says Request head.target t read ∙ sym is
 
-  by_good : (good : Bool) (head : Head) (one : Page) (method : Option Method) (target : Option Target) (request : Seen V) (calls : List Call) (response : Response)
+  by_good : SaysWhatItSpells → (good : Bool) (head : Head) (one : Page) (method : Option Method) (target : Option Target) (request : Seen V) (calls : List Call) (response : Response)
       → request.headers ≡ [] → tables.routes ≡ (page_target, one) ∷ [] → (is_some method && is_some target) ≡ good → ReadAs (Spells Request) head.target target → request.uri ≡ unwrap_or target root
       → Responds page_may tables (faults_of method target) request calls response → response ≡ sample_response good (asks_page head)
-  by_good true head one method target request calls response none routes good read uri responds =
-      let said : target_of head.target ≡ request.uri = asks_as head target request.uri (both (is_some method) (is_some target) good) read uri in
+  by_good says true head one method target request calls response none routes good read uri responds =
+      let said : target_of head.target ≡ request.uri = asks_as says head target request.uri (both (is_some method) (is_some target) good) read uri in
       let test : matches page_target request ≡ asks_page head = ap (λ (t : Target). pointwise (pointwise nat_eq) (segments_of page_target) (segments_of t)) (sym said) in
       served_as (asks_page head) one request calls response none routes test (responds_good method target request calls response good responds)
     where
       both : (a b : Bool) → (a && b) ≡ true → b ≡ true
       both true b e = e
       both false b e = absurd (false≢true e)
-  by_good false head one method target request calls response none routes bad read uri responds = responds_bad method target request calls response none bad responds
+  by_good says false head one method target request calls response none routes bad read uri responds = responds_bad method target request calls response none bad responds
 
-one_response : (head : Head) (tables : SeenTables Page ℕ) (run : RunOf ℕ) (response : Response) → head.headers ≡ [] → IsSample tables → Lifecycle page_may tables head run response
+one_response : SaysWhatItSpells → (head : Head) (tables : SeenTables Page ℕ) (run : RunOf ℕ) (response : Response) → head.headers ≡ [] → IsSample tables → Lifecycle page_may tables head run response
     → response ≡ sample_response (is_good head) (asks_page head)
-one_response head tables run response none sample life =
+one_response says head tables run response none sample life =
     let came = life.incoming in
-    let good : (is_some (method_of head.method) && is_some came.target) ≡ is_good head = ap (λ (t : Bool). is_some (method_of head.method) && t) (sym (is_origin-read head.target came.target came.target_read)) in
+    let good : (is_some (method_of head.method) && is_some came.target) ≡ is_good head = ap (λ (t : Bool). is_some (method_of head.method) && t) (sym (is_origin-read says head.target came.target came.target_read)) in
     let responds = subst (λ (fs : List Bad). Responds page_may tables fs life.request run.calls response) came.faults_are life.leads.answered in
-    by_good tables (is_good head) head sample.page (method_of head.method) came.target life.request run.calls response (came.headers ∙ ap headers_of none) sample.routes good came.target_read came.uri responds
+    by_good tables says (is_good head) head sample.page (method_of head.method) came.target life.request run.calls response (came.headers ∙ ap headers_of none) sample.routes good came.target_read came.uri responds
 
-pub one_section : (k : ℕ) (tables : SeenTables Page ℕ) (head : Head) (run : RunOf ℕ) (response : Response) (pieces : List Piece) → head.headers ≡ [] → IsSample tables
+pub one_section : SaysWhatItSpells → (k : ℕ) (tables : SeenTables Page ℕ) (head : Head) (run : RunOf ℕ) (response : Response) (pieces : List Piece) → head.headers ≡ [] → IsSample tables
     → Lifecycle page_may tables head run response → Sent source_meaning response pieces → sent_section k pieces ≡ printed_section k head
 unfolding printed_section
-one_section k tables head run response pieces none sample life sent =
-    section_by_tests (is_good head) (asks_page head) k pieces (subst (λ (r : Response). Sent source_meaning r pieces) (one_response head tables run response none sample life) sent)
+one_section says k tables head run response pieces none sample life sent =
+    section_by_tests (is_good head) (asks_page head) k pieces (subst (λ (r : Response). Sent source_meaning r pieces) (one_response says head tables run response none sample life) sent)

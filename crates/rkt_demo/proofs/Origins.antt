@@ -1,12 +1,13 @@
 -- Which texts are origins.
-use Rattle.std.proofs.Common.{◌≡◌, ◌&&◌, ◌==◌, ℕ, List, [], ◌∷◌, Bool, true, false, Option, Some, None, is_some, unwrap_or, IfSome, slice_index, refl, ap, ◌∙◌, sym, subst, arith}
-use Rattle.std.specs.List.{list_all}
+use Rattle.std.proofs.Common.{◌≡◌, ◌&&◌, ◌==◌, ◌<◌, ◌≤◌, not, ◌++◌, ℕ, List, [], ◌∷◌, Bool, true, false, Option, Some, None, is_some, unwrap_or, IfSome, slice_index, get_or, length, take, if◌then◌else◌, refl, ap, ◌∙◌, sym, append-nil, arith}
+use Rattle.std.specs.List.{list_all, before_first, after_first, position_or_len}
 use Rattle.std.proofs.lemmas.Bool.{false≢true}
 use Rattle.std.proofs.lemmas.Bool.Decides.{nat_tests}
-use Rattle.rkt_http.specs.Grammar.{OnlyOf}
-use Rattle.rkt_http.specs.Origin.{Target, IsTarget, Spells, is_path_byte, is_query_byte, target_of}
+use Rattle.std.proofs.lemmas.List.Sums.{passes_at_first, prefix_len-le-length, split_at_first}
+use Rattle.std.proofs.Math.Seq.{take-length}
+use Rattle.rkt_http.specs.Grammar.{OnlyOf, has_byte}
+use Rattle.rkt_http.specs.Origin.{Target, IsTarget, Spells, SaysWhatItSpells, is_path_byte, is_query_byte, is_question, query_text, spelling, target_of}
 use Rattle.rkt_http.specs.declared.origin_place.Profile.TheVariants.{Request}
-use Rattle.rkt_http.proofs.OriginLemmas.{spelled_back, target_said}
 use Rattle.rkt_request.specs.Seen.{ReadAs}
 use Rattle.rkt_demo.specs.Printed.{fits, is_origin}
 
@@ -58,6 +59,26 @@ target_of_fits target is =
       query = query_of_all target.query (second_of_both (list_all (is_path_byte Request) target.path) _ rest);
     }
 
+-- a text is the spelling of what it says
+spelled_back : (text : List ℕ) → text ≡ spelling (target_of text)
+spelled_back text = by_mark (has_byte is_question text) refl
+  where
+    path : List ℕ
+    path = before_first is_question text
+
+    spelled : Bool → List ℕ
+    spelled marked = path ++ query_text (if marked then Some (after_first is_question text) else None)
+
+    by_mark : (marked : Bool) → has_byte is_question text ≡ marked → text ≡ spelling (target_of text)
+    by_mark true is =
+        let within : position_or_len is_question text < length text = grind (arith, nat_tests, is) in
+        let mark : get_or text (position_or_len is_question text) 0 ≡ 63 = grind (arith, nat_tests, passes_at_first is_question text 0 within) in
+        split_at_first is_question text 0 within ∙ ap (λ (b : ℕ). path ++ b ∷ after_first is_question text) mark ∙ ap spelled (sym is)
+    by_mark false is =
+        let under : position_or_len is_question text ≤ length text = prefix_len-le-length (λ b. not (is_question b)) text in
+        let none : position_or_len is_question text ≡ length text = grind (arith, nat_tests, is, under) in
+        sym (take-length text) ∙ ap (λ (n : ℕ). take n text) (sym none) ∙ sym (append-nil path) ∙ ap spelled (sym is)
+
 spells_of_fits : (text : List ℕ) → is_origin text ≡ true → Spells Request text (target_of text)
 spells_of_fits text is = record { fits = target_of_fits (target_of text) is; spelled = spelled_back text }
 
@@ -66,6 +87,6 @@ is_false true none = absurd (none refl)
 is_false false none = refl
 
 -- a text is an origin exactly where one is read
-pub is_origin-read : (text : List ℕ) (target : Option Target) → ReadAs (Spells Request) text target → is_origin text ≡ is_some target
-is_origin-read text None none = is_false (is_origin text) (λ is. none (target_of text) (spells_of_fits text is))
-is_origin-read text (Some target) read = ap fits (target_said Request text target read) ∙ fits-target target read.fits
+pub is_origin-read : SaysWhatItSpells → (text : List ℕ) (target : Option Target) → ReadAs (Spells Request) text target → is_origin text ≡ is_some target
+is_origin-read says text None none = is_false (is_origin text) (λ is. none (target_of text) (spells_of_fits text is))
+is_origin-read says text (Some target) read = ap fits (says Request text target read) ∙ fits-target target read.fits

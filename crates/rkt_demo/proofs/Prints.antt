@@ -2,6 +2,7 @@
 use Rattle.std.proofs.Common.{◌≡◌, ◌<◌, ◌≤◌, ◌++◌, ℕ, ◌+◌, inl, inr, List, [], ◌∷◌, Bool, true, false, ◌==◌, Option, if◌then◌else◌, refl, ap, ◌∙◌, sym, arith}
 use Rattle.std.specs.List.{AllByRecursion}
 use Rattle.std.proofs.lemmas.Bool.Decides.{nat_tests}
+use Rattle.rkt_http.specs.Origin.{SaysWhatItSpells}
 use Rattle.rkt_request.specs.declared.head.Head.{Head}
 use Rattle.rkt_demo.proofs.Answers.{one_section}
 use Rattle.rkt_demo.specs.Output.{starved_section}
@@ -28,11 +29,11 @@ same_from f g k (head ∷ heads) same =
     ap (λ (b : Bool). (if b then starved_section k else printed_section k head) ++ printed_from f (k + 1) heads) (same k (omega arith))
     ∙ ap (λ (l : List ℕ). (if g k then starved_section k else printed_section k head) ++ l) (same_from f g (k + 1) heads (λ n above. same n (omega (arith, above))))
 
-section_is : (window : Option (ℕ × ℕ)) (k : ℕ) (head : Head) (section : List ℕ) → head.headers ≡ [] → IsSection window k head section
+section_is : SaysWhatItSpells → (window : Option (ℕ × ℕ)) (k : ℕ) (head : Head) (section : List ℕ) → head.headers ≡ [] → IsSection window k head section
     → (b : Bool) × (section ≡ (if b then starved_section k else printed_section k head))
-section_is window k head section none (inl starved) = (true, starved)
-section_is window k head section none (inr answered) =
-    (false, answered.text ∙ one_section k answered.tables head answered.run answered.response answered.pieces none answered.sample answered.lifecycle answered.sent)
+section_is says window k head section none (inl starved) = (true, starved)
+section_is says window k head section none (inr answered) =
+    (false, answered.text ∙ one_section says k answered.tables head answered.run answered.response answered.pieces none answered.sample answered.lifecycle answered.sent)
 
 -- no head has headers
 abbrev pub NoHeaders : List Head → Type 0
@@ -54,12 +55,12 @@ pub none_in_lines : (lines : List (List ℕ)) → NoHeaders (heads_of lines)
 none_in_lines [] = tt
 none_in_lines (line ∷ lines) = none_joined (asked_by (content_of line)) (heads_of lines) (none_asked (content_of line)) (none_in_lines lines)
 
-pub printed_but_starved : (window : Option (ℕ × ℕ)) (k : ℕ) (heads : List Head) (text : List ℕ) → NoHeaders heads → ShownFrom window k heads text
+pub printed_but_starved : SaysWhatItSpells → (window : Option (ℕ × ℕ)) (k : ℕ) (heads : List Head) (text : List ℕ) → NoHeaders heads → ShownFrom window k heads text
     → (starved : ℕ → Bool) × (text ≡ printed_from starved k heads)
-printed_but_starved window k [] text none shown = (λ _. false, shown)
-printed_but_starved window k (head ∷ heads) text none shown =
-    let here = section_is window k head shown.0 none.0 shown.2 in
-    let later = printed_but_starved window (k + 1) heads shown.1 none.1 shown.3 in
+printed_but_starved says window k [] text none shown = (λ _. false, shown)
+printed_but_starved says window k (head ∷ heads) text none shown =
+    let here = section_is says window k head shown.0 none.0 shown.2 in
+    let later = printed_but_starved says window (k + 1) heads shown.1 none.1 shown.3 in
     let starved : ℕ → Bool = with_number k here.0 later.0 in
     let first : shown.0 ≡ (if starved k then starved_section k else printed_section k head) =
     here.1 ∙ ap (λ (b : Bool). if b then starved_section k else printed_section k head) (sym (at_number k here.0 later.0)) in

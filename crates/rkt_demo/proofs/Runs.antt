@@ -1,9 +1,9 @@
 -- What the program knows of its script from the bytes that it has read.
-use Rattle.std.proofs.Common.{suc, ◌≡◌, ◌+◌, ◌-◌, ◌++◌, ℕ, inl, inr, List, [], ◌∷◌, Bool, Option, Some, None, take, drop, length, add-one, refl, ap, ◌∙◌, sym, subst, append-nil}
+use Rattle.std.proofs.Common.{suc, ◌≡◌, ◌+◌, ◌-◌, ℕ, inl, inr, List, [], ◌∷◌, Bool, Option, Some, None, take, drop, length, add-one, refl, ap, ◌∙◌, sym, subst}
 use Rattle.std.proofs.Math.Seq.{take-length}
-use Rattle.std.specs.Option.{ForSome, option_map}
-use Rattle.rkt_data.specs.Sink.{SinkMeaning, Gains}
+use Rattle.std.specs.Option.{ForSome}
 use Rattle.rkt_data.specs.Source.{Meaning}
+use Rattle.rkt_http.specs.Origin.{SaysWhatItSpells}
 use Rattle.rkt_request.specs.declared.head.Head.{Head}
 use Rattle.rkt_demo.proofs.Cuts.{bad_front, good_front}
 use Rattle.rkt_demo.proofs.Prints.{none_in_lines, printed_but_starved}
@@ -29,13 +29,6 @@ good_read whole taken room bytes read good w is =
     let front : bytes ≡ take (suc room) (drop taken w) = read w is ∙ ap (λ (n : ℕ). take n (drop taken w)) (add-one room) in
     front ∙ good_front (drop taken w) room (subst (λ (t : List ℕ). AreGood room (lines_of t)) front good)
 
-pub gains_nothing : (sink : SinkMeaning) → Gains sink sink []
-gains_nothing sink = by_held sink.held
-  where
-    by_held : (held : Option (List ℕ)) → held ≡ option_map (λ h. h ++ []) held
-    by_held None = refl
-    by_held (Some h) = ap Some (sym (append-nil h))
-
 pub good_script : (whole : Option (List ℕ)) (taken room : ℕ) (bytes : List ℕ) → IsRead whole taken room bytes → AreGood room (lines_of bytes)
     → ForSome whole (λ w. AreGood room (lines_of (drop taken w)))
 good_script whole taken room bytes read good w is = subst (λ (t : List ℕ). AreGood room (lines_of t)) (good_read whole taken room bytes read good w is) good
@@ -50,11 +43,11 @@ shown_script whole taken room bytes window heads text read good heads_are shown 
     subst (λ (hs : List Head). ShownFrom window 0 hs text) (same ∙ sym (take-length asked)) shown
 
 -- and it is the printed one but for the starved
-pub printed_script : (whole : Option (List ℕ)) (taken room : ℕ) (bytes : List ℕ) (window : Option (ℕ × ℕ)) (heads : List Head) (text : List ℕ) → IsRead whole taken room bytes
+pub printed_script : SaysWhatItSpells → (whole : Option (List ℕ)) (taken room : ℕ) (bytes : List ℕ) (window : Option (ℕ × ℕ)) (heads : List Head) (text : List ℕ) → IsRead whole taken room bytes
     → AreGood room (lines_of bytes) → heads ≡ heads_of (lines_of bytes) → ShownFrom window 0 heads text → ForSome whole (λ w. (starved : ℕ → Bool) × (text ≡ printed_but starved (drop taken w)))
-printed_script whole taken room bytes window heads text read good heads_are shown w is =
+printed_script says whole taken room bytes window heads text read good heads_are shown w is =
     let same : heads ≡ heads_of (lines_of (drop taken w)) = heads_are ∙ ap (λ (t : List ℕ). heads_of (lines_of t)) (good_read whole taken room bytes read good w is) in
-    printed_but_starved window 0 (heads_of (lines_of (drop taken w))) text (none_in_lines (lines_of (drop taken w))) (subst (λ (hs : List Head). ShownFrom window 0 hs text) same shown)
+    printed_but_starved says window 0 (heads_of (lines_of (drop taken w))) text (none_in_lines (lines_of (drop taken w))) (subst (λ (hs : List Head). ShownFrom window 0 hs text) same shown)
 
 -- no line is bad of lines that are good
 good_not_bad : (from room number : ℕ) (lines : List (List ℕ)) → AreGood room lines → IsFirstBad from room lines number → ⊥

@@ -30,7 +30,8 @@ refusal number = codes "script line " ++ decimal number ++ codes "\n"
 
 -- what a script is answered with: the first line that is not of the grammar, or the text of its requests, some of them starved
 abbrev pub IsText : List ℕ → List ℕ → Type 0
-IsText script text = ((number : ℕ) × IsFirstBadLine script number × (text ≡ refusal number)) ⊎ ((starved : ℕ → Bool) × (text ≡ printed_but starved script))
+IsText script text = ((number : ℕ) × IsFirstBadLine script number × (text ≡ refusal number))
+    ⊎ (IsGoodScript script × ((starved : ℕ → Bool) × (text ≡ printed_but starved script)))
 
 -- all of the source was read, or so many bytes that a line leaves the grammar
 abbrev pub IsAllRead : Meaning → Meaning → Type 0

@@ -18,6 +18,7 @@ use crate::stream::{StreamError, read_all, write_all};
 use crate::words::{USAGE, is_command};
 use rkt_base::{NoMemory, Want};
 use rkt_data::{Sink, Source};
+use rkt_http::says_what_it_spells;
 use rkt_request::Head;
 use rkt_serve::{Clock, ErrorKindOf, Launch, LaunchedOf, ListListener, MemoryLink};
 use std::alloc::{AllocError, Global};
@@ -116,9 +117,10 @@ pub fn run<R: Wait + Threads, S: Source, K: Sink, C: Clock>(
     requires unwarned { (S.meaning source.old).warned ≡ false }
     ensures known { IsStatus result }
 
-    // 2: the words are no command, and the usage line says what is one.
+    // 2: the words are no command, and the usage line says what is one. Nothing was read.
     ensures usage { result ≡ 2 → ¬ IsCommand (map string_bytes words.now) }
     ensures no_command { ¬ IsCommand (map string_bytes words.now) → (result ≡ 2) ⊎ (result ≡ 6) }
+    ensures unread { ¬ IsCommand (map string_bytes words.now) → source.new ≡ source.old }
     ensures usage_text { result ≡ 2 → GainsUnlessRefused (K.meaning sink.old) (K.meaning sink.new) USAGE.now }
 
     // 4: the source refused, and nothing was written.
@@ -135,10 +137,10 @@ pub fn run<R: Wait + Threads, S: Source, K: Sink, C: Clock>(
     ensures write_text { result ≡ 5 → OfScript (S.meaning source.old) (λ script. (starved : ℕ → Bool)
         × GainsFront (K.meaning sink.old) (K.meaning sink.new) (printed_but starved script)) }
 
-    // 6: there was no memory, and the sink has taken a front of what was to be written.
+    // 6: there was no memory, and the sink has taken nothing, or a front of what was to be written.
     ensures memory_usage { result ≡ 6 → ¬ IsCommand (map string_bytes words.now) → GainsFront (K.meaning sink.old) (K.meaning sink.new) USAGE.now }
-    ensures memory_text { result ≡ 6 → IsCommand (map string_bytes words.now) → OfScript (S.meaning source.old) (λ script. (text : List ℕ)
-        × IsText script text × GainsFront (K.meaning sink.old) (K.meaning sink.new) text) }
+    ensures memory_text { result ≡ 6 → IsCommand (map string_bytes words.now) → (sink.new ≡ sink.old) ⊎ OfScript (S.meaning source.old) (λ script.
+        (text : List ℕ) × IsText script text × GainsFront (K.meaning sink.old) (K.meaning sink.new) text) }
 
     // 0: the text shows every request of the script, and is the printed one but for the starved.
     ensures text { result ≡ 0 → OfScript (S.meaning source.old) (λ script. (text : List ℕ)
@@ -151,9 +153,10 @@ pub fn run<R: Wait + Threads, S: Source, K: Sink, C: Clock>(
         → ¬ Rose (S.meaning source.old).faults (S.meaning source.new).faults → ¬ Rose (K.meaning sink.old).faults (K.meaning sink.new).faults
         → (result ≡ 0) ⊎ (result ≡ 6) }
 
-    // How much was read.
+    // How much was read, and that no trip was shown to the source.
     ensures taken { (result ≡ 0) ⊎ (result ≡ 3) ⊎ (result ≡ 5) → IsAllRead (S.meaning source.old) (S.meaning source.new) }
     ensures bound { (S.meaning source.new).taken ≤ (S.meaning source.old).taken + SCRIPT_LIMIT + 1 }
+    ensures unwarned { (S.meaning source.new).warned ≡ false }
 {
     if !is_command(words) {
         return refuse_words(rt, sink);
@@ -168,6 +171,8 @@ pub fn run<R: Wait + Threads, S: Source, K: Sink, C: Clock>(
         Err(Want::Refused(bad)) => return refuse_line(rt, alloc, sink, bad.number),
         Err(Want::NoMemory) => return 6,
     };
+    // Whether a target is an origin is told by what its text says.
+    says_what_it_spells();
     match serve_heads(rt, alloc, heads, clock) {
         Ok(text) => write_text(rt, sink, text.as_slice()),
         Err(_) => 6,

@@ -82,6 +82,7 @@ pub fn read_all<R: Wait, S: Source>(
     ensures bytes { IfOk result (λ v. ForSome (S.meaning source.old).whole (λ whole. v.items ≡ take most (drop (S.meaning source.old).taken whole))) }
     ensures taken { OnOk result (IsReadTo most (S.meaning source.old) (S.meaning source.new)) }
     ensures bound { (S.meaning source.new).taken ≤ (S.meaning source.old).taken + most }
+    ensures unwarned { (S.meaning source.new).warned ≡ false }
     ensures cause { IsErrOf result StreamError.Fault → Rose (S.meaning source.old).faults (S.meaning source.new).faults }
 {
     let mut all = Vec::new(alloc);

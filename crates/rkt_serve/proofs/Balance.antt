@@ -12,7 +12,7 @@ use Rattle.rkt_serve.proofs.Pushes.{any_push, count_push, any_none, all_push, af
 use Rattle.rkt_serve.specs.Asked.{Asked}
 use Rattle.rkt_serve.specs.Causes.{Caused, CauseOf}
 use Rattle.rkt_serve.specs.Clock.{IsWithin}
-use Rattle.rkt_serve.specs.Events.{is_admit, admits_by, admits, admitted, ends, is_close, latest, end_of, InOrder}
+use Rattle.rkt_serve.specs.Events.{is_admit, admits_by, admits_until, admits, admitted, ends, is_close, latest, end_of, InOrder}
 use Rattle.rkt_serve.specs.Headline.{HasEntry, Balanced, IsLegal, TimedIn}
 use Rattle.rkt_serve.specs.Link.{LinkMeaning}
 use Rattle.rkt_serve.specs.Listener.{GivesMore}
@@ -86,6 +86,12 @@ module _ {C S K H V : Type 0} (may : H → Seen V → List ℕ → Type 0) (tabl
         same ∙ g.asked ∙ sym (get_last g.old g.last) ∙ ap (λ n. slice_get (g.old ++ g.last ∷ []) n) place ∙ ap (λ xs. slice_get xs k) (sym g.grown);
   }
 
+  -- a run that has the moment of its Admit
+  ran_between : (events : List (EventOf C S K)) (number m1 m2 at : ℕ) → at ≡ m1 → m1 ≤ m2
+      → (list_any (admits_until number at) (events ++ Admit number m1 0 ∷ []) ≡ true) × (at ≤ m2)
+  ran_between events number m1 m2 at is rises =
+      (any_push (admits_until number at) events (Admit number m1 0) ∙ grind (arith, common_steps, nat_tests, is), omega (arith, is, rises))
+
   -- a history with one exchange more
   pub balanced_more : (given new : Option (List Asked)) (window : Option (ℕ × ℕ)) (ask : Option Asked) (events : List (EventOf C S K)) (entry : EntryOf C S K) (number last m1 m2 : ℕ)
       → GivesMore given ask new → (meaning entry.link).asked ≡ ask → Caused may tables stream meaning entry → number ≡ admitted events → last ≤ m1 → m1 ≤ m2
@@ -104,7 +110,7 @@ module _ {C S K H V : Type 0} (may : H → Seen V → List ℕ → Type 0) (tabl
       let ordered1 = after_push InOrder [] events admit b.ordered (b.unclosed, (b.begun, counted, omega (arith, b.latest_by))) in
       let more : admitted (middle ++ ended ∷ []) ≡ number + 1 = (count_push is_admit middle ended).1 refl ∙ (count_push is_admit events admit).0 refl ∙ ap (λ n. n + 1) (sym counted) in
       record {
-        ordered = after_push InOrder [] middle ended ordered1 (unclosed1, (is_there, no_end, omega (arith, latest1)));
+        ordered = after_push InOrder [] middle ended ordered1 (unclosed1, (is_there, no_end, omega (arith, latest1), λ run is. ran_between events number m1 m2 run.moment (timed run is) rises2));
         caused = all_push (CauseOf may tables stream meaning) middle ended (all_push (CauseOf may tables stream meaning) events admit b.caused tt) caused;
         begun = omega (arith, length-append middle (ended ∷ []));
         unclosed = any_push is_close middle ended ∙ grind (arith, common_steps, unclosed1);

@@ -122,11 +122,16 @@ module _ {S : Type 0} (stream : S → Meaning) where
     read_on = λ body. absurd (head_or_body first.stage at body);
     owes = λ pieces owed. subst (λ (p : ResponseOf S). Sent stream p pieces) same (owes_at first stage.Head pieces at owed);
     front = λ body. absurd (head_or_body first.stage at body);
+    head_sent = λ body. absurd (head_or_body first.stage at body);
   }
 
   some_left : (chunks : List (List ℕ)) (pieces : List Piece) → pieces ≡ map Chunk chunks ++ End ∷ [] → pieces ≢ []
   some_left [] pieces is none = absurd (cc (is, none))
   some_left (c ∷ cs) pieces is none = absurd (cc (is, none))
+
+  some_behind : (taken : List Piece) (piece : Piece) → (taken ++ piece ∷ []) ≢ []
+  some_behind [] piece none = absurd (cc none)
+  some_behind (p ∷ ps) piece none = absurd (cc none)
 
   stage_then : (piece : Piece) → piece ≢ End → stage_after piece ≡ stage.Body
   stage_then (Head status headers) other = refl
@@ -151,6 +156,7 @@ module _ {S : Type 0} (stream : S → Meaning) where
             let rest = advances.goes_on in
             let left : SentBody stream next.response.body rest.0 = owes_at next stage.Body rest.0 at rest.1 in
             (rest.0, some_left left.0 rest.0 left.3, owes rest.0 rest.1);
+        head_sent = λ body. some_behind taken piece;
       }
 
   -- the last piece was sent

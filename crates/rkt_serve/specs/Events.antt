@@ -1,6 +1,7 @@
 -- Which lists of events are in order. No relation of an application stands here.
-use Rattle.std.specs.Prelude.{◌≡◌, ◌<◌, ◌≤◌, ◌++◌, ℕ, zero, suc, nat_lt, max, Bool, true, false, ◌==◌, ◌&&◌, List, [], ◌∷◌, Option, Some, None, length, if◌then◌else◌}
+use Rattle.std.specs.Prelude.{◌≡◌, ◌<◌, ◌≤◌, ◌++◌, ℕ, zero, suc, nat_le, nat_lt, max, Bool, true, false, ◌==◌, ◌&&◌, List, [], ◌∷◌, Option, Some, None, length, if◌then◌else◌}
 use Rattle.std.specs.List.{list_any, count_by}
+use Rattle.std.specs.Option.{ForSome}
 use Rattle.rkt_serve.specs.After.{AfterFrom}
 use Rattle.rkt_serve.specs.declared.history.EntryOf.{EntryOf}
 use Rattle.rkt_serve.specs.declared.history.EventOf.{EventOf}
@@ -40,6 +41,13 @@ module _ {C S K : Type 0} where
   admits_by number by (End n e m b) = false
   admits_by number by (Close m) = false
 
+  -- it admits this number, and not after this moment
+  abbrev pub admits_until : ℕ → ℕ → EventOf C S K → Bool
+  admits_until number moment (Admit n m b) = n == number && nat_le m moment
+  admits_until number moment (Lift calls) = false
+  admits_until number moment (End n e m b) = false
+  admits_until number moment (Close m) = false
+
   -- it ends this number
   abbrev pub ends : ℕ → EventOf C S K → Bool
   ends number (End n e m b) = n == number
@@ -78,6 +86,10 @@ module _ {C S K : Type 0} where
   noted (Admit n m b) places = places
   noted (Close m) places = places
 
+  -- a run of this number, where there is one, has a moment between those of its Admit and of its End
+  abbrev pub IsRunBetween : List (EventOf C S K) → ℕ → EntryOf C S K → ℕ → Type 0
+  IsRunBetween before number entry moment = ForSome entry.run (λ run. (list_any (admits_until number run.moment) before ≡ true) × (run.moment ≤ moment))
+
   -- what each event needs of those before it
   abbrev pub MayCome : List (EventOf C S K) → EventOf C S K → Type 0
   -- it is the first
@@ -86,6 +98,7 @@ module _ {C S K : Type 0} where
   MayCome before (Admit number moment by) = (0 < length before) × (number ≡ admitted before) × (latest before ≤ moment)
   -- the number was admitted by the same worker, and has not ended
   MayCome before (End number entry moment by) = (list_any (admits_by number by) before ≡ true) × (list_any (ends number) before ≡ false) × (latest before ≤ moment)
+      × IsRunBetween before number entry moment
   -- no number is open
   MayCome before (Close moment) = (0 < length before) × ((k : ℕ) → list_any (admits k) before ≡ list_any (ends k) before) × (latest before ≤ moment)
 

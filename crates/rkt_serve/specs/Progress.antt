@@ -23,3 +23,4 @@ pub record PartlySent {S : Type 0} (stream : S → Meaning) (first now : Sending
   pub read_on : now.stage ≡ stage.Body → ReadOn stream now.begun now.response
   pub owes : (pieces : List Piece) → Owes stream now pieces → Sent stream first.begun (taken ++ pieces)
   pub front : now.stage ≡ stage.Body → IsProperFront (Sent stream first.begun) taken
+  pub head_sent : now.stage ≡ stage.Body → taken ≢ []

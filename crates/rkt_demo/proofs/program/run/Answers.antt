@@ -3,20 +3,17 @@ use Rattle.rkt_demo.specs.declared.script.TheConstants.{SCRIPT_LIMIT}
 use Rattle.rkt_data.specs.Sink.{Gains}
 use Rattle.rkt_demo.specs.Printed.{printed_but}
 use Rattle.rkt_demo.specs.Streams.{GainsFront}
-use Rattle.rkt_demo.proofs.Runs.{IsRead, first_bad_read, not_bad, good_script, shown_script, printed_script, gains_nothing}
+use Rattle.rkt_demo.proofs.Runs.{IsRead, first_bad_read, not_bad, good_script, shown_script, printed_script}
 use Rattle.rkt_demo.proofs.program.run.Goals as goal
 
 pub returns-in-Err-NoMemory-clause-memory_text : goal.returns-in-Err-NoMemory-clause-memory_text
-returns-in-Err-NoMemory-clause-memory_text g c six command w is =
-    (printed_but (λ _. false) (drop (g.S.Source.meaning c.args.source.now).taken w), inr (λ _. false, refl), (0, gains_nothing (g.K.Sink.meaning c.args.sink.now)))
+returns-in-Err-NoMemory-clause-memory_text g c six command = inl refl
 
 pub returns-in-Err-NoMemory-parse_script-clause-memory_text : goal.returns-in-Err-NoMemory-parse_script-clause-memory_text
-returns-in-Err-NoMemory-parse_script-clause-memory_text g c six command w is =
-    (printed_but (λ _. false) (drop (g.S.Source.meaning c.args.source.now).taken w), inr (λ _. false, refl), (0, gains_nothing (g.K.Sink.meaning c.args.sink.now)))
+returns-in-Err-NoMemory-parse_script-clause-memory_text g c six command = inl refl
 
 pub returns-clause-memory_text : goal.returns-clause-memory_text
-returns-clause-memory_text g c six command w is =
-    (printed_but (λ _. false) (drop (g.S.Source.meaning c.args.source.now).taken w), inr (λ _. false, refl), (0, gains_nothing (g.K.Sink.meaning c.args.sink.now)))
+returns-clause-memory_text g c six command = inl refl
 
 pub returns-in-Err-Refused-clause-script : goal.returns-in-Err-Refused-clause-script
 returns-in-Err-Refused-clause-script g c three w is =
@@ -26,11 +23,11 @@ returns-in-Err-Refused-clause-script g c three w is =
     (_, first_bad_read before.whole before.taken SCRIPT_LIMIT _ c.as_slice.result.now read bad w is, c.refuse_line.ensures.script three)
 
 pub returns-in-Err-Refused-clause-memory_text : goal.returns-in-Err-Refused-clause-memory_text
-returns-in-Err-Refused-clause-memory_text g c six command w is =
+returns-in-Err-Refused-clause-memory_text g c six command = inr (λ w is.
     let before = g.S.Source.meaning c.args.source.now in
     let read = subst (IsRead before.whole before.taken SCRIPT_LIMIT) (sym c.as_slice.ensures.value) c.in-Ok.ensures.bytes in
     let bad = rw c.in-Err-Refused.field-0-is at c.in-Err-Refused.ensures.line in
-    (_, inl (_, first_bad_read before.whole before.taken SCRIPT_LIMIT _ c.as_slice.result.now read bad w is, refl), c.refuse_line.ensures.front)
+    (_, inl (_, first_bad_read before.whole before.taken SCRIPT_LIMIT _ c.as_slice.result.now read bad w is, refl), c.refuse_line.ensures.front))
 
 pub returns-in-Err-Refused-clause-complete : goal.returns-in-Err-Refused-clause-complete
 returns-in-Err-Refused-clause-complete g c script command is good unread unwritten =
@@ -60,7 +57,7 @@ returns-in-Ok-serve_heads-clause-printed g c served w is =
     let read = subst (IsRead before.whole before.taken SCRIPT_LIMIT) (sym c.as_slice.ensures.value) c.in-Ok.ensures.bytes in
     let window = (g.C.Clock.meaning c.args.clock).window in
     let text = c.in-Ok-serve_heads.text.items in
-    let printed = printed_script before.whole before.taken SCRIPT_LIMIT c.as_slice.result.now window c.in-Ok-parse_script.heads.items text read c.in-Ok-parse_script.ensures.good c.in-Ok-parse_script.ensures.heads c.in-Ok-serve_heads.ensures w is in
+    let printed = printed_script c.says_what_it_spells.ensures before.whole before.taken SCRIPT_LIMIT c.as_slice.result.now window c.in-Ok-parse_script.heads.items text read c.in-Ok-parse_script.ensures.good c.in-Ok-parse_script.ensures.heads c.in-Ok-serve_heads.ensures w is in
     let is_text = c.as_slice-in-Ok-serve_heads.ensures.value ∙ printed.1 in
     (printed.0, subst (Gains (g.K.Sink.meaning c.args.sink.now) (g.K.Sink.meaning c.write_text.new.sink)) is_text (c.write_text.ensures.whole served))
 
@@ -70,16 +67,17 @@ returns-in-Ok-serve_heads-clause-write_text g c refused w is =
     let read = subst (IsRead before.whole before.taken SCRIPT_LIMIT) (sym c.as_slice.ensures.value) c.in-Ok.ensures.bytes in
     let window = (g.C.Clock.meaning c.args.clock).window in
     let text = c.in-Ok-serve_heads.text.items in
-    let printed = printed_script before.whole before.taken SCRIPT_LIMIT c.as_slice.result.now window c.in-Ok-parse_script.heads.items text read c.in-Ok-parse_script.ensures.good c.in-Ok-parse_script.ensures.heads c.in-Ok-serve_heads.ensures w is in
+    let printed = printed_script c.says_what_it_spells.ensures before.whole before.taken SCRIPT_LIMIT c.as_slice.result.now window c.in-Ok-parse_script.heads.items text read c.in-Ok-parse_script.ensures.good c.in-Ok-parse_script.ensures.heads c.in-Ok-serve_heads.ensures w is in
     let is_text = c.as_slice-in-Ok-serve_heads.ensures.value ∙ printed.1 in
     (printed.0, subst (GainsFront (g.K.Sink.meaning c.args.sink.now) (g.K.Sink.meaning c.write_text.new.sink)) is_text c.write_text.ensures.front)
 
 pub returns-in-Ok-serve_heads-clause-memory_text : goal.returns-in-Ok-serve_heads-clause-memory_text
-returns-in-Ok-serve_heads-clause-memory_text g c refused command w is =
+returns-in-Ok-serve_heads-clause-memory_text g c refused command = inr (λ w is.
     let before = g.S.Source.meaning c.args.source.now in
     let read = subst (IsRead before.whole before.taken SCRIPT_LIMIT) (sym c.as_slice.ensures.value) c.in-Ok.ensures.bytes in
     let window = (g.C.Clock.meaning c.args.clock).window in
     let text = c.in-Ok-serve_heads.text.items in
-    let printed = printed_script before.whole before.taken SCRIPT_LIMIT c.as_slice.result.now window c.in-Ok-parse_script.heads.items text read c.in-Ok-parse_script.ensures.good c.in-Ok-parse_script.ensures.heads c.in-Ok-serve_heads.ensures w is in
+    let printed = printed_script c.says_what_it_spells.ensures before.whole before.taken SCRIPT_LIMIT c.as_slice.result.now window c.in-Ok-parse_script.heads.items text read c.in-Ok-parse_script.ensures.good c.in-Ok-parse_script.ensures.heads c.in-Ok-serve_heads.ensures w is in
     let is_text = c.as_slice-in-Ok-serve_heads.ensures.value ∙ printed.1 in
-    (printed_but printed.0 (drop before.taken w), inr (printed.0, refl), subst (GainsFront (g.K.Sink.meaning c.args.sink.now) (g.K.Sink.meaning c.write_text.new.sink)) is_text c.write_text.ensures.front)
+    let good = good_script before.whole before.taken SCRIPT_LIMIT c.as_slice.result.now read c.in-Ok-parse_script.ensures.good w is in
+    (printed_but printed.0 (drop before.taken w), inr (good, (printed.0, refl)), subst (GainsFront (g.K.Sink.meaning c.args.sink.now) (g.K.Sink.meaning c.write_text.new.sink)) is_text c.write_text.ensures.front))
