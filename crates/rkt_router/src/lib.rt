@@ -22,4 +22,4 @@ pub use route::{Route, Sentry};
 pub use route_uri::RouteUri;
 pub use router::Router;
 pub use segment::Segment;
-pub use tries::Tries;
+pub use tries::{Tries, tries_are_one_list};
