@@ -6,6 +6,7 @@ pub mod Among
 pub mod Choices
 pub mod Decided
 pub mod Formats
+pub mod OneList
 pub mod Orders
 pub mod Pairs
 pub mod Paths

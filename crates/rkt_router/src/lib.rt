@@ -33,3 +33,4 @@ pub use router::Router;
 pub use segment::Segment;
 pub use step::Step;
 pub use tries::Tries;
+pub use tries::{Tries, tries_are_one_list};

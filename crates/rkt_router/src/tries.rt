@@ -1,4 +1,5 @@
-ghost use Rattle.std.specs.Prelude.{◌≡◌};
+ghost use Rattle.std.specs.Prelude.{◌≡◌, List, ℕ};
+ghost use Rattle.rkt_router.specs.Tries.{IsTries};
 
 use crate::Route;
 use crate::order::{first_match, route_at};
@@ -56,3 +57,8 @@ impl<'a, H, S, T: Types> Iterator for Tries<'a, H, S, T> {
         Some((position, route_at(self.routes, position)))
     }
 }
+
+/// A law of tries: those of a request are one list.
+pub fn tries_are_one_list<H, S, T: Types>(routes: &[Route<H, S>], request: &Request<'_, T>)
+    ensures { (a b : List ℕ) → IsTries routes.now request.now a → IsTries routes.now request.now b → a ≡ b }
+{}
