@@ -32,5 +32,4 @@ pub use route_uri::RouteUri;
 pub use router::Router;
 pub use segment::Segment;
 pub use step::Step;
-pub use tries::Tries;
 pub use tries::{Tries, tries_are_one_list};
