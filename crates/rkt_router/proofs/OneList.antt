@@ -1,7 +1,6 @@
 -- Two lists of tries are one.
 use Rattle.std.proofs.Common.{◌≡◌, ◌↔◌, ◌<◌, ℕ, zero, suc, List, [], ◌∷◌, ◌⊎◌, inl, inr, arith, sym, ◌∙◌, ap, refl, subst, length, get_or}
 use Rattle.std.specs.List.{AllPairs, IsAmong}
-use Rattle.std.proofs.lemmas.List.{get_or_default}
 use Rattle.rkt_request.specs.Seen.{Seen}
 use Rattle.rkt_router.specs.Tries.{Before, IsTries}
 use Rattle.rkt_router.specs.declared.route.Route.{Route}
