@@ -1,40 +1,14 @@
+use super::{Sample, Stopped, origin};
 use crate::{CatchHandler, Dummy, Handler, Step};
 use rkt_cookie::CookieJar;
 use rkt_data::{Data, Gate, MemorySource};
-use rkt_http::{Method, Origin, Outcome, Status};
-use rkt_request::{Body0, Config, Ctx, Managed, Request, Types};
+use rkt_http::{Method, Outcome, Status};
+use rkt_request::{Body0, Config, Ctx, Managed, Request};
 use rkt_response::Response;
-use rkt_turn::{Reason, TripWire};
+use rkt_turn::TripWire;
 use std::alloc::Global;
 use std::process::Abort;
 use std::test::Fail;
-
-struct Sample;
-
-#[derive(Clone, Copy)]
-struct Stopped;
-
-impl Reason for Stopped {
-    ghost use Rattle.std.specs.Prelude.{◌≡◌};
-
-    ghost allowed = { λ word. word ≡ 2 };
-
-    fn word(self) -> u64 {
-        2
-    }
-}
-
-impl Types for Sample {
-    type Source = MemorySource;
-
-    type Stream = MemorySource;
-
-    type Cached = u8;
-
-    type Value = u8;
-
-    type Reason = Stopped;
-}
 
 // Leaves each request to another route.
 struct Passes;
@@ -118,13 +92,6 @@ fn ctx(alloc: Global) -> Result<Ctx<Sample>, Fail> {
     Ok(Ctx::new(alloc, CookieJar::new(alloc), shutdown, GATE))
 }
 
-fn origin(alloc: Global) -> Result<Origin, Fail> {
-    match Origin::parse(alloc, "/") {
-        Ok(uri) => Ok(uri),
-        Err(_) => Err(Fail::from("no origin")),
-    }
-}
-
 fn is_answered_empty(
     rt: &impl Abort,
     alloc: Global,
@@ -175,7 +142,7 @@ fn is_caught(
 fn callbacks_answer_when_they_are_polled(rt: HostRuntime) -> Result<(), Fail> {
     let config = Config::default(rt.alloc())?;
     let managed = Managed::new(rt.alloc());
-    let uri = origin(rt.alloc())?;
+    let uri = origin(rt.alloc(), "/")?;
     let request = Request::<Sample>::new(rt.alloc(), &config, &managed, Method::Get, uri)?;
     let mut ctx = ctx(rt.alloc())?;
     is_answered_empty(&rt, rt.alloc(), &request, &mut ctx)?;
