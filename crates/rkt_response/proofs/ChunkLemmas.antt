@@ -1,5 +1,5 @@
 -- A body in chunks.
-use Rattle.std.proofs.Common.{◌≡◌, ◌<◌, ◌≤◌, ◌++◌, ◌∙◌, ◌⊎◌, inl, inr, ℕ, zero, suc, arith, List, [], ◌∷◌, Option, Some, None, Ok, length, map, take, drop, option_map, refl, sym, ap, subst, length-take, take-append-drop}
+use Rattle.std.proofs.Common.{◌≡◌, ◌<◌, ◌++◌, ◌∙◌, ◌⊎◌, inl, inr, ℕ, zero, suc, arith, List, [], ◌∷◌, Option, Some, None, Ok, length, map, take, drop, option_map, refl, sym, ap, subst, length-take, take-append-drop}
 use Rattle.std.specs.List.{AllByRecursion, concat}
 use Rattle.std.specs.Option.{ForSome}
 use Rattle.rkt_base.specs.declared.poll.Poll.TheVariants.{Ready}

@@ -1,7 +1,7 @@
 -- Bodies that are read on, several times.
 use Rattle.std.specs.Option.{ForSome}
 use Rattle.std.specs.Prelude.{option_map}
-use Rattle.std.proofs.Common.{◌≡◌, ℕ, ◌+◌, ◌≤◌, ◌++◌, ◌∙◌, ◌<◌, List, [], length, take, drop, Option, None, Some, refl, sym, ap, subst, arith, append_assoc, append-nil, length-append, length-take-le, drop-drop, take-append-drop}
+use Rattle.std.proofs.Common.{◌≡◌, ℕ, ◌+◌, ◌≤◌, ◌++◌, ◌∙◌, List, length, take, drop, Option, None, Some, refl, sym, ap, subst, arith, append_assoc, length-append, length-take-le, drop-drop, take-append-drop}
 use Rattle.rkt_data.proofs.Pulls.{Keeps-refl, Keeps-trans, front_of, same_front}
 use Rattle.rkt_data.proofs.Taps.{Polls-trans}
 use Rattle.rkt_data.specs.Gathering.{data_error_of}

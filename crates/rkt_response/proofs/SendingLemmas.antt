@@ -1,15 +1,13 @@
 -- The pieces of a response, poll by poll.
-use Rattle.std.proofs.Common.{◌≡◌, ◌<◌, ◌≤◌, ◌+◌, ◌∙◌, inr, ℕ, true, arith, List, [], ◌∷◌, refl, sym, ap, subst}
+use Rattle.std.proofs.Common.{◌≡◌, ◌<◌, ◌∙◌, ℕ, true, List, ◌∷◌, sym, ap, subst}
 use Rattle.rkt_data.specs.Source.{Meaning}
-use Rattle.rkt_response.specs.Body.{BodyOf, left_of}
 use Rattle.rkt_response.specs.Chunks.{ReadsChunk}
-use Rattle.rkt_response.specs.Reading.{StreamWaits}
 use Rattle.rkt_response.specs.Response.{ResponseOf}
 use Rattle.rkt_response.specs.Sending.{Gives, IsHead, Owes, OwesAt, Sending, stage_after}
 use Rattle.rkt_response.specs.Sent.{SentBody, has_head, head_of}
 use Rattle.rkt_response.specs.declared.chunk.ChunkRead.TheVariants as chunk_read
 use Rattle.rkt_response.specs.declared.piece.Piece.{Piece}
-use Rattle.rkt_response.specs.declared.piece.Piece.TheVariants.{Chunk, End}
+use Rattle.rkt_response.specs.declared.piece.Piece.TheVariants.{Chunk}
 use Rattle.rkt_response.specs.declared.stage.Stage.{Stage}
 use Rattle.rkt_response.specs.declared.stage.Stage.TheVariants as stage
 use Rattle.rkt_response.proofs.ChunkLemmas.{can_be_sent, chunk_first}

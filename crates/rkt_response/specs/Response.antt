@@ -1,6 +1,6 @@
 -- What contracts see of a response.
 use Rattle.std.specs.Option.{option_or}
-use Rattle.std.specs.Prelude.{◌≡◌, ℕ, ◌⊎◌, List, [], ◌∷◌, Option, Some, None, fold, if◌then◌else◌}
+use Rattle.std.specs.Prelude.{◌≡◌, ℕ, ◌⊎◌, List, [], ◌∷◌, Option, None, fold, if◌then◌else◌}
 use Rattle.rkt_cookie.specs.Cookie.{Parts}
 use Rattle.rkt_cookie.specs.Reading.{Reads, IsNoPair, first_piece}
 use Rattle.rkt_http.specs.Headers.{Group, added_all, replaced_all}

@@ -7,6 +7,8 @@ use std::process::Abort;
 use std::test::Fail;
 
 mod responders;
+pub mod sample;
+pub mod stalling;
 
 const GATE: Gate = Gate {
     moment: 0,

@@ -1,6 +1,10 @@
 use crate::FlashMessage;
+use crate::tests::sample::{Sample, context, origin};
 use rkt_cookie::{Cookie, CookieJar};
+use rkt_http::{Method, Outcome, Status};
+use rkt_request::{Config, Ctx, Managed, Request};
 use std::alloc::Global;
+use std::process::Abort;
 use std::test::Fail;
 
 /// A jar with which this flash cookie came.
@@ -64,4 +68,65 @@ fn the_cookie_is_removed_once(rt: HostRuntime) -> Result<(), Fail> {
         "_flash=; SameSite=Lax; Path=/; Max-Age=0; Expires=Thu, 01 Jan 1970 00:00:01 GMT"
     );
     Ok(())
+}
+
+/// The kind and the message that the guard gives, or the status with which it errs.
+fn guarded(
+    alloc: Global,
+    request: &Request<'_, Sample>,
+    ctx: &mut Ctx<Sample>,
+) -> Result<Result<(String, String), Status>, Fail> {
+    match request.guard::<FlashMessage>(alloc, ctx)? {
+        Outcome::Success(message) => Ok(Ok(message.into_inner(alloc, ctx.cookies_mut())?)),
+        Outcome::Error((status, ())) => Ok(Err(status)),
+        Outcome::Forward(_) => Err(Fail::from("forwarded")),
+    }
+}
+
+fn gives_kind_and_message(
+    rt: &impl Abort,
+    alloc: Global,
+    request: &Request<'_, Sample>,
+) -> Result<(), Fail> {
+    let mut ctx = context(alloc, jar(alloc, "3:abcdef")?)?;
+    let Ok(parts) = guarded(alloc, request, &mut ctx)? else {
+        panic!(rt; "an error")
+    };
+    assert_eq!(rt; parts.0.as_str(), "abc");
+    assert_eq!(rt; parts.1.as_str(), "def");
+    Ok(())
+}
+
+fn errs_with_400(
+    rt: &impl Abort,
+    alloc: Global,
+    request: &Request<'_, Sample>,
+    jar: CookieJar,
+) -> Result<(), Fail> {
+    let mut ctx = context(alloc, jar)?;
+    assert!(rt; guarded(alloc, request, &mut ctx)? == Err(Status::BadRequest));
+    assert_eq!(rt; ctx.cookies().log().len(), 0);
+    Ok(())
+}
+
+fn errs_with_400_at_each(
+    rt: &impl Abort,
+    alloc: Global,
+    request: &Request<'_, Sample>,
+) -> Result<(), Fail> {
+    errs_with_400(rt, alloc, request, CookieJar::new(alloc))?;
+    for value in ["9:ab", "1:é", "x"] {
+        errs_with_400(rt, alloc, request, jar(alloc, value)?)?;
+    }
+    Ok(())
+}
+
+#[test]
+fn the_guard_reads_the_cookie(rt: HostRuntime) -> Result<(), Fail> {
+    let config = Config::default(rt.alloc())?;
+    let managed = Managed::new(rt.alloc());
+    let uri = origin(rt.alloc())?;
+    let request = Request::<Sample>::new(rt.alloc(), &config, &managed, Method::Get, uri)?;
+    gives_kind_and_message(&rt, rt.alloc(), &request)?;
+    errs_with_400_at_each(&rt, rt.alloc(), &request)
 }

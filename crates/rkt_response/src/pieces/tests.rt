@@ -3,6 +3,7 @@ ghost use Rattle.std.specs.Prelude.{◌≡◌, ◌≢◌, IfOk};
 ghost use Rattle.rkt_response.specs.Sending.{stage_after};
 
 use crate::stage::Stage;
+use crate::tests::stalling::Stalling;
 use crate::{Body, Piece, PieceError, Pieces, Response};
 use rkt_base::{Poll, Text};
 use rkt_data::{Gate, MemorySource, Source};
@@ -273,5 +274,47 @@ fn what_is_left_is_handed_back(rt: HostRuntime) -> Result<(), Fail> {
     push_next(alloc, &mut all, &mut pieces)?;
     let mut response = pieces.into_response();
     assert_eq!(rt; response.body_mut().size(), Some(5));
+    Ok(())
+}
+
+// Pending `row` times before each read of two bytes, as long as it has `waits` left.
+fn stalled(alloc: Global, row: u32, waits: u64) -> Result<Response<Stalling>, Fail> {
+    let mut response = Response::new(alloc);
+    let source = MemorySource::new(bytes_of(alloc, "abc")?, 2, Vec::new(alloc));
+    response.set_streamed_body(Stalling::new(source, row, waits));
+    Ok(response)
+}
+
+#[test]
+fn a_body_that_waits_for_good_is_given_up(rt: HostRuntime) -> Result<(), Fail> {
+    let alloc = rt.alloc();
+    for (turns, want) in [
+        (0, "[200][body fault]"),
+        (1, "[200][body fault]"),
+        (2, "[200][pending][body fault]"),
+        (5, "[200][pending][pending][pending][pending][body fault]"),
+    ] {
+        let response = stalled(alloc, u32::MAX, u64::MAX)?;
+        expect(&rt, alloc, response, turns, want)?;
+    }
+    Ok(())
+}
+
+#[test]
+fn only_pendings_in_a_row_count(rt: HostRuntime) -> Result<(), Fail> {
+    let alloc = rt.alloc();
+    for (row, waits, want) in [
+        (u32::MAX, 2, "[200][pending][pending][ab][c][end]"),
+        (1, 9, "[200][pending][ab][pending][c][pending][end]"),
+        (
+            2,
+            9,
+            "[200][pending][pending][ab][pending][pending][c][pending][pending][end]",
+        ),
+        (3, 9, "[200][pending][pending][body fault]"),
+    ] {
+        let response = stalled(alloc, row, waits)?;
+        expect(&rt, alloc, response, 3, want)?;
+    }
     Ok(())
 }

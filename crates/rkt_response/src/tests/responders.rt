@@ -1,4 +1,5 @@
-use super::{GATE, shown as headers_of};
+use super::sample::{Sample, context, origin};
+use super::shown as headers_of;
 use crate::responder::content::{RawHtml, RawJson};
 use crate::responder::status::{Accepted, Conflict, Created, Custom, NoContent};
 use crate::responder::stream::{ByteStream, TextStream};
@@ -7,57 +8,22 @@ use either::{Either, Left, Right};
 use rkt_base::Want;
 use rkt_cookie::CookieJar;
 use rkt_data::{Capped, MemorySource, SourceError};
-use rkt_http::{ContentType, Known, Method, Origin, Status};
-use rkt_request::{Config, Ctx, Managed, Request, Types};
-use rkt_turn::{Reason, TripWire};
+use rkt_http::{ContentType, Known, Method, Status};
+use rkt_request::{Config, Managed, Request};
 use std::alloc::Global;
 use std::borrow::{CowSlice, CowStr};
 use std::boxed::BoxedStr;
 use std::sync::{ArcSlice, ArcStr};
 use std::test::Fail;
 
-struct Sample;
-
-#[derive(Clone, Copy)]
-struct Stopped;
-
-impl Reason for Stopped {
-    ghost use Rattle.std.specs.Prelude.{◌≡◌};
-
-    ghost allowed = { λ word. word ≡ 2 };
-
-    fn word(self) -> u64 {
-        2
-    }
-}
-
-impl Types for Sample {
-    type Source = MemorySource;
-
-    type Stream = MemorySource;
-
-    type Cached = u8;
-
-    type Value = u8;
-
-    type Reason = Stopped;
-}
-
-fn ctx(alloc: Global) -> Result<Ctx<Sample>, Fail> {
-    let (_wire, shutdown) = TripWire::<Stopped>::new(alloc)?;
-    Ok(Ctx::new(alloc, CookieJar::new(alloc), shutdown, GATE))
-}
-
 type Answered = Result<Response<MemorySource>, Want<Status>>;
 
 fn answer<R: Responder<Sample> + Drop>(alloc: Global, responder: R) -> Result<Answered, Fail> {
     let config = Config::default(alloc)?;
     let managed = Managed::new(alloc);
-    let Ok(uri) = Origin::parse(alloc, "/") else {
-        return Err(Fail::from("no origin"));
-    };
+    let uri = origin(alloc)?;
     let request = Request::<Sample>::new(alloc, &config, &managed, Method::Get, uri)?;
-    let mut ctx = ctx(alloc)?;
+    let mut ctx = context(alloc, CookieJar::new(alloc))?;
     Ok(responder.respond_to(alloc, &request, &mut ctx))
 }
 

@@ -1,6 +1,6 @@
-use Rattle.std.proofs.Common.{rules, ◌≡◌, ◌∙◌, arith, ap, subst, sym, ℕ, length, take}
+use Rattle.std.proofs.Common.{◌≡◌, ◌∙◌, arith, ap, sym, length, take}
 use Rattle.std.proofs.lemmas.List.{with_items_is}
-use Rattle.rkt_response.specs.Chunks.{IsRoom, ReadsChunk}
+use Rattle.rkt_response.specs.Chunks.{IsRoom}
 use Rattle.rkt_response.proofs.ChunkLemmas.{chunk_at_end, chunk_read}
 use Rattle.rkt_response.proofs.chunk.read_chunk.Goals.{in-Ready-Ok-eq0, in-Ready-Ok, in-Ready-Err, in-Pending}
 use Rattle.rkt_response.proofs.chunk.read_chunk.Goals as goal

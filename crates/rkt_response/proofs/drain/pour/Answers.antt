@@ -1,4 +1,4 @@
-use Rattle.std.proofs.Common.{◌≡◌, ◌∙◌, ◌<◌, length, sym, subst, arith, length-drop, length-take, length-append}
+use Rattle.std.proofs.Common.{◌≡◌, ◌∙◌, sym, subst, arith, length-drop, length-take, length-append}
 use Rattle.rkt_response.specs.Reading.{Takes}
 use Rattle.rkt_response.proofs.Readings.{BytesErr-after, BytesErr-read, Draws-nothing, Draws-read, Draws-start, StreamWaits-after, left_same}
 use Rattle.rkt_response.proofs.drain.pour.Goals as goal

@@ -1,4 +1,4 @@
-use Rattle.std.proofs.Common.{◌≡◌, ◌∙◌, List, ℕ, None, subst, sym, ap}
+use Rattle.std.proofs.Common.{◌∙◌, List, subst, sym, ap}
 use Rattle.rkt_http.specs.Headers.{Group, group_of}
 use Rattle.rkt_response.specs.Tidy.{IsTidy}
 use Rattle.rkt_response.proofs.TidyGroups.{group_of-merged_groups, tidy-merged_groups}

@@ -1,4 +1,4 @@
-use Rattle.std.proofs.Common.{◌≡◌, ◌<◌, ◌∙◌, arith, ap, refl}
+use Rattle.std.proofs.Common.{◌≡◌, ◌∙◌, arith, ap, refl}
 use Rattle.rkt_response.specs.declared.stage.Stage.TheVariants as stage
 use Rattle.rkt_response.proofs.ReadOnLemmas.{never_waited, reads_more, sends_on, waited_more, waited_still}
 use Rattle.rkt_response.proofs.Readings.{ByGate-refl}

@@ -1,7 +1,5 @@
-use Rattle.std.proofs.Common.{◌≡◌, ◌∙◌, ◌++◌, ◌∷◌, List, [], inl, refl, sym, subst, rules, arith, append-nil, append_assoc}
+use Rattle.std.proofs.Common.{◌≡◌, ◌++◌, ◌∷◌, [], inl, refl, sym, subst, rules, arith, append-nil}
 use Rattle.std.proofs.lemmas.Grind.{common_steps}
-use Rattle.rkt_cookie.specs.Cookie.{Parts}
-use Rattle.rkt_http.specs.Headers.{values_of}
 use Rattle.rkt_response.specs.Response.{ReadsCookies}
 use Rattle.rkt_response.proofs.response.Response.cookies.Goals as goal
 
