@@ -2,6 +2,7 @@ pub mod Balance
 pub mod Clocks
 pub mod Core
 pub mod Pieces
+pub mod BodyReads
 pub mod Sendings
 pub mod Pushes
 pub mod Listening

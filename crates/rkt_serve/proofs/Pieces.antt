@@ -7,6 +7,7 @@ use Rattle.rkt_request.specs.Seen.{Seen}
 use Rattle.rkt_life.specs.Lifecycle.{Lifecycle}
 use Rattle.rkt_life.specs.Rocket.{SeenTables}
 use Rattle.rkt_life.specs.declared.run.RunOf.{RunOf}
+use Rattle.rkt_response.specs.Reading.{ReadsOn}
 use Rattle.rkt_response.specs.Response.{ResponseOf}
 use Rattle.rkt_response.specs.Sending.{ReadOn}
 use Rattle.rkt_response.specs.declared.piece.Piece.{Piece}
@@ -41,9 +42,9 @@ held_only (Some old) pieces held fresh is = let empty : old ≡ [] = fresh old r
 pub caused_sent : {C S K H V : Type 0} (may : H → Seen V → List ℕ → Type 0) (tables : SeenTables H V) (stream : S → Meaning) (meaning : K → LinkMeaning) (entry : EntryOf C S K) (old : LinkMeaning) (run : RunOf C)
     (first response : ResponseOf S) (ended : Ending) (taken : List Piece) → entry ≡ record { link = entry.link; run = Some run; response = Some response; end = ended }
     → ForSome old.asked (λ asked. Lifecycle may tables asked.head run first) → ForSome old.held (λ held. held ≡ []) → ReadOn stream first response
-    → IsSentAs stream (max tables.config.turns 1) first response ended taken → meaning entry.link ≡ with_taken old taken → Caused may tables stream meaning entry
-caused_sent may tables stream meaning entry old run first response Starved taken is lifecycle fresh on sent linked = absurd sent
-caused_sent may tables stream meaning entry old run first response Answered taken is lifecycle fresh on sent linked =
+    → ReadsOn stream None first.body.content response.body.content → IsSentAs stream (max tables.config.turns 1) first response ended taken → meaning entry.link ≡ with_taken old taken → Caused may tables stream meaning entry
+caused_sent may tables stream meaning entry old run first response Starved taken is lifecycle fresh on untripped sent linked = absurd sent
+caused_sent may tables stream meaning entry old run first response Answered taken is lifecycle fresh on untripped sent linked =
     subst (CausedAs may tables stream meaning entry) (sym (ap (λ (e : EntryOf _ _ _). e.end) is)) (record {
       run = run;
       run_kept = ap (λ (e : EntryOf _ _ _). e.run) is;
@@ -52,11 +53,12 @@ caused_sent may tables stream meaning entry old run first response Answered take
       response = response;
       response_kept = ap (λ (e : EntryOf _ _ _). e.response) is;
       read_on = on;
+      untripped = untripped;
       pieces = taken;
       sent = sent;
       held = λ held told. held_only old.held taken held fresh (sym (ap (λ (m : LinkMeaning). m.held) linked) ∙ told);
     })
-caused_sent may tables stream meaning entry old run first response (Failed failure) taken is lifecycle fresh on sent linked =
+caused_sent may tables stream meaning entry old run first response (Failed failure) taken is lifecycle fresh on untripped sent linked =
     subst (CausedAs may tables stream meaning entry) (sym (ap (λ (e : EntryOf _ _ _). e.end) is)) (record {
       run = run;
       run_kept = ap (λ (e : EntryOf _ _ _). e.run) is;
@@ -65,6 +67,7 @@ caused_sent may tables stream meaning entry old run first response (Failed failu
       response = response;
       response_kept = ap (λ (e : EntryOf _ _ _). e.response) is;
       read_on = on;
+      untripped = untripped;
       pieces = taken;
       sent = sent;
       held = λ held told. held_only old.held taken held fresh (sym (ap (λ (m : LinkMeaning). m.held) linked) ∙ told);

@@ -4,6 +4,7 @@ use Rattle.std.specs.List.{AllByRecursion}
 use Rattle.std.specs.Option.{ForSome}
 use Rattle.rkt_data.specs.Source.{Meaning}
 use Rattle.rkt_request.specs.Seen.{Seen}
+use Rattle.rkt_response.specs.Reading.{ReadsOn}
 use Rattle.rkt_response.specs.Response.{ResponseOf}
 use Rattle.rkt_response.specs.Sending.{ReadOn}
 use Rattle.rkt_response.specs.declared.piece.Piece.{Piece}
@@ -32,6 +33,8 @@ module _ {C S K H V : Type 0} (may : H → Seen V → List ℕ → Type 0) (tabl
     pub response : ResponseOf S
     pub response_kept : entry.response ≡ Some response
     pub read_on : ReadOn stream first response
+    -- no Gate with a trip was shown to the source of its body
+    pub untripped : ReadsOn stream None first.body.content response.body.content
     -- the pieces that were sent, which the link holds
     pub pieces : List Piece
     pub sent : IsSentAs stream (max tables.config.turns 1) first response ended pieces

@@ -1,5 +1,6 @@
 //! How a response is sent.
 ghost use Rattle.std.specs.Prelude.{◌≡◌, ◌≢◌, ◌∷◌, [], Err, List, IfOk, OnOk, false, max};
+ghost use Rattle.rkt_response.specs.Reading.{ReadsOn};
 ghost use Rattle.rkt_response.specs.Sending.{ReadOn};
 ghost use Rattle.rkt_response.specs.Sent.{has_head};
 ghost use Rattle.rkt_response.specs.declared.piece.Piece.{Piece};
@@ -43,6 +44,7 @@ fn next_piece<R: Wait, S: Source>(
     ensures begun { pieces.new.begun ≡ pieces.old.begun }
     ensures turns { pieces.new.turns ≡ pieces.old.turns }
     ensures read_on { ReadOn S.meaning pieces.new.begun pieces.new.response }
+    ensures reads { ReadsOn S.meaning gate.tripped pieces.old.response.body.content pieces.new.response.body.content }
     ensures piece { IfOk result (λ piece. Advances S.meaning pieces.old piece pieces.new) }
     ensures bad_head { result ≡ Err PieceError.BadHead → (pieces.old.stage ≡ Stage.Head) × (has_head pieces.old.response ≡ false) }
     ensures body_fault { result ≡ Err PieceError.BodyFault → (pieces.old.stage ≡ Stage.Body) × BodyFails S.meaning pieces.old.turns pieces.old.begun pieces.new.response }
@@ -67,6 +69,7 @@ fn put_all<R: Wait, K: Link, S: Source>(
     requires begins { pieces.old.stage ≡ Stage.Head }
     requires first { pieces.old.response ≡ pieces.old.begun }
     ensures begun { pieces.new.begun ≡ pieces.old.begun }
+    ensures reads { ReadsOn S.meaning gate.tripped pieces.old.response.body.content pieces.new.response.body.content }
     ensures ended { IfOk result (λ ended. (taken : List Piece) × IsSentAs S.meaning pieces.old.turns pieces.old.begun pieces.new.response ended taken × (K.meaning link.new ≡ with_taken (K.meaning link.old) taken)) }
     ensures asked { (K.meaning link.new).asked ≡ (K.meaning link.old).asked }
 {
@@ -96,6 +99,7 @@ pub(crate) fn send<R: Wait, K: Link, S: Source>(
     gate: Gate,
 ) -> (Response<S>, Result<End, NoMemory>)
     ensures read_on { ReadOn S.meaning response result.0 }
+    ensures reads { ReadsOn S.meaning gate.tripped response.body.content result.0.body.content }
     ensures ended { IfOk result.1 (λ ended. (taken : List Piece) × IsSentAs S.meaning (max turns 1) response result.0 ended taken × (K.meaning link.new ≡ with_taken (K.meaning link.old) taken)) }
     ensures asked { (K.meaning link.new).asked ≡ (K.meaning link.old).asked }
 {

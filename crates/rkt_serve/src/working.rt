@@ -59,7 +59,8 @@ fn starved<C, S, K>(link: K) -> EntryOf<C, S, K>
 impl<'a, A: App, R> Worker<'a, A, R> {
     // What an exchange is told of the outside. There is no trip yet.
     fn gate(&self, moment: u64) -> Gate
-        ensures { result.moment ≡ moment }
+        ensures moment { result.moment ≡ moment }
+        ensures untripped { result.tripped ≡ None }
     {
         let tables = self.tables;
         Gate {
@@ -102,6 +103,7 @@ impl<'a, A: App, R: Wait> Worker<'a, A, R> {
         gate: Gate,
     ) -> Entry<A, K>
         requires fresh { IsFreshLink (K.meaning link) }
+        requires untripped { gate.tripped ≡ None }
         requires lifecycle { ForSome (K.meaning link).asked (λ asked. Lifecycle A.Handler.may self.now.tables.now asked.head run response) }
         ensures asked { (K.meaning result.link).asked ≡ (K.meaning link).asked }
         ensures caused { Caused A.Handler.may self.now.tables.now A.Stream.meaning K.meaning result }

@@ -1,3 +1,4 @@
+use Rattle.rkt_response.specs.Reading.{ReadsOn}
 use Rattle.rkt_serve.proofs.Sendings.{Waited}
 use Rattle.rkt_serve.proofs.send.next_piece.Given as goal
 
@@ -5,3 +6,4 @@ use Rattle.rkt_serve.proofs.send.next_piece.Given as goal
 abbrev pub invariant-loop : goal.invariant-loop
 invariant-loop g l = (goal.iterator-loop g).can_next l.iterator' × (goal.iterator-loop g).is_finite l.iterator'
     × Waited g.S.Source.meaning l.initial.pieces l.pieces
+    × ReadsOn g.S.Source.meaning l.gate.tripped l.initial.pieces.response.body.content l.pieces.response.body.content

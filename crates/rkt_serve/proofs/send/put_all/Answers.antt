@@ -1,11 +1,12 @@
 use Rattle.std.proofs.Common.{◌≡◌, ◌∙◌, ◌++◌, ◌∷◌, [], List, ap, sym}
 use Rattle.rkt_serve.specs.Link.{LinkMeaning, with_taken}
 use Rattle.rkt_serve.proofs.Pieces.{with_taken-nil, with_taken-with_taken}
+use Rattle.rkt_serve.proofs.BodyReads.{reads_none, reads_more}
 use Rattle.rkt_serve.proofs.Sendings.{sent_nothing, sent_more, sent_all}
 use Rattle.rkt_serve.proofs.send.put_all.Goals as goal
 
 pub loop-init : goal.loop-init
-loop-init g c = (tt, tt, ([], sent_nothing g.S.Source.meaning c.args.pieces.now c.requires.begins c.requires.first, sym (with_taken-nil _)))
+loop-init g c = (tt, tt, ([], sent_nothing g.S.Source.meaning c.args.pieces.now c.requires.begins c.requires.first, sym (with_taken-nil _)), reads_none g.S.Source.meaning c.args.gate.tripped c.args.pieces.now.response.body.content)
 
 pub returns-in-End-clause-ended : goal.returns-in-End-clause-ended
 returns-in-End-clause-ended g c =
@@ -27,6 +28,7 @@ loop-preserved-in_default g c =
         sent_more g.S.Source.meaning c.args.pieces.now c.loop.pieces c.next_piece.new.pieces inv.0 piece inv.1 c.in-Ok.ensures.piece c.next_piece.ensures.begun c.next_piece.ensures.turns c.next_piece.ensures.read_on c.in_default.not-End,
         c.in_ok-put.ensures.ok ∙ ap (λ (m : LinkMeaning). with_taken m (piece ∷ [])) inv.2 ∙ with_taken-with_taken _ inv.0 (piece ∷ []),
       ),
+      reads_more g.S.Source.meaning c.args.gate.tripped _ _ _ c.loop.invariant.3 c.next_piece.ensures.reads,
     )
 
 pub loop-preserved-in_default-2 : goal.loop-preserved-in_default-2
@@ -40,4 +42,5 @@ loop-preserved-in_default-2 g c =
         sent_more g.S.Source.meaning c.args.pieces.now c.loop.pieces c.next_piece.new.pieces inv.0 piece inv.1 c.in-Ok.ensures.piece c.next_piece.ensures.begun c.next_piece.ensures.turns c.next_piece.ensures.read_on c.in_default.not-End,
         c.in_ok-put.ensures.ok ∙ ap (λ (m : LinkMeaning). with_taken m (piece ∷ [])) inv.2 ∙ with_taken-with_taken _ inv.0 (piece ∷ []),
       ),
+      reads_more g.S.Source.meaning c.args.gate.tripped _ _ _ c.loop.invariant.3 c.next_piece.ensures.reads,
     )

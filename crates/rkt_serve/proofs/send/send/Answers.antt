@@ -1,4 +1,5 @@
 use Rattle.std.proofs.Common.{◌≡◌, ◌∙◌, ap, sym, subst}
+use Rattle.rkt_response.specs.Reading.{ReadsOn}
 use Rattle.rkt_response.specs.Response.{ResponseOf}
 use Rattle.rkt_response.specs.Sending.{ReadOn, Sending}
 use Rattle.rkt_serve.proofs.Pieces.{ended_as}
@@ -13,3 +14,10 @@ pub returns-clause-ended : goal.returns-clause-ended
 returns-clause-ended g c =
     ended_as g.S.Source.meaning c.put_all-ended.result _ _ _ _ _ _ _ _ (ap (λ (s : Sending _). s.turns) c.new-pieces.ensures.value) (ap (λ (s : Sending _). s.begun) c.new-pieces.ensures.value)
     (sym c.into_response.ensures.value) c.put_all-ended.ensures.ended
+
+pub returns-clause-reads : goal.returns-clause-reads
+returns-clause-reads g c =
+    let stream = g.S.Source.meaning in
+    let begins = ap (λ (s : Sending _). s.response) c.new-pieces.ensures.value in
+    subst (λ (p : ResponseOf _). ReadsOn stream c.args.gate.tripped c.args.response.body.content p.body.content) (sym c.into_response.ensures.value)
+    (subst (λ (p : ResponseOf _). ReadsOn stream c.args.gate.tripped p.body.content c.put_all-ended.new.pieces.response.body.content) begins c.put_all-ended.ensures.reads)
