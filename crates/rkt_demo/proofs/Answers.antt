@@ -1,6 +1,5 @@
 -- The sample has one answer to each request, and one text for it.
-use Rattle.std.proofs.Common.{◌≡◌, ◌++◌, ◌&&◌, ℕ, List, [], ◌∷◌, Bool, true, false, Option, Some, None, is_some, unwrap_or, if◌then◌else◌, codes, length, map, flat_map, refl, ap, ◌∙◌, sym, subst, append-nil, nat_eq}
-use Rattle.std.specs.Fmt.{decimal}
+use Rattle.std.proofs.Common.{◌≡◌, ◌++◌, ◌&&◌, ℕ, List, [], ◌∷◌, Bool, true, false, Option, Some, None, is_some, unwrap_or, if◌then◌else◌, codes, map, flat_map, refl, ap, ◌∙◌, sym, subst, append-nil, nat_eq}
 use Rattle.std.specs.Cmp.Lexicographic.{pointwise}
 use Rattle.std.specs.List.{concat}
 use Rattle.std.proofs.lemmas.Bool.{false≢true}
@@ -13,8 +12,7 @@ use Rattle.rkt_http.specs.declared.origin_place.Profile.TheVariants.{Request}
 use Rattle.rkt_request.specs.Incoming.{faults_of, headers_of, root}
 use Rattle.rkt_http.specs.Accept.{Weighed}
 use Rattle.rkt_http.specs.Headers.{Group}
-use Rattle.rkt_http.specs.Media.{Media, is_kind, known_media}
-use Rattle.rkt_http.specs.declared.content_type.Known.TheVariants.{Any}
+use Rattle.rkt_http.specs.Media.{Media, is_kind}
 use Rattle.rkt_request.specs.Seen.{Seen, ReadAs, IsAccepted}
 use Rattle.rkt_request.specs.declared.bad.Bad.{Bad}
 use Rattle.rkt_request.specs.declared.head.Head.{Head}
@@ -28,10 +26,10 @@ use Rattle.rkt_data.specs.Memory.{SourceInMemory, source_meaning}
 use Rattle.rkt_response.specs.Response.{ResponseOf}
 use Rattle.rkt_response.specs.Sent.{Sent, head_of}
 use Rattle.rkt_response.specs.declared.piece.Piece.{Piece}
-use Rattle.rkt_response.specs.declared.piece.Piece.TheVariants.{Head as HeadPiece, Chunk, End}
-use Rattle.rkt_demo.specs.Output.{head_text, body_bytes, answered_section, sent_section}
+use Rattle.rkt_response.specs.declared.piece.Piece.TheVariants.{Chunk, End}
+use Rattle.rkt_demo.specs.Output.{head_text, body_bytes, sent_section}
 use Rattle.rkt_demo.proofs.Origins.{is_origin-read}
-use Rattle.rkt_demo.specs.Printed.{asks_page, is_good, is_origin, page_section, typed_section, printed_section}
+use Rattle.rkt_demo.specs.Printed.{asks_page, is_good, page_section, typed_section, printed_section}
 use Rattle.rkt_demo.specs.Sample.{page_may, page_target, IsSample}
 use Rattle.rkt_demo.specs.declared.sample.Page.{Page}
 

@@ -1,5 +1,5 @@
 -- A request is text, and is cut at its first space.
-use Rattle.std.proofs.Common.{zero, suc, ◌≡◌, ◌<◌, ◌+◌, ◌==◌, ◌&&◌, ℕ, List, [], ◌∷◌, ◌++◌, Bool, true, false, None, inl, inr, length, not, take, drop, add-one, refl, ap, ◌∙◌, sym, subst, arith}
+use Rattle.std.proofs.Common.{zero, suc, ◌≡◌, ◌<◌, ◌+◌, ◌==◌, ℕ, List, [], ◌∷◌, ◌++◌, Bool, true, false, None, inl, inr, length, not, take, drop, add-one, refl, ap, ◌∙◌, sym, subst, arith}
 use Rattle.std.specs.List.{list_all, before_first, after_first, position_or_len}
 use Rattle.std.specs.Str.{IsAscii, IsUtf8}
 use Rattle.std.proofs.lemmas.Bool.{false≢true}

@@ -1,5 +1,5 @@
 -- What the program knows of its script from the bytes that it has read.
-use Rattle.std.proofs.Common.{suc, ◌≡◌, ◌+◌, ◌-◌, ℕ, inl, inr, List, [], ◌∷◌, Bool, Option, Some, None, take, drop, length, add-one, refl, ap, ◌∙◌, sym, subst}
+use Rattle.std.proofs.Common.{suc, ◌≡◌, ◌+◌, ◌-◌, ℕ, inl, inr, List, [], ◌∷◌, Bool, Option, take, drop, length, add-one, ap, ◌∙◌, sym, subst}
 use Rattle.std.proofs.Math.Seq.{take-length}
 use Rattle.std.specs.Option.{ForSome}
 use Rattle.rkt_data.specs.Source.{Meaning}
@@ -9,7 +9,7 @@ use Rattle.rkt_demo.proofs.Cuts.{bad_front, good_front}
 use Rattle.rkt_demo.proofs.Prints.{none_in_lines, printed_but_starved}
 use Rattle.rkt_demo.specs.Printed.{printed_but}
 use Rattle.rkt_demo.specs.Program.{IsScript, IsGoodScript}
-use Rattle.rkt_demo.specs.Script.{lines_of, IsGood, AreGood, IsFirstBad, heads_of}
+use Rattle.rkt_demo.specs.Script.{lines_of, AreGood, IsFirstBad, heads_of}
 use Rattle.rkt_demo.specs.declared.script.TheConstants.{SCRIPT_LIMIT}
 use Rattle.rkt_demo.specs.Shown.{Shown, ShownFrom}
 

@@ -13,12 +13,12 @@ use Rattle.rkt_response.specs.Sent.{has_head}
 use Rattle.rkt_response.specs.declared.content.Content.{Content}
 use Rattle.rkt_response.specs.declared.content.Content.TheVariants.{Sized}
 use Rattle.rkt_response.specs.declared.piece.Piece.{Piece}
-use Rattle.rkt_life.specs.Lifecycle.{Outcome, Success, Forward, Lifecycle, Responds, Tried, Finished}
+use Rattle.rkt_life.specs.Lifecycle.{Outcome, Lifecycle, Responds, Tried, Finished}
 use Rattle.rkt_life.specs.Response.{text_page, page_of}
 use Rattle.rkt_life.specs.Rocket.{SeenTables}
 use Rattle.rkt_life.specs.declared.run.Call.{Call}
 use Rattle.rkt_life.specs.declared.run.RunOf.{RunOf}
-use Rattle.rkt_serve.specs.Sent.{BodyFails, IsSentAs}
+use Rattle.rkt_serve.specs.Sent.{IsSentAs}
 use Rattle.rkt_serve.specs.declared.history.End.TheVariants.{Failed}
 use Rattle.rkt_serve.specs.declared.history.Failure.{Failure}
 use Rattle.rkt_serve.specs.declared.history.Failure.TheVariants.{BadHead, BodyFault}

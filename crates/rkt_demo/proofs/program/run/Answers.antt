@@ -1,4 +1,4 @@
-use Rattle.std.proofs.Common.{◌∙◌, inl, inr, sym, subst, refl, false, drop}
+use Rattle.std.proofs.Common.{◌∙◌, inl, inr, sym, subst, refl, drop}
 use Rattle.rkt_demo.specs.declared.script.TheConstants.{SCRIPT_LIMIT}
 use Rattle.rkt_data.specs.Sink.{Gains}
 use Rattle.rkt_demo.specs.Printed.{printed_but}

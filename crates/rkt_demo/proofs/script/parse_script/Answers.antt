@@ -1,4 +1,4 @@
-use Rattle.std.proofs.Common.{◌≡◌, ◌≤◌, ◌+◌, ◌++◌, ◌∙◌, List, length, refl, inl, inr, ap, sym, append_assoc, length-append, arith, option_to_list}
+use Rattle.std.proofs.Common.{◌≡◌, ◌++◌, ◌∙◌, List, length, refl, inl, inr, ap, append_assoc, length-append, arith, option_to_list}
 use Rattle.rkt_request.specs.declared.head.Head.{Head}
 use Rattle.rkt_demo.specs.Script.{lines_of, content_of, IsGood, IsContent, asked_by, heads_of}
 use Rattle.rkt_demo.proofs.script.parse_script.Goals as goal
