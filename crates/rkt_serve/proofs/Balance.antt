@@ -1,5 +1,5 @@
 -- A history grows by one exchange at a time.
-use Rattle.std.proofs.Common.{inl, inr, ◌⊎◌, ◌≡◌, ◌<◌, ◌≤◌, ◌+◌, ◌++◌, ℕ, nat_lt, Bool, true, false, ◌==◌, ◌||◌, List, [], ◌∷◌, Option, Some, None, slice_get, length, if◌then◌else◌, refl, ap, ◌∙◌, sym, subst, append_assoc, arith, length-append}
+use Rattle.std.proofs.Common.{inl, inr, ◌⊎◌, ◌≡◌, ◌<◌, ◌≤◌, ◌+◌, ◌++◌, ℕ, nat_lt, true, false, ◌==◌, List, [], ◌∷◌, Option, Some, None, slice_get, length, if◌then◌else◌, refl, ap, ◌∙◌, sym, subst, append_assoc, arith, length-append}
 use Rattle.std.proofs.lemmas.Grind.{common_steps}
 use Rattle.std.proofs.lemmas.Bool.Decides.{nat_tests}
 use Rattle.std.specs.List.{list_any, count_by}
@@ -7,12 +7,11 @@ use Rattle.std.specs.Option.{ForSome}
 use Rattle.rkt_data.specs.Source.{Meaning}
 use Rattle.rkt_request.specs.Seen.{Seen}
 use Rattle.rkt_life.specs.Rocket.{SeenTables}
-use Rattle.rkt_life.specs.declared.run.RunOf.{RunOf}
 use Rattle.rkt_serve.proofs.Pushes.{any_push, count_push, any_none, all_push, after_push, nat_cases, get_last, get_within, latest_push, end_of_front, end_of_past, end_of_this}
 use Rattle.rkt_serve.specs.Asked.{Asked}
 use Rattle.rkt_serve.specs.Causes.{Caused, CauseOf}
 use Rattle.rkt_serve.specs.Clock.{IsWithin}
-use Rattle.rkt_serve.specs.Events.{is_admit, admits_by, admits_until, admits, admitted, ends, is_close, latest, end_of, InOrder}
+use Rattle.rkt_serve.specs.Events.{is_admit, admits_by, admits_until, admits, admitted, ends, is_close, latest, InOrder}
 use Rattle.rkt_serve.specs.Headline.{HasEntry, Balanced, IsLegal, TimedIn}
 use Rattle.rkt_serve.specs.Link.{LinkMeaning}
 use Rattle.rkt_serve.specs.Listener.{GivesMore}

@@ -1,6 +1,5 @@
 -- The greatest moment so far.
-use Rattle.std.proofs.Common.{zero, suc, ◌≡◌, ◌≤◌, ◌<◌, ◌+◌, ◌++◌, ℕ, max, List, [], ◌∷◌, Some, refl, get_or, length, take, arith, ap, ◌∙◌, sym}
-use Rattle.std.proofs.lemmas.Grind.{common_steps}
+use Rattle.std.proofs.Common.{zero, suc, ◌≡◌, ◌≤◌, ◌<◌, ◌+◌, ℕ, max, List, [], ◌∷◌, Some, refl, get_or, length, take, arith}
 use Rattle.rkt_serve.specs.Memory.{first, greatest}
 
 greatest_take_more : (xs : List ℕ) (n x : ℕ) → n < length xs → x ≡ get_or xs n x → greatest (take (suc n) xs) ≡ max (greatest (take n xs)) x

@@ -1,11 +1,11 @@
 -- What holds of every ordered list of events.
-use Rattle.std.proofs.Common.{◌≡◌, ◌<◌, ◌≤◌, ◌+◌, ◌++◌, ◌↔◌, ℕ, nat_lt, Bool, true, false, ◌==◌, ◌||◌, List, [], ◌∷◌, Option, Some, None, is_some, if◌then◌else◌, refl, ap, ◌∙◌, sym, subst, append_assoc, append-nil, arith, rules}
+use Rattle.std.proofs.Common.{◌≡◌, ◌<◌, ◌≤◌, ◌+◌, ◌++◌, ◌↔◌, ℕ, nat_lt, Bool, true, false, ◌==◌, List, [], ◌∷◌, Option, Some, None, is_some, if◌then◌else◌, refl, ap, ◌∙◌, sym, subst, append_assoc, append-nil, arith}
 use Rattle.std.proofs.lemmas.Grind.{common_steps}
 use Rattle.std.proofs.lemmas.Bool.Decides.{nat_tests}
 use Rattle.std.specs.List.{list_any, count_by}
 use Rattle.rkt_serve.proofs.Pushes.{any_push, count_push, any_some, some_any, none_any, after_last, has_end}
 use Rattle.rkt_serve.specs.After.{AfterFrom}
-use Rattle.rkt_serve.specs.Events.{is_admit, admits_by, admits, admitted, ends, is_close, end_of, InOrder, Ordered, IsClosed}
+use Rattle.rkt_serve.specs.Events.{is_admit, admits, admitted, ends, end_of, InOrder, Ordered, IsClosed}
 use Rattle.rkt_serve.specs.declared.history.EventOf.{EventOf}
 use Rattle.rkt_serve.specs.declared.history.EventOf.TheVariants.{Lift, Admit, End, Close}
 

@@ -1,6 +1,5 @@
 -- Entries, each noted at the place of its number.
 use Rattle.std.proofs.Common.{zero, suc, ◌≡◌, ◌≤◌, ◌<◌, ◌+◌, ◌++◌, ℕ, Bool, true, false, ◌==◌, List, [], ◌∷◌, Option, Some, None, is_none, slice_get, slice_set, get_or, length, map, replicate, if◌then◌else◌, refl, ap, ◌∙◌, sym, subst, arith, Bor}
-use Rattle.std.proofs.lemmas.Grind.{common_steps}
 use Rattle.std.proofs.lemmas.Bool.Decides.{nat_tests}
 use Rattle.std.specs.Option.{option_copied}
 use Rattle.rkt_serve.proofs.Pushes.{end_of_front}

@@ -1,5 +1,5 @@
 -- A handle that is lent again and again.
-use Rattle.std.proofs.Common.{◌≡◌, ◌<◌, ◌≤◌, ℕ, max, ◌∙◌, refl, sym, subst, arith}
+use Rattle.std.proofs.Common.{◌≡◌, ◌<◌, ℕ, max, ◌∙◌, refl, sym, subst, arith}
 use Rattle.rkt_turn.specs.Shutdown.{Handle}
 use Rattle.rkt_turn.specs.HandsBack.{HandsBack}
 

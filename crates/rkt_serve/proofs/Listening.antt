@@ -1,7 +1,5 @@
 -- A listener gives its next link.
-use Rattle.std.proofs.Common.{zero, suc, ◌≡◌, ◌+◌, ◌++◌, ℕ, List, [], ◌∷◌, take, drop, map, arith, ap, refl, add-one}
-use Rattle.std.proofs.lemmas.Grind.{common_steps}
-use Rattle.rkt_serve.specs.Asked.{Asked}
+use Rattle.std.proofs.Common.{zero, suc, ◌≡◌, ◌+◌, ◌++◌, ℕ, List, [], ◌∷◌, take, drop, map, ap, add-one}
 use Rattle.rkt_serve.specs.Memory.{LinkInMemory, asked_of}
 
 asks_suc : (links : List LinkInMemory) (given : ℕ) (link : LinkInMemory) (rest : List LinkInMemory) → drop given links ≡ link ∷ rest

@@ -1,5 +1,5 @@
 -- What a link holds, piece by piece.
-use Rattle.std.proofs.Common.{◌≡◌, ◌++◌, ℕ, max, arith, subst, List, [], ◌∷◌, Option, Some, None, option_map, Result, Ok, Err, IfOk, ap, ◌∙◌, sym, refl, append_assoc, append-nil}
+use Rattle.std.proofs.Common.{◌≡◌, ◌++◌, ℕ, max, arith, subst, List, [], Option, Some, None, option_map, Result, Ok, Err, IfOk, ap, ◌∙◌, sym, refl, append_assoc, append-nil}
 use Rattle.std.proofs.lemmas.Grind.{common_steps}
 use Rattle.std.specs.Option.{ForSome}
 use Rattle.rkt_data.specs.Source.{Meaning}
@@ -11,7 +11,6 @@ use Rattle.rkt_response.specs.Reading.{ReadsOn}
 use Rattle.rkt_response.specs.Response.{ResponseOf}
 use Rattle.rkt_response.specs.Sending.{ReadOn}
 use Rattle.rkt_response.specs.declared.piece.Piece.{Piece}
-use Rattle.rkt_serve.specs.Asked.{Asked}
 use Rattle.rkt_serve.specs.Causes.{CausedAs, Caused}
 use Rattle.rkt_serve.specs.Link.{LinkMeaning, with_taken}
 use Rattle.rkt_serve.specs.Sent.{IsSentAs}

@@ -1,6 +1,5 @@
 -- How a response is sent, piece by piece.
-use Rattle.std.proofs.Common.{◌≡◌, ◌≢◌, ◌<◌, ◌≤◌, ◌++◌, ◌∙◌, inl, inr, ℕ, Bool, false, Result, Ok, Err, IfOk, List, [], ◌∷◌, Option, arith, refl, ap, sym, subst, map, append_assoc}
-use Rattle.std.proofs.lemmas.Grind.{common_steps}
+use Rattle.std.proofs.Common.{◌≡◌, ◌≢◌, ◌≤◌, ◌++◌, ◌∙◌, inl, inr, ℕ, false, Result, Ok, Err, IfOk, List, [], ◌∷◌, Option, arith, refl, ap, sym, subst, map, append_assoc}
 use Rattle.rkt_base.specs.Counts.{Rose}
 use Rattle.rkt_base.specs.Poll.{IfReadyOk}
 use Rattle.rkt_base.specs.declared.poll.Poll.TheVariants.{Ready}
@@ -19,7 +18,7 @@ use Rattle.rkt_response.specs.declared.piece.PieceError.{PieceError}
 use Rattle.rkt_response.specs.declared.stage.Stage.{Stage}
 use Rattle.rkt_response.specs.declared.stage.Stage.TheVariants as stage
 use Rattle.rkt_serve.specs.Progress.{Advances, PartlySent}
-use Rattle.rkt_serve.specs.Sent.{BodyFails, IsProperFront}
+use Rattle.rkt_serve.specs.Sent.{BodyFails}
 
 rose_before : (a b c : ℕ) → a ≤ b → Rose b c → Rose a c
 rose_before a b c less rose = omega (arith, less, rose)

@@ -1,5 +1,5 @@
 -- What stands behind each event.
-use Rattle.std.specs.Prelude.{◌≡◌, ℕ, max, List, [], Option, Some, None}
+use Rattle.std.specs.Prelude.{◌≡◌, ℕ, max, List, [], Some, None}
 use Rattle.std.specs.List.{AllByRecursion}
 use Rattle.std.specs.Option.{ForSome}
 use Rattle.rkt_data.specs.Source.{Meaning}

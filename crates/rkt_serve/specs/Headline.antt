@@ -1,11 +1,10 @@
 -- What a launch promises of its history.
-use Rattle.std.specs.Prelude.{◌≡◌, ◌<◌, ◌≤◌, ℕ, Bool, false, List, Option, Some, None, length, slice_get}
+use Rattle.std.specs.Prelude.{◌≡◌, ◌<◌, ◌≤◌, ℕ, false, List, Option, Some, length, slice_get}
 use Rattle.std.specs.List.{AllByRecursion, list_any}
 use Rattle.std.specs.Option.{ForSome}
 use Rattle.rkt_data.specs.Source.{Meaning}
 use Rattle.rkt_request.specs.Seen.{Seen}
 use Rattle.rkt_life.specs.Rocket.{SeenTables}
-use Rattle.rkt_life.specs.declared.run.RunOf.{RunOf}
 use Rattle.rkt_serve.specs.Asked.{Asked}
 use Rattle.rkt_serve.specs.Causes.{Caused, AllCaused}
 use Rattle.rkt_serve.specs.Clock.{IsWithin}

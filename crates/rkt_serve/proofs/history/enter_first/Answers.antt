@@ -1,4 +1,4 @@
-use Rattle.std.proofs.Common.{rules, arith, ◌≡◌, ◌<◌, ◌≤◌, ◌∙◌, length, get_or, is_none, true, false}
+use Rattle.std.proofs.Common.{rules, arith, ◌≡◌, ◌<◌, ◌≤◌, length, is_none, true, false}
 use Rattle.std.proofs.lemmas.Grind.{common_steps}
 use Rattle.rkt_serve.proofs.Entries.{entered, noted_before, noted_nowhere}
 use Rattle.rkt_serve.proofs.history.enter_first.Goals.{else-at-len-via-then-at-len+else-is_none, else-at-len-via-else-at-len}

@@ -1,5 +1,4 @@
-use Rattle.std.proofs.Common.{rules, ◌≡◌, ◌∙◌, ap, arith, ℕ}
-use Rattle.rkt_serve.proofs.Entries.{nones, nones_more}
+use Rattle.rkt_serve.proofs.Entries.{nones_more}
 use Rattle.rkt_serve.proofs.history.none_of.Goals as goal
 
 pub loop-preserved : goal.loop-preserved

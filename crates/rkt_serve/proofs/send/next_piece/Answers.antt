@@ -1,4 +1,4 @@
-use Rattle.std.proofs.Common.{◌≡◌, ◌∙◌, ap, sym, refl}
+use Rattle.std.proofs.Common.{◌∙◌, ap, sym, refl}
 use Rattle.rkt_base.specs.declared.poll.Poll.TheVariants.{Ready}
 use Rattle.rkt_serve.proofs.BodyReads.{reads_none, reads_more}
 use Rattle.rkt_serve.proofs.Sendings.{waited_none, waited_more, waited_fails, ready_gives, no_head}

@@ -1,4 +1,4 @@
-use Rattle.std.proofs.Common.{◌≡◌, ◌∙◌, ◌++◌, ◌∷◌, [], List, ap, sym}
+use Rattle.std.proofs.Common.{◌∙◌, ◌++◌, ◌∷◌, [], ap, sym}
 use Rattle.rkt_serve.specs.Link.{LinkMeaning, with_taken}
 use Rattle.rkt_serve.proofs.Pieces.{with_taken-nil, with_taken-with_taken}
 use Rattle.rkt_serve.proofs.BodyReads.{reads_none, reads_more}

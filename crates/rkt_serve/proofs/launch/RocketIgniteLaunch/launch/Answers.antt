@@ -1,4 +1,4 @@
-use Rattle.std.proofs.Common.{rules, ◌∙◌, sym, ap, subst}
+use Rattle.std.proofs.Common.{◌∙◌, sym, ap, subst}
 use Rattle.rkt_turn.specs.HandsBack.{HandsBack}
 use Rattle.rkt_serve.specs.Clock.{IsWithin}
 use Rattle.rkt_serve.specs.Headline.{IsLegal}

@@ -1,5 +1,4 @@
-use Rattle.std.proofs.Common.{rules, arith, ◌≡◌, ◌≤◌, ◌<◌, ◌+◌, ◌∙◌, ℕ, max, Some, length, take, ap, sym, subst}
-use Rattle.std.proofs.lemmas.Grind.{common_steps}
+use Rattle.std.proofs.Common.{arith, ◌≡◌, ◌≤◌, ◌<◌, ◌+◌, ◌∙◌, ℕ, Some, length, take, ap, sym, subst}
 use Rattle.rkt_serve.proofs.Clocks.{greatest_told, greatest_within, first_within, in_window}
 use Rattle.rkt_serve.specs.Clock.{ClockMeaning}
 use Rattle.rkt_serve.specs.Memory.{ClockInMemory, first, greatest}

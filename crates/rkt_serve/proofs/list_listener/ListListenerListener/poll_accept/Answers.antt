@@ -1,4 +1,4 @@
-use Rattle.std.proofs.Common.{rules, ◌≡◌, ◌∙◌, ◌∷◌, Some, List, sym, ap, refl}
+use Rattle.std.proofs.Common.{◌∙◌, Some, List, sym, ap, refl}
 use Rattle.rkt_serve.proofs.Listening.{asks_more}
 use Rattle.rkt_serve.specs.Asked.{Asked}
 use Rattle.rkt_serve.specs.Memory.{asked_of}

@@ -1,4 +1,4 @@
-use Rattle.std.proofs.Common.{◌≡◌, ℕ, max, refl, subst}
+use Rattle.std.proofs.Common.{ℕ, max, refl, subst}
 use Rattle.rkt_serve.proofs.Pieces.{caused_sent}
 use Rattle.rkt_serve.specs.Sent.{IsSentAs}
 use Rattle.rkt_serve.proofs.working.Worker.answer.Goals as goal

@@ -1,4 +1,4 @@
-use Rattle.std.proofs.Common.{rules, arith, ◌≡◌, ◌∙◌, refl, sym, subst}
+use Rattle.std.proofs.Common.{rules, arith, ◌∙◌, refl, sym, subst}
 use Rattle.std.proofs.lemmas.Grind.{common_steps}
 use Rattle.rkt_serve.specs.Headline.{Balanced}
 use Rattle.rkt_serve.proofs.Handles.{hands_back_same, hands_back_more}

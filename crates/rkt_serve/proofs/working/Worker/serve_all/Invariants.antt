@@ -1,4 +1,4 @@
-use Rattle.std.proofs.Common.{◌≡◌, ◌≤◌, ◌<◌, vec_len, vec_capacity}
+use Rattle.std.proofs.Common.{◌≡◌, ◌<◌, vec_len, vec_capacity}
 use Rattle.rkt_turn.specs.HandsBack.{HandsBack}
 use Rattle.rkt_serve.specs.Events.{admitted}
 use Rattle.rkt_serve.specs.Headline.{Balanced}

@@ -1,4 +1,4 @@
-use Rattle.std.proofs.Common.{◌≡◌, ◌≤◌, ◌∙◌, ap, subst, sym, arith, ℕ, Option}
+use Rattle.std.proofs.Common.{◌≤◌, ◌∙◌, ap, subst, sym, ℕ, Option}
 use Rattle.rkt_serve.specs.Clock.{ClockMeaning, IsWithin}
 use Rattle.rkt_serve.proofs.Balance.{balanced_more}
 use Rattle.rkt_serve.proofs.working.Worker.serve_given.Goals as goal
