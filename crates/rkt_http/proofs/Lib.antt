@@ -13,3 +13,5 @@ pub mod Pieces
 pub mod Outcomes
 pub mod Ranks
 pub mod RunLemmas
+pub mod SpelledOnce
+pub mod NormalForms

@@ -52,3 +52,7 @@ SpellsAccept text entries = (types : List Media) × ListsMedia types text × (en
 
 abbrev pub IsAccept : List ℕ → Type 0
 IsAccept text = (entries : List Weighed) × SpellsAccept text entries
+
+-- a text spells one list of accepted media types at most
+abbrev pub SpellsOneAccept : Type 0
+SpellsOneAccept = (text : List ℕ) (a b : List Weighed) → SpellsAccept text a → SpellsAccept text b → a ≡ b

@@ -98,3 +98,7 @@ pub record IsSpelled (m : Media) : Type 0 where
   pub top : TokenThen m.top m.top (Exactly [])
   pub sub : TokenThen m.sub m.sub (Exactly [])
   pub parameters : AreSpelled m.parameters
+
+-- a text spells one media type at most
+abbrev pub SpellsOneMedia : Type 0
+SpellsOneMedia = (text : List ℕ) (a b : Media) → SpellsMedia text a → SpellsMedia text b → a ≡ b

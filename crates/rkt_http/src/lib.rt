@@ -20,6 +20,7 @@ mod header_map;
 mod host;
 mod host_place;
 mod key;
+mod media_law;
 mod media_place;
 mod media_read;
 #[cfg(test)]
@@ -49,6 +50,7 @@ pub use header_iter::{HeaderIter, HeaderValues};
 pub use header_map::HeaderMap;
 pub use host::Host;
 pub use key::Key;
+pub use media_law::spells_one_media_type;
 pub use media_type::{InvalidMedia, MediaType};
 pub use method::Method;
 pub use origin::{InvalidUri, Origin};

@@ -2,7 +2,7 @@ ghost use Rattle.std.specs.Prelude.{◌≡◌, ◌<◌, ◌∷◌, [], IfOk, map
 ghost use Rattle.std.specs.List.{before_first, join_with_byte};
 ghost use Rattle.rkt_base.specs.Want.{IfRefused, GivesUnlessNoMemory};
 ghost use Rattle.rkt_http.specs.Grammar.{LeavesAt, behind_first};
-ghost use Rattle.rkt_http.specs.Origin.{Target, Spells, IsOrigin, spelling, decoded, decoded_field_part, unplus, field_of, pieces, raw_segments_of, segments_of, fields_of, target_of, is_question, query_in, led, normal_form, normalized, is_ampersand};
+ghost use Rattle.rkt_http.specs.Origin.{Target, Spells, IsOrigin, IsTarget, spelling, decoded, decoded_field_part, unplus, field_of, pieces, raw_segments_of, segments_of, fields_of, target_of, is_question, query_in, led, normal_form, normalized, is_ampersand};
 
 use crate::copies::{copy_pairs, copy_texts};
 use crate::grammar::first_fault;
@@ -251,6 +251,8 @@ impl Origin {
         ensures settled { IfOk result (λ o. normalized o ≡ o) }
         ensures same_segments { IfOk result (λ o. segments_of o ≡ segments_of self) }
         ensures same_fields { IfOk result (λ o. fields_of o ≡ fields_of self) }
+        // What has a spelling has one in its normal form.
+        ensures spelled { IfOk result (λ o. (profile : Profile) → IsTarget profile self → IsTarget profile o) }
     {
         let text = normal_text(alloc, self.path(), self.query().unwrap_or(""))?;
         Ok(Origin {

@@ -10,3 +10,4 @@ pub mod FirstValues
 pub mod HeaderReads
 pub mod Readings
 pub mod LimitTexts
+pub mod OneFormat

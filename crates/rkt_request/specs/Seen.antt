@@ -88,3 +88,7 @@ abbrev pub IsFormat : {V : Type 0} → Seen V → Option Media → Type 0
 IsFormat seen found =
     MatchBool (carries_payload seen.method) (IsContentType seen.headers found)
     ((accept : Option (List Weighed)) × IsAccept seen.headers accept × IsSomeAnd found (IsAccepted accept))
+
+-- a request has one format at most
+abbrev pub HasOneFormat : {V : Type 0} → Seen V → Type 0
+HasOneFormat seen = (a b : Option Media) → IsFormat seen a → IsFormat seen b → a ≡ b

@@ -1,6 +1,5 @@
 pub mod Calls
 pub mod Mounted
-pub mod NormalForms
 pub mod Strips
 pub mod Among
 pub mod Choices

@@ -7,7 +7,7 @@ ghost use Rattle.rkt_router.specs.Tries.{Agrees, EndsTrailing, FormatFits, Forma
 use crate::{Collide, Route, RouteUri, Segment};
 use rkt_base::Text;
 use rkt_http::{MediaType, Segments};
-use rkt_request::{Request, Types};
+use rkt_request::{Request, Types, has_one_format};
 
 fn ends_trailing(segments: &[Segment]) -> bool
     ensures { IsTrue result ↔ EndsTrailing segments.now }
@@ -99,6 +99,7 @@ fn format_fits(asked: &MediaType, has_payload: bool, found: Option<&MediaType>) 
 fn format_matches<T: Types>(format: Option<&MediaType>, request: &Request<'_, T>) -> bool
     ensures { IsTrue result ↔ FormatMatches (option_copied format.entry) request.now }
 {
+    has_one_format(request);
     match format {
         Some(asked) => format_fits(asked, request.method().supports_payload(), request.format()),
         None => true,

@@ -8,7 +8,7 @@ ghost use Rattle.rkt_router.specs.RouteUri.{MountedUri, SpellsMounted, LeavesMou
 use crate::Segment;
 use crate::color::rank;
 use rkt_base::{NoMemory, Seq, Text, Want};
-use rkt_http::{InvalidUri, Origin, Profile};
+use rkt_http::{InvalidUri, Origin, Profile, says_what_it_spells};
 use std::alloc::Global;
 use std::fmt;
 use std::marker::Model;
@@ -89,6 +89,7 @@ impl RouteUri {
         // A refusal names the place where the base leaves its grammar, or else where the path does.
         ensures refused { IfRefused result (λ e. LeavesMountedAt base.now uri.now e.at) }
     {
+        says_what_it_spells();
         let mut base = Origin::parse(alloc, base)?;
         let unmounted = Origin::parse_route(alloc, uri)?;
         let origin = joined(alloc, &base, &unmounted)?;
@@ -116,6 +117,7 @@ impl RouteUri {
         ensures complete { (m : MountedUri) → IsRebased self.now base.now m → GivesUnlessNoMemory result m }
         ensures refused { IfRefused result (λ e. LeavesAt (IsOrigin Profile.Request) base.now e.at) }
     {
+        says_what_it_spells();
         RouteUri::try_new(alloc, base, self.unmounted.as_str())
     }
 

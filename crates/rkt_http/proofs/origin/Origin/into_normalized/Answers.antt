@@ -1,6 +1,7 @@
 use Rattle.std.proofs.Common.{◌≡◌, ◌∙◌, ap, sym, rules, unwrap_or, [], map}
 use Rattle.rkt_http.specs.Origin.{target_of, normalized, decoded, field_of, segments_of, fields_of}
 use Rattle.rkt_http.proofs.Normal.{normalized_again, raw_segments-normalized, pieces-normal_query, target_of-normalized, keeps_parts}
+use Rattle.rkt_http.proofs.NormalForms.{normalized_fits}
 use Rattle.rkt_http.proofs.origin.Origin.into_normalized.Goals as goal
 
 said : (c : goal.After-drop-self-inside-2) → target_of c.in_ok-text.text ≡ normalized c.args.self
@@ -19,6 +20,9 @@ returns-clause-same_segments c = ap segments_of (said c) ∙ ap (map decoded) (r
 
 pub returns-clause-same_fields : goal.returns-clause-same_fields
 returns-clause-same_fields c = ap fields_of (said c) ∙ ap (map field_of) (pieces-normal_query c.args.self)
+
+pub returns-clause-spelled : goal.returns-clause-spelled
+returns-clause-spelled c = λ profile fits. rw (said c) (normalized_fits profile c.args.self fits)
 
 pub invariant_of-result : goal.invariant_of-result
 invariant_of-result c =

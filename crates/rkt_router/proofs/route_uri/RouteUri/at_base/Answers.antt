@@ -12,4 +12,4 @@ returns-clause-accepted c =
     let fits : IsTarget Route c.args.self.now.unmounted = subst (IsTarget Route) same c.self.invariant.unmounted_fits in
     let text = c.as_str.ensures ∙ ap spelling same in
     IfOk-weaker c.try_new.result (SpellsMounted c.args.base.now c.as_str.result.now) (IsRebased c.args.self.now c.args.base.now)
-    (λ m spelled. rebased c.args.self.now c.args.base.now c.as_str.result.now m fits text spelled) c.try_new.ensures.accepted
+    (λ m spelled. rebased c.says_what_it_spells.ensures c.args.self.now c.args.base.now c.as_str.result.now m fits text spelled) c.try_new.ensures.accepted

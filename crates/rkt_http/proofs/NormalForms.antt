@@ -7,7 +7,7 @@ use Rattle.rkt_http.specs.declared.origin_place.Profile.{Profile}
 use Rattle.rkt_http.specs.declared.origin_place.Profile.TheVariants.{Request, Route}
 use Rattle.rkt_http.proofs.Normal.{Each}
 
-pub only_append : (P : ℕ → Bool) (xs ys : List ℕ) → OnlyOf P xs → OnlyOf P ys → OnlyOf P (xs ++ ys)
+only_append : (P : ℕ → Bool) (xs ys : List ℕ) → OnlyOf P xs → OnlyOf P ys → OnlyOf P (xs ++ ys)
 only_append P [] ys front rest = rest
 only_append P (x ∷ xs) ys front rest = (front.0, only_append P xs ys front.1 rest)
 
