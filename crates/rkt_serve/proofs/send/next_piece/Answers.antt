@@ -9,9 +9,12 @@ loop-init g c = (tt, tt, waited_none g.S.Source.meaning c.args.pieces.now c.requ
 
 pub loop-preserved : goal.loop-preserved
 loop-preserved g c =
-    let pending = c.in-Pending.ensures.pending refl in
-    (tt, tt, waited_more g.S.Source.meaning c.args.pieces.now c.loop.pieces c.poll_next.new.self c.loop.invariant.2 pending.0 pending.1 c.poll_next.ensures.begun c.poll_next.ensures.turns c.poll_next.ensures.read_on,
-    reads_more g.S.Source.meaning c.args.gate.tripped _ _ _ c.loop.invariant.3 c.poll_next.ensures.reads.body.content)
+    let pending = c.in-Pending.ensures.pending refl in (
+      tt,
+      tt,
+      waited_more g.S.Source.meaning c.args.pieces.now c.loop.pieces c.poll_next.new.self c.loop.invariant.2 pending.0 pending.1 c.poll_next.ensures.begun c.poll_next.ensures.turns c.poll_next.ensures.read_on,
+      reads_more g.S.Source.meaning c.args.gate.tripped _ _ _ c.loop.invariant.3 c.poll_next.ensures.reads.body.content,
+    )
 
 pub returns-in-Ready-clause-piece : goal.returns-in-Ready-clause-piece
 returns-in-Ready-clause-piece g c = ready_gives g.S.Source.meaning c.args.pieces.now c.loop.pieces c.poll_next.new.self c.in-Ready.answer c.loop.invariant.2 c.in-Ready.ensures.piece
