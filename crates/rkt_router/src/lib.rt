@@ -26,7 +26,7 @@ pub use collisions::Collisions;
 pub use color::Color;
 pub use dummy::Dummy;
 pub use handler::{CatchHandler, Handler};
-pub use outcome::{RouteOutcome, error, forward, from, try_from};
+pub use outcome::RouteOutcome;
 pub use route::{Route, Sentry};
 pub use route_uri::RouteUri;
 pub use router::Router;

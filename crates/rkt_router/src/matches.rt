@@ -99,6 +99,7 @@ fn format_fits(asked: &MediaType, has_payload: bool, found: Option<&MediaType>) 
 fn format_matches<T: Types>(format: Option<&MediaType>, request: &Request<'_, T>) -> bool
     ensures { IsTrue result ↔ FormatMatches (option_copied format.entry) request.now }
 {
+    // So a format that does not fit rules the route out.
     has_one_format(request);
     match format {
         Some(asked) => format_fits(asked, request.method().supports_payload(), request.format()),

@@ -7,6 +7,7 @@ ghost use Rattle.rkt_router.specs.RouteUri.{MountedUri, SpellsMounted};
 ghost use Rattle.rkt_router.specs.Route.{route_at, route_of_info, IsMovedTo};
 
 use crate::RouteUri;
+pub use crate::outcome::{error, forward, from, try_from};
 use rkt_base::{NoMemory, Seq, Text, Want};
 use rkt_http::{InvalidUri, Key, MediaType, Method, Origin, Profile};
 use std::alloc::Global;

@@ -89,6 +89,7 @@ impl RouteUri {
         // A refusal names the place where the base leaves its grammar, or else where the path does.
         ensures refused { IfRefused result (λ e. LeavesMountedAt base.now uri.now e.at) }
     {
+        // So the two texts spell one URI at most, and it is this one.
         says_what_it_spells();
         let mut base = Origin::parse(alloc, base)?;
         let unmounted = Origin::parse_route(alloc, uri)?;
@@ -117,6 +118,7 @@ impl RouteUri {
         ensures complete { (m : MountedUri) → IsRebased self.now base.now m → GivesUnlessNoMemory result m }
         ensures refused { IfRefused result (λ e. LeavesAt (IsOrigin Profile.Request) base.now e.at) }
     {
+        // So what is read again of the path's text is the path.
         says_what_it_spells();
         RouteUri::try_new(alloc, base, self.unmounted.as_str())
     }
@@ -159,6 +161,7 @@ impl RouteUri {
         self.origin.path()
     }
 
+    /// The query, without its question mark.
     pub fn query(&self) -> Option<&str>
         ensures { option_copied result ≡ self.now.origin.query }
     {
@@ -172,6 +175,7 @@ impl RouteUri {
         self.origin.as_str()
     }
 
+    /// The base, which has no query.
     pub fn base_origin(&self) -> &Origin
         ensures { result.now ≡ self.now.base }
     {
