@@ -1,11 +1,15 @@
 //! Launches.
+ghost use Rattle.std.specs.Prelude.{IfOk};
+ghost use Rattle.rkt_serve.specs.Listener.{IsFresh};
+ghost use Rattle.rkt_serve.specs.Memory.{listener_meaning};
+
 use crate::app::{Site, rocket};
 use crate::error::CaseError;
 use crate::exchange::cookies;
 use crate::heads::listener_of;
 use crate::pieces::ended;
 use crate::setting::Setting;
-use crate::words::{first_word, numbers};
+use crate::words::{first_word, number, numbers};
 use rkt_serve::{Entry, EventOf, History, Launch, Launched, ListClock, ListListener, MemoryLink};
 use std::alloc::{AllocError, Global};
 use std::sync::Wait;
@@ -69,13 +73,14 @@ fn launched<R: Wait + Threads>(
     rt: &R,
     alloc: Global,
     setting: &Setting,
+    workers: u64,
     clock: ListClock,
-    pends: Vec<u64>,
-    links: &str,
-) -> Result<Over, CaseError> {
+    listener: ListListener,
+) -> Result<Over, CaseError>
+    requires { IsFresh (listener_meaning listener) }
+{
     let rocket = rocket(alloc, setting.routes.as_slice())?;
-    let listener = listener_of(alloc, setting, pends, links)?;
-    match rocket.launch(rt, alloc, listener, clock, 0) {
+    match rocket.launch(rt, alloc, listener, clock, workers as usize) {
         Ok(launched) => Ok(launched),
         Err(error) => {
             let _text = error.pretty_print();
@@ -84,17 +89,27 @@ fn launched<R: Wait + Threads>(
     }
 }
 
-/// The launch of `MOMENTS POLLS LINK | LINK ..`.
+/// The listener of `POLLS LINK | LINK ..`.
+fn listener(alloc: Global, setting: &Setting, text: &str) -> Result<ListListener, CaseError>
+    ensures { IfOk result (λ listener. IsFresh (listener_meaning listener)) }
+{
+    let (pends, links) = first_word(text);
+    let pends = numbers(alloc, pends)?;
+    Ok(listener_of(alloc, setting, pends, links)?)
+}
+
+/// The launch of `WORKERS MOMENTS POLLS LINK | LINK ..`.
 pub fn launch<R: Wait + Threads>(
     rt: &R,
     alloc: Global,
     setting: &Setting,
     text: &str,
 ) -> Result<String, CaseError> {
-    let (moments, rest) = first_word(text);
-    let (pends, links) = first_word(rest);
+    let (workers, rest) = first_word(text);
+    let (moments, rest) = first_word(rest);
+    let workers = number(workers)?;
     let clock = ListClock::new(numbers(alloc, moments)?);
-    let pends = numbers(alloc, pends)?;
-    let launched = launched(rt, alloc, setting, clock, pends, links)?;
+    let listener = listener(alloc, setting, rest)?;
+    let launched = launched(rt, alloc, setting, workers, clock, listener)?;
     Ok(history_text(alloc, &launched.history)?)
 }

@@ -7,7 +7,8 @@
 //!     exchange MOMENT METHOD TARGET        one exchange at this moment: the status, the content type, the size of the
 //!                                          body, the calls, the cookies that came, the cached values and the moment
 //!     parted                               how many routes a rocket has that was taken apart and put together
-//!     launch MOMENTS POLLS LINK | LINK ..  a launch: the clock tells these moments, these polls of the listener (from
+//!     launch WORKERS MOMENTS POLLS LINK | LINK ..
+//!                                          a launch: the clock tells these moments, these polls of the listener (from
 //!                                          0) are Pending, and each link asks METHOD TARGET. How many events there
 //!                                          are, each entry, and the moment of the close
 //!     polls POLLS COUNT LINK | LINK ..     what so many polls of this listener answer
