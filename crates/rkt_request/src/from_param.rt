@@ -1,6 +1,6 @@
 //! Parameters: one decoded segment of a path as a value.
 ghost use Rattle.std.specs.Prelude.{◌≡◌, ℕ, List, Result};
-ghost use Rattle.rkt_http.specs.PathBuf.{path_of_names};
+ghost use Rattle.rkt_uri.specs.PathBuf.{path_of_names};
 ghost use Rattle.rkt_request.specs.Reads.{UnlessNoMemory, StdReads, TakesText, KeepsAnswer, KeepsValue};
 
 mod addresses;
