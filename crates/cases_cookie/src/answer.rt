@@ -3,7 +3,7 @@ use crate::jar::jar_answer;
 use crate::made::made_cookie;
 use crate::shown::{fields, text_of};
 use crate::words::first_word;
-use rkt_cookie::CookieJar;
+use rkt_cookie::{Cookie, CookieJar};
 use std::alloc::Global;
 
 /// The text of the cookie that a line says.
@@ -18,11 +18,15 @@ fn fields_answer(alloc: Global, line: &str) -> Result<String, CaseError> {
     fields(alloc, &cookie)
 }
 
+fn text_of_copy(alloc: Global, cookie: &Cookie) -> Result<String, CaseError> {
+    let copy = cookie.try_clone(alloc)?;
+    text_of(alloc, &copy)
+}
+
 /// The text of a copy of the cookie that a line says.
 fn copy_answer(alloc: Global, line: &str) -> Result<String, CaseError> {
     let cookie = made_cookie(alloc, line)?;
-    let copy = cookie.try_clone(alloc)?;
-    text_of(alloc, &copy)
+    text_of_copy(alloc, &cookie)
 }
 
 /// What a case answers.
