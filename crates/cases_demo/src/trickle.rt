@@ -18,7 +18,7 @@ impl Trickle {
 }
 
 impl Sink for Trickle {
-    ghost use Rattle.rkt_data.specs.Memory.{sink_meaning};
+    ghost use Rattle.rkt_source.specs.Memory.{sink_meaning};
 
     ghost meaning = { λ s. sink_meaning s.inner };
 

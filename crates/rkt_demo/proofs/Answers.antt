@@ -22,7 +22,7 @@ use Rattle.rkt_life.specs.Rocket.{SeenTables}
 use Rattle.rkt_life.specs.Routes.{matches, tries}
 use Rattle.rkt_life.specs.declared.run.Call.{Call}
 use Rattle.rkt_life.specs.declared.run.RunOf.{RunOf}
-use Rattle.rkt_data.specs.Memory.{SourceInMemory, source_meaning}
+use Rattle.rkt_source.specs.Memory.{SourceInMemory, source_meaning}
 use Rattle.rkt_response.specs.Response.{ResponseOf}
 use Rattle.rkt_response.specs.Sent.{Sent, head_of}
 use Rattle.rkt_response.specs.declared.piece.Piece.{Piece}
