@@ -1,7 +1,7 @@
 -- The sample application.
 use Rattle.std.specs.Prelude.{◌≡◌, ℕ, List, [], ◌∷◌, None, codes}
 use Rattle.rkt_uri.specs.Origin.{Target}
-use Rattle.rkt_request.specs.Config.{IsConfig}
+use Rattle.rkt_config.specs.Config.{IsConfig}
 use Rattle.rkt_request.specs.Seen.{Seen}
 use Rattle.rkt_life.specs.Rocket.{SeenTables}
 use Rattle.rkt_demo.specs.declared.sample.Page.{Page}

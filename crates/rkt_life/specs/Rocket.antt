@@ -1,7 +1,7 @@
 -- A rocket as contracts see it.
 use Rattle.std.specs.Prelude.{ℕ, List}
 use Rattle.rkt_uri.specs.Origin.{Target}
-use Rattle.rkt_request.specs.declared.config.Config.{Config}
+use Rattle.rkt_config.specs.declared.config.Config.{Config}
 use Rattle.rkt_turn.specs.Shutdown.{Handle}
 
 -- what a rocket serves by; H is the type of the handlers, and V that of the managed values

@@ -1,13 +1,5 @@
-pub mod Fronts
-pub mod Entries
-pub mod LongestFront
-pub mod Joins
-pub mod Numerals
-pub mod TableScans
 pub mod AskedLemmas
-pub mod Copies
 pub mod FirstValues
 pub mod HeaderReads
 pub mod Readings
-pub mod LimitTexts
 pub mod OneFormat

@@ -20,7 +20,7 @@ use Rattle.rkt_http.specs.declared.outcome.Outcome.{Outcome}
 use Rattle.rkt_http.specs.declared.outcome.Outcome.TheVariants.{Success, Error, Forward}
 use Rattle.rkt_http.specs.declared.status.Status.{Status}
 use Rattle.rkt_request.specs.Guarding.{Guarded, Guarding}
-use Rattle.rkt_request.specs.Limits.{IsLimitOf}
+use Rattle.rkt_config.specs.Limits.{IsLimitOf}
 use Rattle.rkt_request.specs.Seen.{Seen}
 use Rattle.rkt_request.specs.declared.from_data.GuardError.{GuardError}
 use Rattle.rkt_request.specs.declared.from_data.GuardError.TheVariants.{Io, LimitExceeded}

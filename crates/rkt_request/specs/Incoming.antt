@@ -15,7 +15,7 @@ use Rattle.rkt_uri.specs.declared.origin_place.Profile.TheVariants.{Request as O
 use Rattle.rkt_request.specs.Seen.{Seen, ReadAs, MaybeReadAs, first_value}
 use Rattle.rkt_request.specs.declared.bad.Bad.{Bad}
 use Rattle.rkt_request.specs.declared.bad.Bad.TheVariants.{BadMethod, InvalidUri}
-use Rattle.rkt_request.specs.declared.config.Config.{Config}
+use Rattle.rkt_config.specs.declared.config.Config.{Config}
 use Rattle.rkt_request.specs.declared.head.Head.{Head}
 
 -- the origin that stands where a target is none

@@ -1,14 +1,6 @@
-pub mod Config
-pub mod ConfigTable
-pub mod Joined
-pub mod Limits
-pub mod SameLimits
-pub mod Numbers
-pub mod Managed
 pub mod Seen
 pub mod Lent
 pub mod Incoming
-pub mod Reads
 pub mod RequestHeaders
 pub mod FromRequest
 pub mod Guarding

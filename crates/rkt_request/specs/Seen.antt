@@ -15,7 +15,7 @@ use Rattle.rkt_http.specs.Method.{carries_payload}
 use Rattle.rkt_uri.specs.Origin.{Target, segments_of}
 use Rattle.rkt_media.specs.declared.known.Known.TheVariants.{Any}
 use Rattle.rkt_http.specs.declared.method.Method.{Method}
-use Rattle.rkt_request.specs.declared.config.Config.{Config}
+use Rattle.rkt_config.specs.declared.config.Config.{Config}
 use Rattle.rkt_request.specs.declared.head.Mounted.{Mounted}
 
 -- V is the type of the managed values

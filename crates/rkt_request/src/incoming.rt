@@ -4,13 +4,12 @@ ghost use Rattle.rkt_request.specs.Incoming.{IsIncoming};
 
 use crate::asked::{faults_of, or_root, read_headers, read_host, read_jar, read_target};
 use crate::bad::Bad;
-use crate::config::Config;
 use crate::head::Head;
-use crate::managed::Managed;
 use crate::request::Request;
 use crate::request_headers::RequestHeaders;
 use crate::types::Types;
 use rkt_base::{NoMemory, Seq};
+use rkt_config::{Config, Managed};
 use rkt_cookie::CookieJar;
 use rkt_http::Method;
 use std::alloc::Global;

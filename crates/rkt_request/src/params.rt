@@ -1,13 +1,12 @@
 //! Parameters of a request, by the segments behind the base of its route.
 ghost use Rattle.std.specs.Prelude.{◌≡◌, drop, slice_get};
-ghost use Rattle.rkt_request.specs.Reads.{MaybeReads, UnlessNoMemory};
+ghost use Rattle.rkt_param.specs.Reads.{MaybeReads, UnlessNoMemory};
 ghost use Rattle.rkt_request.specs.Seen.{routed};
 
-use crate::from_param::FromParam;
-use crate::from_segments::FromSegments;
 use crate::request::Request;
 use crate::types::Types;
 use rkt_base::Want;
+use rkt_param::{FromParam, FromSegments};
 use std::alloc::Global;
 use std::ops::RangeFrom;
 

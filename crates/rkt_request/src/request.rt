@@ -3,13 +3,11 @@ ghost use Rattle.rkt_http.specs.Headers.{added, replaced};
 ghost use Rattle.rkt_uri.specs.Origin.{fields_of};
 ghost use Rattle.rkt_request.specs.Seen.{IsAccept, IsClientIp, IsContentType, IsFormat, IsRealIp, base_segments, routed};
 
-use crate::config::Config;
 use crate::head::Mounted;
-use crate::limits::Limits;
-use crate::managed::Managed;
 use crate::request_headers::RequestHeaders;
 use crate::types::Types;
 use rkt_base::NoMemory;
+use rkt_config::{Config, Limits, Managed};
 use rkt_http::{
     Accept, ContentType, Header, HeaderMap, Host, MediaType, Method, Origin, QueryFields, Segments,
 };

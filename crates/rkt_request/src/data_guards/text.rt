@@ -3,10 +3,10 @@ ghost use Rattle.rkt_request.specs.Guards.{text_guard, guard_by, strict};
 
 use super::{or_bad_request, strict};
 use crate::from_data::{FromData, GuardError};
-use crate::limits::Limits;
 use crate::request::Request;
 use crate::types::{Body0, Types};
 use rkt_base::{NoMemory, Poll};
+use rkt_config::Limits;
 use rkt_data::{CancellableIo, Capped, Gate, IntoString, Source};
 use rkt_http::{Outcome, Status};
 use std::alloc::Global;

@@ -8,10 +8,10 @@ ghost use Rattle.rkt_request.specs.Seen.{IsAccept, IsContentType};
 
 use crate::ctx::Ctx;
 use crate::from_request::FromRequest;
-use crate::limits::Limits;
 use crate::request::Request;
 use crate::types::Types;
 use rkt_base::NoMemory;
+use rkt_config::Limits;
 use rkt_http::{Accept, ContentType, Host, Origin, Outcome, Status};
 use std::alloc::Global;
 use std::convert::Infallible;

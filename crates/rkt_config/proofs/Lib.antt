@@ -1,0 +1,7 @@
+pub mod Fronts
+pub mod Entries
+pub mod LongestFront
+pub mod Joins
+pub mod Numerals
+pub mod TableScans
+pub mod LimitTexts

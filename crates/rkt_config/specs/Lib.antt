@@ -1,0 +1,7 @@
+pub mod Config
+pub mod ConfigTable
+pub mod Joined
+pub mod Limits
+pub mod SameLimits
+pub mod Numbers
+pub mod Managed
