@@ -4,8 +4,8 @@
 
 ghost use Rattle.std.specs.Bool.{OnFalse};
 ghost use Rattle.std.specs.Prelude.{◌≡◌, ◌≢◌, IfOk};
-ghost use Rattle.rkt_response.specs.Sending.{stage_after};
-ghost use Rattle.rkt_response.specs.declared.piece.Piece.TheVariants.{End};
+ghost use Rattle.rkt_message.specs.Sending.{stage_after};
+ghost use Rattle.rkt_message.specs.declared.piece.Piece.TheVariants.{End};
 
 use anyhow::{Error, bail};
 use rkt_base::{Bytes, Poll};
