@@ -1,8 +1,8 @@
 //! The pieces of a response on their way to a link in memory, beside a loop that keeps copies of the same chunks.
 ghost use Rattle.std.specs.Bool.{OnFalse};
 ghost use Rattle.std.specs.Prelude.{◌≡◌, ◌≢◌, IfOk};
-ghost use Rattle.rkt_response.specs.Sending.{stage_after};
-ghost use Rattle.rkt_response.specs.declared.piece.Piece.TheVariants.{End};
+ghost use Rattle.rkt_message.specs.Sending.{stage_after};
+ghost use Rattle.rkt_message.specs.declared.piece.Piece.TheVariants.{End};
 
 use crate::body::{GATE, body, place_behind};
 use anyhow::{Error, bail};

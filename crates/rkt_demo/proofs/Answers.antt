@@ -23,10 +23,10 @@ use Rattle.rkt_life.specs.Routes.{matches, tries}
 use Rattle.rkt_life.specs.declared.run.Call.{Call}
 use Rattle.rkt_life.specs.declared.run.RunOf.{RunOf}
 use Rattle.rkt_source.specs.Memory.{SourceInMemory, source_meaning}
-use Rattle.rkt_response.specs.Response.{ResponseOf}
-use Rattle.rkt_response.specs.Sent.{Sent, head_of}
-use Rattle.rkt_response.specs.declared.piece.Piece.{Piece}
-use Rattle.rkt_response.specs.declared.piece.Piece.TheVariants.{Chunk, End}
+use Rattle.rkt_message.specs.Response.{ResponseOf}
+use Rattle.rkt_message.specs.Sent.{Sent, head_of}
+use Rattle.rkt_message.specs.declared.piece.Piece.{Piece}
+use Rattle.rkt_message.specs.declared.piece.Piece.TheVariants.{Chunk, End}
 use Rattle.rkt_demo.specs.Output.{head_text, body_bytes, sent_section}
 use Rattle.rkt_demo.proofs.Origins.{is_origin-read}
 use Rattle.rkt_demo.specs.Printed.{asks_page, is_good, page_section, typed_section, printed_section}

@@ -6,13 +6,13 @@ use Rattle.rkt_source.specs.declared.source.SourceError.{SourceError}
 use Rattle.rkt_request.specs.Seen.{Seen}
 use Rattle.rkt_request.specs.declared.bad.Bad.{Bad}
 use Rattle.rkt_request.specs.declared.head.Head.{Head}
-use Rattle.rkt_response.specs.Reading.{StreamErrs}
-use Rattle.rkt_response.specs.Response.{ResponseOf}
-use Rattle.rkt_response.specs.Sending.{MayWait}
-use Rattle.rkt_response.specs.Sent.{has_head}
-use Rattle.rkt_response.specs.declared.content.Content.{Content}
-use Rattle.rkt_response.specs.declared.content.Content.TheVariants.{Sized}
-use Rattle.rkt_response.specs.declared.piece.Piece.{Piece}
+use Rattle.rkt_message.specs.Reading.{StreamErrs}
+use Rattle.rkt_message.specs.Response.{ResponseOf}
+use Rattle.rkt_message.specs.Sending.{MayWait}
+use Rattle.rkt_message.specs.Sent.{has_head}
+use Rattle.rkt_message.specs.declared.content.Content.{Content}
+use Rattle.rkt_message.specs.declared.content.Content.TheVariants.{Sized}
+use Rattle.rkt_message.specs.declared.piece.Piece.{Piece}
 use Rattle.rkt_life.specs.Lifecycle.{Outcome, Lifecycle, Responds, Tried, Finished}
 use Rattle.rkt_life.specs.Response.{text_page, page_of}
 use Rattle.rkt_life.specs.Rocket.{SeenTables}

@@ -19,7 +19,7 @@ use Rattle.rkt_serve.specs.declared.history.End.TheVariants.{Answered, Failed, S
 use Rattle.rkt_serve.specs.declared.history.EntryOf.{EntryOf}
 use Rattle.rkt_serve.specs.declared.history.EventOf.{EventOf}
 use Rattle.rkt_serve.specs.declared.history.EventOf.TheVariants.{Lift, Admit, End, Close}
-use Rattle.rkt_response.specs.Sent.{Sent}
+use Rattle.rkt_message.specs.Sent.{Sent}
 use Rattle.rkt_demo.proofs.Sendable.{none_failed}
 use Rattle.rkt_demo.specs.Entries.{ended_section, entry_section, entries_text, AreEntries}
 use Rattle.rkt_demo.specs.Sample.{page_may, IsSample}

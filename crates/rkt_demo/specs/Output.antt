@@ -1,8 +1,8 @@
 -- The text that tells how requests ended.
 use Rattle.std.specs.Prelude.{ℕ, ◌++◌, List, [], codes, flat_map, length}
 use Rattle.std.specs.Fmt.{decimal}
-use Rattle.rkt_response.specs.declared.piece.Piece.{Piece}
-use Rattle.rkt_response.specs.declared.piece.Piece.TheVariants.{Head, Chunk, End}
+use Rattle.rkt_message.specs.declared.piece.Piece.{Piece}
+use Rattle.rkt_message.specs.declared.piece.Piece.TheVariants.{Head, Chunk, End}
 
 -- the line of a header, its name and its value
 abbrev pub header_line : List ℕ × List ℕ → List ℕ

@@ -2,9 +2,9 @@
 use Rattle.std.specs.Prelude.{◌≡◌, ◌⊎◌, ℕ, ◌+◌, ◌++◌, List, [], ◌∷◌, Option, take}
 use Rattle.rkt_source.specs.Memory.{SourceInMemory, source_meaning}
 use Rattle.rkt_request.specs.declared.head.Head.{Head}
-use Rattle.rkt_response.specs.Response.{ResponseOf}
-use Rattle.rkt_response.specs.Sent.{Sent}
-use Rattle.rkt_response.specs.declared.piece.Piece.{Piece}
+use Rattle.rkt_message.specs.Response.{ResponseOf}
+use Rattle.rkt_message.specs.Sent.{Sent}
+use Rattle.rkt_message.specs.declared.piece.Piece.{Piece}
 use Rattle.rkt_life.specs.Lifecycle.{Lifecycle}
 use Rattle.rkt_life.specs.Rocket.{SeenTables}
 use Rattle.rkt_life.specs.declared.run.RunOf.{RunOf}

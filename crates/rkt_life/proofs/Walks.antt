@@ -5,7 +5,7 @@ use Rattle.rkt_life.specs.Lifecycle.{Outcome, Success, Forward, Answers, Tried, 
 use Rattle.rkt_life.specs.Response.{IsDefaultPage, text_page}
 use Rattle.rkt_life.specs.Rocket.{SeenTables}
 use Rattle.rkt_life.specs.Routes.{tries}
-use Rattle.rkt_response.specs.Response.{ResponseOf}
+use Rattle.rkt_message.specs.Response.{ResponseOf}
 use Rattle.rkt_life.specs.declared.run.Call.{Call}
 use Rattle.rkt_life.specs.declared.run.Which.TheVariants.{Route}
 use Rattle.rkt_life.specs.declared.run.Answer.TheVariants.{Success as Succeeded}

@@ -1,5 +1,5 @@
 -- How an exchange ended. C is the type of cached values, S that of streams, and W that of handles.
-use Rattle.rkt_response.specs.Response.{ResponseOf}
+use Rattle.rkt_message.specs.Response.{ResponseOf}
 use Rattle.rkt_life.specs.declared.run.EndedOf.{EndedOf}
 use Rattle.rkt_life.specs.declared.run.EndedOf.TheVariants.{Finished, Starved}
 use Rattle.rkt_life.specs.declared.run.RunOf.{RunOf}

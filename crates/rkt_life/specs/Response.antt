@@ -5,9 +5,9 @@ use Rattle.rkt_http.specs.DefaultPage.{html_page, json_page}
 use Rattle.rkt_http.specs.Headers.{Group}
 use Rattle.rkt_media.specs.Media.{Media, is_kind}
 use Rattle.rkt_request.specs.Seen.{Seen, IsAccept, IsAccepted}
-use Rattle.rkt_response.specs.Body.{body_of}
-use Rattle.rkt_response.specs.Response.{ResponseOf}
-use Rattle.rkt_response.specs.declared.content.Content.TheVariants.{Sized}
+use Rattle.rkt_message.specs.Body.{body_of}
+use Rattle.rkt_message.specs.Response.{ResponseOf}
+use Rattle.rkt_message.specs.declared.content.Content.TheVariants.{Sized}
 
 -- a body of one type
 abbrev pub typed : {S : Type 0} → ℕ → List ℕ → List ℕ → ResponseOf S

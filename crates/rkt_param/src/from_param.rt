@@ -9,7 +9,7 @@ mod numbers;
 mod tests;
 
 use rkt_base::{Text, Want};
-use rkt_http::{PathBuf, PathError, Segments};
+use rkt_uri::{PathBuf, PathError, Segments};
 use std::alloc::Global;
 use std::convert::Infallible;
 use std::str::FromStr;

@@ -4,7 +4,7 @@ ghost use Rattle.rkt_uri.specs.PathBuf.{path_of_names};
 ghost use Rattle.rkt_param.specs.Reads.{UnlessNoMemory, TakesTexts, KeepsAnswer, KeepsValue};
 
 use rkt_base::Want;
-use rkt_http::{PathBuf, PathError, Segments};
+use rkt_uri::{PathBuf, PathError, Segments};
 use std::alloc::Global;
 use std::convert::Infallible;
 

@@ -1,10 +1,2 @@
-pub mod ChunkLemmas
-pub mod FieldGroups
 pub mod FlashLemmas
 pub mod FlashReading
-pub mod LineLemmas
-pub mod MergedFields
-pub mod ReadOnLemmas
-pub mod Readings
-pub mod SendingLemmas
-pub mod TidyGroups

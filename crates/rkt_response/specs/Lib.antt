@@ -1,11 +1,2 @@
-pub mod Body
-pub mod Chunks
 pub mod Flash
-pub mod Lines
-pub mod Reading
 pub mod Responder
-pub mod Response
-pub mod Sending
-pub mod Sent
-pub mod Tidy
-pub mod Whole

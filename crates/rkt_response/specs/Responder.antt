@@ -6,9 +6,9 @@ use Rattle.rkt_base.specs.declared.want.Want.{Want}
 use Rattle.rkt_base.specs.declared.want.Want.TheVariants.{Refused, NoMemory}
 use Rattle.rkt_http.specs.Headers.{replaced}
 use Rattle.rkt_http.specs.declared.status.Status.{Status}
-use Rattle.rkt_response.specs.Body.{body_of}
-use Rattle.rkt_response.specs.Response.{ResponseOf, empty_response, with_body, with_headers}
-use Rattle.rkt_response.specs.declared.content.Content.TheVariants as content
+use Rattle.rkt_message.specs.Body.{body_of}
+use Rattle.rkt_message.specs.Response.{ResponseOf, empty_response, with_body, with_headers}
+use Rattle.rkt_message.specs.declared.content.Content.TheVariants as content
 
 -- a response, or the status whose catcher is to answer
 abbrev pub Answer : Type 0 → Type 0

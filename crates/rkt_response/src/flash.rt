@@ -7,10 +7,10 @@ ghost use Rattle.rkt_cookie.specs.Reading.{first_piece};
 ghost use Rattle.rkt_response.specs.Flash.{ReadsFlash, SaysFlash, flash_cookie, flash_name, flash_text, flashing, with_flash};
 
 use crate::responder::Responder;
-use crate::response::Response;
 use rkt_base::{NoMemory, Text, Want};
 use rkt_cookie::{Cookie, CookieJar};
 use rkt_http::Status;
+use rkt_message::Response;
 use rkt_request::{Ctx, Request, Types};
 use std::alloc::Global;
 use std::marker::Model;

@@ -17,9 +17,9 @@ mod wrapped;
 
 pub use crate::responder::plain::Debug;
 pub use crate::responder::redirect::Redirect;
-use crate::response::Response;
 use rkt_base::Want;
 use rkt_http::Status;
+use rkt_message::Response;
 use rkt_request::{Ctx, Request, Types};
 use std::alloc::Global;
 

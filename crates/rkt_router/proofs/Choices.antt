@@ -6,7 +6,7 @@ use Rattle.rkt_request.specs.Seen.{Seen}
 use Rattle.std.proofs.lemmas.Option.{slice_get_within}
 use Rattle.rkt_router.specs.Catchers.{Catches, CatchesAt, IsChosen, Outranks, OutranksAt}
 use Rattle.rkt_router.specs.Choice.{BeatsBest, IsBestSoFar}
-use Rattle.rkt_router.specs.declared.catcher.Catcher.{Catcher}
+use Rattle.rkt_route.specs.declared.catcher.Catcher.{Catcher}
 
 -- a length and a code go before others
 abbrev Higher : ℕ → Option ℕ → ℕ → Option ℕ → Type 0

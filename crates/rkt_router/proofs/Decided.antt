@@ -5,10 +5,10 @@ use Rattle.rkt_uri.specs.Origin.{fields_of, segments_of}
 use Rattle.std.proofs.lemmas.List.{get_or_default}
 use Rattle.rkt_media.specs.Media.{Media}
 use Rattle.rkt_request.specs.Seen.{Seen}
-use Rattle.rkt_router.specs.RouteUri.{path_segments, static_fields}
+use Rattle.rkt_route.specs.RouteUri.{path_segments, static_fields}
 use Rattle.rkt_router.specs.Tries.{FormatMatches, Matches, PathMatches}
-use Rattle.rkt_router.specs.declared.route.Route.{Route}
-use Rattle.rkt_router.specs.declared.segment.Segment.{Segment}
+use Rattle.rkt_route.specs.declared.route.Route.{Route}
+use Rattle.rkt_route.specs.declared.segment.Segment.{Segment}
 
 -- one more item of which the fact holds, by its value
 pub within_on : {X : Type 0} (P : X → Type 0) (xs : List X) (at : ℕ) (x : X) → at < length xs → x ≡ get_or xs at x → P x → AllWithin P xs 0 at → AllWithin P xs 0 (at + 1)

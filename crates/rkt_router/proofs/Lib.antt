@@ -1,12 +1,7 @@
-pub mod Calls
-pub mod Mounted
-pub mod Strips
-pub mod Among
 pub mod Choices
 pub mod Decided
 pub mod Formats
 pub mod OneList
 pub mod Orders
-pub mod Pairs
 pub mod Paths
 pub mod Walks

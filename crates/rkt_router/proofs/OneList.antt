@@ -3,8 +3,8 @@ use Rattle.std.proofs.Common.{◌≡◌, ◌↔◌, ◌<◌, ℕ, zero, suc, Lis
 use Rattle.std.specs.List.{AllPairs, IsAmong}
 use Rattle.rkt_request.specs.Seen.{Seen}
 use Rattle.rkt_router.specs.Tries.{Before, IsTries}
-use Rattle.rkt_router.specs.declared.route.Route.{Route}
-use Rattle.rkt_router.proofs.Among.{among_first, among_later, not_first}
+use Rattle.rkt_route.specs.declared.route.Route.{Route}
+use Rattle.rkt_route.proofs.Among.{among_first, among_later, not_first}
 use Rattle.rkt_router.proofs.Orders.{before_not_same, before_trans}
 
 module _ {H S : Type 0} (routes : List (Route H S)) where

@@ -11,7 +11,7 @@ use Rattle.rkt_request.specs.Seen.{Seen}
 use Rattle.rkt_router.specs.Order.{IsFirstAt, IsFirstMatch, IsPlaceBehind, IsSorted}
 use Rattle.rkt_router.specs.Router.{IsOrder}
 use Rattle.rkt_router.specs.Tries.{Before, Behind, IsNextTry, MatchesAt}
-use Rattle.rkt_router.specs.declared.route.Route.{Route}
+use Rattle.rkt_route.specs.declared.route.Route.{Route}
 
 -- a rank and a position go before others
 abbrev Less : ℤ → ℕ → ℤ → ℕ → Type 0

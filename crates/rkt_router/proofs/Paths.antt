@@ -4,7 +4,7 @@ use Rattle.std.specs.Prelude.{slice_get}
 use Rattle.std.specs.List.{take_while}
 use Rattle.std.proofs.lemmas.List.Sums.{take_while-cons}
 use Rattle.rkt_router.specs.Tries.{Agrees}
-use Rattle.rkt_router.specs.declared.segment.Segment.{Segment}
+use Rattle.rkt_route.specs.declared.segment.Segment.{Segment}
 
 -- the names agree with the segments before any trailing one
 abbrev pub AgreesBefore : List Segment → List (List ℕ) → Type 0

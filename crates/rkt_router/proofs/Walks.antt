@@ -10,8 +10,8 @@ use Rattle.rkt_router.specs.Order.{IsFirstAt, IsFirstMatch, IsSorted}
 use Rattle.rkt_router.specs.Router.{IsOrder}
 use Rattle.rkt_router.specs.Tries.{Before, IsTries, MatchesAt}
 use Rattle.rkt_router.specs.Walk.{GivesTries, SeenTries, Try, TriesOn}
-use Rattle.rkt_router.specs.declared.route.Route.{Route}
-use Rattle.rkt_router.proofs.Among.{among_first, among_later}
+use Rattle.rkt_route.specs.declared.route.Route.{Route}
+use Rattle.rkt_route.proofs.Among.{among_first, among_later}
 use Rattle.rkt_router.proofs.Orders.{matching_within}
 
 -- a position that matches, at or behind a place

@@ -8,7 +8,7 @@ use Rattle.rkt_http.specs.declared.status.Status.{Status}
 use Rattle.rkt_request.specs.Lent.{Kept}
 use Rattle.rkt_request.specs.Seen.{Seen}
 use Rattle.rkt_response.specs.Responder.{Answer}
-use Rattle.rkt_response.specs.Response.{ResponseOf}
+use Rattle.rkt_message.specs.Response.{ResponseOf}
 use Rattle.rkt_turn.specs.HandsBack.{HandsBack}
 use Rattle.rkt_router.specs.Calling.{Calling}
 

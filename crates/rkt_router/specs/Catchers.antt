@@ -3,7 +3,7 @@ use Rattle.std.specs.Prelude.{◌≡◌, ◌<◌, ◌⊎◌, ℕ, List, Option, 
 use Rattle.rkt_grammar.specs.Grammar.{IsFrontOf}
 use Rattle.rkt_uri.specs.Origin.{segments_of}
 use Rattle.rkt_request.specs.Seen.{Seen}
-use Rattle.rkt_router.specs.declared.catcher.Catcher.{Catcher}
+use Rattle.rkt_route.specs.declared.catcher.Catcher.{Catcher}
 
 -- A catcher is for a status of a request: it has no code or this one, and its base begins the request's path. C is the type
 -- of the handlers of catchers, V that of managed values.

@@ -2,7 +2,7 @@
 use Rattle.std.specs.Prelude.{◌<◌, ℕ, List, Option, Some, None, ⊤}
 use Rattle.rkt_request.specs.Seen.{Seen}
 use Rattle.rkt_router.specs.Catchers.{CatchesAt, OutranksAt}
-use Rattle.rkt_router.specs.declared.catcher.Catcher.{Catcher}
+use Rattle.rkt_route.specs.declared.catcher.Catcher.{Catcher}
 
 -- the catcher at a position goes before the best so far, if there is one
 abbrev pub BeatsBest : {C : Type 0} → List (Catcher C) → ℕ → Option ℕ → Type 0

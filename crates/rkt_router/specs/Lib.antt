@@ -1,16 +1,10 @@
 pub mod CallbackLaws
 pub mod Callbacks
 pub mod Calling
-pub mod Catcher
 pub mod Catchers
 pub mod Choice
-pub mod Collisions
 pub mod Dummies
 pub mod Order
-pub mod Pairs
-pub mod Route
-pub mod RouteUri
 pub mod Router
-pub mod Segment
 pub mod Tries
 pub mod Walk

@@ -3,7 +3,7 @@ use Rattle.std.specs.Prelude.{◌≤◌, ◌<◌, ℕ, List, Option, Some, None,
 use Rattle.std.specs.List.{AllPairs}
 use Rattle.rkt_request.specs.Seen.{Seen}
 use Rattle.rkt_router.specs.Tries.{Before, Behind, MatchesAt}
-use Rattle.rkt_router.specs.declared.route.Route.{Route}
+use Rattle.rkt_route.specs.declared.route.Route.{Route}
 
 -- each of these positions is tried before those that stand behind it
 pub record IsSorted {H S : Type 0} (routes : List (Route H S)) (order : List ℕ) : Type 0 where

@@ -2,8 +2,8 @@
 use Rattle.std.specs.Prelude.{◌<◌, ◌↔◌, ℕ, List, length}
 use Rattle.std.specs.List.{IsAmong}
 use Rattle.rkt_router.specs.Order.{IsSorted}
-use Rattle.rkt_router.specs.declared.catcher.Catcher.{Catcher}
-use Rattle.rkt_router.specs.declared.route.Route.{Route}
+use Rattle.rkt_route.specs.declared.catcher.Catcher.{Catcher}
+use Rattle.rkt_route.specs.declared.route.Route.{Route}
 
 -- H is the type of handlers, C that of catchers' handlers, S that of what sentries ask
 pub record SeenRouter (H C S : Type 0) : Type 0 where

@@ -1,14 +1,14 @@
 -- Which routes a request is tried on, and in which order.
-use Rattle.std.specs.Prelude.{◌≡◌, ◌≤◌, ◌<◌, ◌<ℤ◌, ◌+◌, ◌⊎◌, ◌↔◌, ℕ, List, [], ◌∷◌, ◌++◌, Bool, true, false, not, Option, Some, None, IfSome, IsSomeAnd, codes, length, slice_get, ⊤}
+use Rattle.std.specs.Prelude.{◌≡◌, ◌≤◌, ◌<◌, ◌<ℤ◌, ◌+◌, ◌⊎◌, ◌↔◌, ℕ, List, [], ◌∷◌, ◌++◌, Bool, true, false, not, Option, Some, None, IfSome, IsSomeAnd, length, slice_get, ⊤}
 use Rattle.std.specs.List.{All, AllPairs, IsAmong, take_while}
-use Rattle.std.specs.Str.{str_eq_ignore_ascii_case}
 use Rattle.rkt_media.specs.Media.{Media, specificity_of}
 use Rattle.rkt_http.specs.Method.{carries_payload}
 use Rattle.rkt_uri.specs.Origin.{fields_of, segments_of}
 use Rattle.rkt_request.specs.Seen.{Seen, IsFormat}
-use Rattle.rkt_router.specs.RouteUri.{path_segments, static_fields}
-use Rattle.rkt_router.specs.declared.route.Route.{Route}
-use Rattle.rkt_router.specs.declared.segment.Segment.{Segment}
+use Rattle.rkt_route.specs.Collisions.{MediaCollide}
+use Rattle.rkt_route.specs.RouteUri.{path_segments, static_fields}
+use Rattle.rkt_route.specs.declared.route.Route.{Route}
+use Rattle.rkt_route.specs.declared.segment.Segment.{Segment}
 
 -- the last segment is trailing
 abbrev pub EndsTrailing : List Segment → Type 0
@@ -25,14 +25,6 @@ Agrees (segment ∷ segments) (name ∷ names) = (segment.dynamic ≡ false → 
 pub record PathMatches (segments : List Segment) (names : List (List ℕ)) : Type 0 where
   pub lengths : (length names ≡ length segments) ⊎ (EndsTrailing segments × (length segments ≤ length names + 1))
   pub agrees : Agrees (take_while (λ s. not s.trailing) segments) names
-
--- two parts of media types are equal in any case, or one of them is a star
-abbrev pub PartsCollide : List ℕ → List ℕ → Type 0
-PartsCollide a b = (str_eq_ignore_ascii_case a b ≡ true) ⊎ (a ≡ codes "*") ⊎ (b ≡ codes "*")
-
--- some media type may be both
-abbrev pub MediaCollide : Media → Media → Type 0
-MediaCollide a b = PartsCollide a.top b.top × PartsCollide a.sub b.sub
 
 -- a format that a route asks for: with a payload the request has one without a star, which collides with it; and else the
 -- two collide where the request has one

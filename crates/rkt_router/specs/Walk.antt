@@ -6,7 +6,7 @@ use Rattle.std.specs.List.{All}
 use Rattle.rkt_request.specs.Seen.{Seen}
 use Rattle.rkt_router.specs.Order.{IsFirstAt, IsFirstMatch}
 use Rattle.rkt_router.specs.Tries.{IsTries}
-use Rattle.rkt_router.specs.declared.route.Route.{Route}
+use Rattle.rkt_route.specs.declared.route.Route.{Route}
 
 -- a walk, as contracts see it
 pub record SeenTries (H S V : Type 0) : Type 0 where

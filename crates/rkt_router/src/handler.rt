@@ -44,7 +44,7 @@ pub trait CatchHandler<T: Types> {
     ghost use Rattle.std.specs.Prelude.{Result};
     ghost use Rattle.rkt_http.specs.declared.status.Status.{Status};
     ghost use Rattle.rkt_request.specs.Lent.{Kept};
-    ghost use Rattle.rkt_response.specs.Response.{ResponseOf};
+    ghost use Rattle.rkt_message.specs.Response.{ResponseOf};
     ghost use Rattle.rkt_router.specs.Callbacks.{Refused, Keeps};
     ghost use Rattle.rkt_router.specs.Calling.{Calling, Starts, CanPoll, Polls};
 

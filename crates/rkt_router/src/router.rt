@@ -1,17 +1,17 @@
 ghost use Rattle.std.specs.Prelude.{◌≡◌, ◌++◌, ◌∷◌, [], Some, IfSome, OnOk, OnErr, option_map, slice_get};
 ghost use Rattle.rkt_base.specs.Want.{IfRefused};
 ghost use Rattle.rkt_router.specs.Catchers.{IsChosen};
-ghost use Rattle.rkt_router.specs.Collisions.{AreCollisions, CatchersCollide, RoutesCollide};
+ghost use Rattle.rkt_route.specs.Collisions.{AreCollisions, CatchersCollide, RoutesCollide};
 ghost use Rattle.rkt_router.specs.Tries.{IsNextTry};
 ghost use Rattle.rkt_router.specs.Walk.{GivesTries};
 
 use crate::chosen::chosen;
-use crate::collisions::colliding_pairs;
 use crate::order::{next_try, place_behind};
 use crate::{Catcher, Collisions, Route, Tries};
 use rkt_base::{NoMemory, Seq, Want};
 use rkt_http::Status;
 use rkt_request::{Request, Types};
+use rkt_route::colliding_pairs;
 use std::alloc::Global;
 use std::marker::Model;
 

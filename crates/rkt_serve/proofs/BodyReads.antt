@@ -2,9 +2,9 @@
 use Rattle.std.proofs.Common.{◌+◌, ◌∙◌, inl, inr, List, ℕ, Option, arith, refl, ap, subst}
 use Rattle.std.proofs.lemmas.List.{drop-drop}
 use Rattle.rkt_source.specs.Source.{Meaning, Keeps}
-use Rattle.rkt_response.specs.Reading.{ReadsOn}
-use Rattle.rkt_response.specs.declared.content.Content.{Content}
-use Rattle.rkt_response.specs.declared.content.Content.TheVariants as content
+use Rattle.rkt_message.specs.Reading.{ReadsOn}
+use Rattle.rkt_message.specs.declared.content.Content.{Content}
+use Rattle.rkt_message.specs.declared.content.Content.TheVariants as content
 
 keeps_same : (trip : Option ℕ) (m : Meaning) → Keeps trip m m
 keeps_same trip m = record {

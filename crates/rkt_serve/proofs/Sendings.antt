@@ -6,17 +6,17 @@ use Rattle.rkt_base.specs.declared.poll.Poll.TheVariants.{Ready}
 use Rattle.rkt_source.specs.Source.{Meaning, Keeps, Errs}
 use Rattle.rkt_source.specs.declared.source.SourceError.{SourceError}
 use Rattle.rkt_source.specs.declared.source.SourceError.TheVariants.{SourceFault, Gone, TimedOut}
-use Rattle.rkt_response.specs.Reading.{ReadsOn, StreamErrs}
-use Rattle.rkt_response.specs.Response.{ResponseOf}
-use Rattle.rkt_response.specs.Sending.{Gives, GivesUp, MayWait, Owes, OwesAt, ReadOn, Sending, Waits, stage_after}
-use Rattle.rkt_response.specs.Sent.{Sent, SentBody, has_head}
-use Rattle.rkt_response.specs.declared.content.Content.{Content}
-use Rattle.rkt_response.specs.declared.content.Content.TheVariants as content
-use Rattle.rkt_response.specs.declared.piece.Piece.{Piece}
-use Rattle.rkt_response.specs.declared.piece.Piece.TheVariants.{Head, Chunk, End}
-use Rattle.rkt_response.specs.declared.piece.PieceError.{PieceError}
-use Rattle.rkt_response.specs.declared.stage.Stage.{Stage}
-use Rattle.rkt_response.specs.declared.stage.Stage.TheVariants as stage
+use Rattle.rkt_message.specs.Reading.{ReadsOn, StreamErrs}
+use Rattle.rkt_message.specs.Response.{ResponseOf}
+use Rattle.rkt_message.specs.Sending.{Gives, GivesUp, MayWait, Owes, OwesAt, ReadOn, Sending, Waits, stage_after}
+use Rattle.rkt_message.specs.Sent.{Sent, SentBody, has_head}
+use Rattle.rkt_message.specs.declared.content.Content.{Content}
+use Rattle.rkt_message.specs.declared.content.Content.TheVariants as content
+use Rattle.rkt_message.specs.declared.piece.Piece.{Piece}
+use Rattle.rkt_message.specs.declared.piece.Piece.TheVariants.{Head, Chunk, End}
+use Rattle.rkt_message.specs.declared.piece.PieceError.{PieceError}
+use Rattle.rkt_message.specs.declared.stage.Stage.{Stage}
+use Rattle.rkt_message.specs.declared.stage.Stage.TheVariants as stage
 use Rattle.rkt_serve.specs.Progress.{Advances, PartlySent}
 use Rattle.rkt_serve.specs.Sent.{BodyFails}
 

@@ -3,7 +3,7 @@ use Rattle.std.specs.Prelude.{◌≡◌, ◌≤◌, ℕ, max, List, [], ◌∷�
 use Rattle.std.proofs.Common.{ap, sym}
 use Rattle.std.specs.List.{AllByRecursion}
 use Rattle.std.specs.Option.{option_map_or}
-use Rattle.rkt_response.specs.declared.piece.Piece.{Piece}
+use Rattle.rkt_message.specs.declared.piece.Piece.{Piece}
 use Rattle.rkt_request.specs.declared.head.Head.{Head}
 use Rattle.rkt_serve.specs.Asked.{Asked}
 use Rattle.rkt_serve.specs.Clock.{ClockMeaning}

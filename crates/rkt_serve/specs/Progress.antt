@@ -1,10 +1,10 @@
 -- What is known of a response while it is sent.
 use Rattle.std.specs.Prelude.{◌≡◌, ◌≢◌, ◌↔◌, ◌++◌, List, [], ◌∷◌}
 use Rattle.rkt_source.specs.Source.{Meaning}
-use Rattle.rkt_response.specs.Sending.{IsHead, Owes, ReadOn, Sending, stage_after}
-use Rattle.rkt_response.specs.Sent.{Sent}
-use Rattle.rkt_response.specs.declared.piece.Piece.{Piece}
-use Rattle.rkt_response.specs.declared.stage.Stage.TheVariants as stage
+use Rattle.rkt_message.specs.Sending.{IsHead, Owes, ReadOn, Sending, stage_after}
+use Rattle.rkt_message.specs.Sent.{Sent}
+use Rattle.rkt_message.specs.declared.piece.Piece.{Piece}
+use Rattle.rkt_message.specs.declared.stage.Stage.TheVariants as stage
 use Rattle.rkt_serve.specs.Sent.{IsProperFront}
 
 -- a state gave a piece, after none or some polls that were Pending

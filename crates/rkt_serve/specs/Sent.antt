@@ -2,11 +2,11 @@
 use Rattle.std.specs.Prelude.{◌≡◌, ◌≢◌, ◌⊎◌, ◌++◌, ℕ, false, List, []}
 use Rattle.rkt_source.specs.Source.{Meaning}
 use Rattle.rkt_source.specs.declared.source.SourceError.{SourceError}
-use Rattle.rkt_response.specs.Reading.{StreamErrs}
-use Rattle.rkt_response.specs.Response.{ResponseOf}
-use Rattle.rkt_response.specs.Sending.{MayWait}
-use Rattle.rkt_response.specs.Sent.{Sent, has_head}
-use Rattle.rkt_response.specs.declared.piece.Piece.{Piece}
+use Rattle.rkt_message.specs.Reading.{StreamErrs}
+use Rattle.rkt_message.specs.Response.{ResponseOf}
+use Rattle.rkt_message.specs.Sending.{MayWait}
+use Rattle.rkt_message.specs.Sent.{Sent, has_head}
+use Rattle.rkt_message.specs.declared.piece.Piece.{Piece}
 use Rattle.rkt_serve.specs.declared.history.End.{End as Ending}
 use Rattle.rkt_serve.specs.declared.history.End.TheVariants.{Answered, Failed, Starved}
 use Rattle.rkt_serve.specs.declared.history.Failure.TheVariants.{BadHead, BodyFault}

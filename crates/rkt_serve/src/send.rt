@@ -1,11 +1,11 @@
 //! How a response is sent.
 ghost use Rattle.std.specs.Prelude.{◌≡◌, ◌≢◌, ◌∷◌, [], Err, List, IfOk, OnOk, false, max};
-ghost use Rattle.rkt_response.specs.Reading.{ReadsOn};
-ghost use Rattle.rkt_response.specs.Sending.{ReadOn};
-ghost use Rattle.rkt_response.specs.Sent.{has_head};
-ghost use Rattle.rkt_response.specs.declared.piece.Piece.{Piece};
-ghost use Rattle.rkt_response.specs.declared.piece.PieceError.{PieceError};
-ghost use Rattle.rkt_response.specs.declared.stage.Stage.{Stage};
+ghost use Rattle.rkt_message.specs.Reading.{ReadsOn};
+ghost use Rattle.rkt_message.specs.Sending.{ReadOn};
+ghost use Rattle.rkt_message.specs.Sent.{has_head};
+ghost use Rattle.rkt_message.specs.declared.piece.Piece.{Piece};
+ghost use Rattle.rkt_message.specs.declared.piece.PieceError.{PieceError};
+ghost use Rattle.rkt_message.specs.declared.stage.Stage.{Stage};
 ghost use Rattle.rkt_serve.specs.Link.{with_taken};
 ghost use Rattle.rkt_serve.specs.Progress.{Advances};
 ghost use Rattle.rkt_serve.specs.Sent.{BodyFails, IsSentAs};

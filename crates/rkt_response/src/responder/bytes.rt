@@ -10,9 +10,9 @@ ghost use Rattle.rkt_response.specs.Responder.{typed_bytes};
 
 use crate::responder::Responder;
 use crate::responder::making::typed_bytes;
-use crate::response::Response;
 use rkt_base::Want;
 use rkt_http::{Known, Status};
+use rkt_message::Response;
 use rkt_request::{Ctx, Request, Types};
 use std::alloc::Global;
 use std::borrow::CowSlice;

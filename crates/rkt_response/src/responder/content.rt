@@ -6,9 +6,9 @@ ghost use Rattle.rkt_response.specs.Responder.{Changes, StarvesWithin, with_type
 
 use crate::responder::Responder;
 use crate::responder::making::with_known;
-use crate::response::Response;
 use rkt_base::Want;
 use rkt_http::{ContentType, Known, Status};
+use rkt_message::Response;
 use rkt_request::{Ctx, Request, Types};
 use std::alloc::Global;
 

@@ -1,14 +1,14 @@
 ghost use Rattle.std.specs.Prelude.{◌≡◌, None, Some, Ok, IfOk};
 ghost use Rattle.std.specs.Option.{MatchOption};
 ghost use Rattle.rkt_request.specs.FromRequest.{Answers};
-ghost use Rattle.rkt_response.specs.Response.{empty_response};
+ghost use Rattle.rkt_message.specs.Response.{empty_response};
 ghost use Rattle.rkt_response.specs.Responder.{Changes, StarvesWithin, created_at};
 
 use crate::responder::Responder;
-use crate::response::Response;
 use rkt_base::{NoMemory, Text, Want};
 use rkt_data::Source;
 use rkt_http::Status;
+use rkt_message::Response;
 use rkt_request::{Ctx, Request, Types};
 use std::alloc::Global;
 use std::marker::Model;

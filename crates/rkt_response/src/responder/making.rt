@@ -4,10 +4,10 @@ ghost use Rattle.rkt_media.specs.Media.{known_text};
 ghost use Rattle.rkt_response.specs.Responder.{Changes, IfAnswered, IfStarved, StarvesWithin, streamed, typed_bytes, with_status, with_type};
 
 use crate::responder::Responder;
-use crate::response::Response;
 use rkt_base::{NoMemory, Want};
 use rkt_data::Source;
 use rkt_http::{ContentType, Known, Status};
+use rkt_message::Response;
 use rkt_request::{Ctx, Request, Types};
 use std::alloc::Global;
 

@@ -1,14 +1,14 @@
 //! Responders without a body.
 ghost use Rattle.std.specs.Prelude.{◌≡◌, Ok};
 ghost use Rattle.rkt_request.specs.FromRequest.{Answers};
-ghost use Rattle.rkt_response.specs.Response.{empty_response};
+ghost use Rattle.rkt_message.specs.Response.{empty_response};
 ghost use Rattle.rkt_response.specs.Responder.{answer_of_status, refusal};
 
 use crate::responder::Responder;
-use crate::response::Response;
 use rkt_base::Want;
 use rkt_data::SourceError;
 use rkt_http::Status;
+use rkt_message::Response;
 use rkt_request::{Ctx, Request, Types};
 use std::alloc::Global;
 

@@ -4,9 +4,9 @@ ghost use Rattle.rkt_request.specs.FromRequest.{Answers};
 ghost use Rattle.rkt_response.specs.Responder.{answer_of_redirect};
 
 use crate::responder::Responder;
-use crate::response::Response;
 use rkt_base::{NoMemory, Want};
 use rkt_http::{Reference, Status};
+use rkt_message::Response;
 use rkt_request::{Ctx, Request, Types};
 use std::alloc::{AllocError, Global};
 use std::marker::Model;

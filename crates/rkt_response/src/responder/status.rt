@@ -6,9 +6,9 @@ ghost use Rattle.rkt_response.specs.Responder.{Changes, status_alone, with_statu
 use crate::responder::Responder;
 pub use crate::responder::created::Created;
 use crate::responder::making::with_status;
-use crate::response::Response;
 use rkt_base::Want;
 use rkt_http::Status;
+use rkt_message::Response;
 use rkt_request::{Ctx, Request, Types};
 use std::alloc::Global;
 

@@ -7,12 +7,12 @@ ghost use Rattle.rkt_response.specs.Responder.{streamed, with_type};
 
 use crate::responder::Responder;
 use crate::responder::making::typed_stream;
-use crate::response::Response;
 use rkt_base::Want;
 use rkt_data::Source;
 pub use rkt_data::stream::ReaderStream;
 use rkt_data::stream::Stream;
 use rkt_http::{Known, Status};
+use rkt_message::Response;
 use rkt_request::{Ctx, Request, Types};
 use std::alloc::Global;
 

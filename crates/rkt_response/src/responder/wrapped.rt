@@ -7,11 +7,11 @@ ghost use Rattle.rkt_request.specs.FromRequest.{Answers};
 ghost use Rattle.rkt_response.specs.Responder.{refusal};
 
 use crate::responder::Responder;
-use crate::response::Response;
 use either::{Either, Left, Right};
 use rkt_base::Want;
 use rkt_data::Capped;
 use rkt_http::Status;
+use rkt_message::Response;
 use rkt_request::{Ctx, Request, Types};
 use std::alloc::Global;
 

@@ -1,6 +1,6 @@
 use Rattle.std.proofs.Common.{sym, ◌∙◌}
 use Rattle.std.proofs.lemmas.Bool.{false≢true}
-use Rattle.rkt_router.proofs.Among.{among_on}
+use Rattle.rkt_route.proofs.Among.{among_on}
 use Rattle.rkt_router.proofs.matches.has_field.Goals as goal
 
 pub loop-found-preserved : goal.loop-found-preserved

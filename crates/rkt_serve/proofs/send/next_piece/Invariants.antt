@@ -1,4 +1,4 @@
-use Rattle.rkt_response.specs.Reading.{ReadsOn}
+use Rattle.rkt_message.specs.Reading.{ReadsOn}
 use Rattle.rkt_serve.proofs.Sendings.{Waited}
 use Rattle.rkt_serve.proofs.send.next_piece.Given as goal
 

@@ -1,6 +1,6 @@
 use Rattle.std.proofs.Common.{◌≡◌, List}
-use Rattle.rkt_response.specs.Reading.{ReadsOn}
-use Rattle.rkt_response.specs.declared.piece.Piece.{Piece}
+use Rattle.rkt_message.specs.Reading.{ReadsOn}
+use Rattle.rkt_message.specs.declared.piece.Piece.{Piece}
 use Rattle.rkt_serve.specs.Link.{with_taken}
 use Rattle.rkt_serve.specs.Progress.{PartlySent}
 use Rattle.rkt_serve.proofs.send.put_all.Given as goal

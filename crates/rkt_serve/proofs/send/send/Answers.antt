@@ -1,7 +1,7 @@
 use Rattle.std.proofs.Common.{◌∙◌, ap, sym, subst}
-use Rattle.rkt_response.specs.Reading.{ReadsOn}
-use Rattle.rkt_response.specs.Response.{ResponseOf}
-use Rattle.rkt_response.specs.Sending.{ReadOn, Sending}
+use Rattle.rkt_message.specs.Reading.{ReadsOn}
+use Rattle.rkt_message.specs.Response.{ResponseOf}
+use Rattle.rkt_message.specs.Sending.{ReadOn, Sending}
 use Rattle.rkt_serve.proofs.Pieces.{ended_as}
 use Rattle.rkt_serve.proofs.send.send.Goals as goal
 

@@ -1,0 +1,56 @@
+use Rattle.std.proofs.Common.{◌≡◌, ◌∙◌, arith, ap, refl}
+use Rattle.rkt_message.specs.declared.stage.Stage.TheVariants as stage
+use Rattle.rkt_message.proofs.ReadOnLemmas.{never_waited, reads_more, sends_on, waited_more, waited_still}
+use Rattle.rkt_message.proofs.Readings.{ByGate-refl}
+use Rattle.rkt_message.proofs.SendingLemmas.{gives_chunk}
+use Rattle.rkt_message.proofs.pieces.Pieces.chunk.Goals as goal
+
+pub returns-in-Err-clause-by_gate : goal.returns-in-Err-clause-by_gate
+returns-in-Err-clause-by_gate g c = ByGate-refl _ _ _
+
+pub invariant_of-self : goal.invariant_of-self
+invariant_of-self g c =
+    let r = c.read_chunk.ensures in
+    let below = c.self.invariant.below in
+    sends_on _ _ _ _ _ _ _ _ c.self.invariant r.status r.headers r.follows r.preset (omega arith) (never_waited g.S.Source.meaning _)
+
+pub invariant_of-self-in-End : goal.invariant_of-self-in-End
+invariant_of-self-in-End g c =
+    let r = c.read_chunk.ensures in
+    let below = c.self.invariant.below in
+    sends_on _ _ _ _ _ _ _ _ c.self.invariant r.status r.headers r.follows r.preset (omega arith) (never_waited g.S.Source.meaning _)
+
+pub invariant_of-self-then-waits-self : goal.invariant_of-self-then-waits-self
+invariant_of-self-then-waits-self g c =
+    let r = c.read_chunk.ensures in
+    sends_on _ _ _ _ _ _ _ _ c.self.invariant r.status r.headers r.follows r.preset c.if-waits-self.true (waited_more g.S.Source.meaning _ _ _ c.self.invariant.waited c.in-Waiting.ensures.reads.0)
+
+pub invariant_of-self-in-Waiting : goal.invariant_of-self-in-Waiting
+invariant_of-self-in-Waiting g c =
+    let r = c.read_chunk.ensures in
+    sends_on _ _ _ _ _ _ _ _ c.self.invariant r.status r.headers r.follows r.preset c.self.invariant.below (waited_still _ _ _ _ _ r.follows.content c.self.invariant.waited)
+
+pub invariant_of-self-in-Refused : goal.invariant_of-self-in-Refused
+invariant_of-self-in-Refused g c =
+    let r = c.read_chunk.ensures in
+    sends_on _ _ _ _ _ _ _ _ c.self.invariant r.status r.headers r.follows r.preset c.self.invariant.below (waited_still _ _ _ _ _ r.follows.content c.self.invariant.waited)
+
+pub returns-in-Bytes-clause-read_on : goal.returns-in-Bytes-clause-read_on
+returns-in-Bytes-clause-read_on g c = let r = c.read_chunk.ensures in reads_more _ _ _ _ _ c.self.invariant.read_on r.status r.headers r.follows r.preset
+
+pub returns-in-End-clause-read_on : goal.returns-in-End-clause-read_on
+returns-in-End-clause-read_on g c = let r = c.read_chunk.ensures in reads_more _ _ _ _ _ c.self.invariant.read_on r.status r.headers r.follows r.preset
+
+pub returns-then-waits-self-clause-read_on : goal.returns-then-waits-self-clause-read_on
+returns-then-waits-self-clause-read_on g c = let r = c.read_chunk.ensures in reads_more _ _ _ _ _ c.self.invariant.read_on r.status r.headers r.follows r.preset
+
+pub returns-else-waits-self-clause-read_on : goal.returns-else-waits-self-clause-read_on
+returns-else-waits-self-clause-read_on g c = let r = c.read_chunk.ensures in reads_more _ _ _ _ _ c.self.invariant.read_on r.status r.headers r.follows r.preset
+
+pub returns-in-Refused-clause-read_on : goal.returns-in-Refused-clause-read_on
+returns-in-Refused-clause-read_on g c = let r = c.read_chunk.ensures in reads_more _ _ _ _ _ c.self.invariant.read_on r.status r.headers r.follows r.preset
+
+pub returns-in-Bytes-clause-answer : goal.returns-in-Bytes-clause-answer
+returns-in-Bytes-clause-answer g c =
+    let at : c.self.inside.stage ≡ stage.Body = ap (λ s. s.stage) c.self.view_is ∙ c.requires in
+    rw (← c.self.view_is) (gives_chunk _ _ _ _ at at c.read_chunk.ensures.follows.chunk refl c.self.invariant.chunk c.in-Bytes.ensures.reads)

@@ -1,0 +1,29 @@
+-- How a chunk of a body is read.
+use Rattle.std.specs.Option.{ForSome}
+use Rattle.std.specs.Prelude.{◌≡◌, ◌≤◌, ◌++◌, ℕ, List, [], length, Some}
+use Rattle.rkt_source.specs.Source.{Meaning}
+use Rattle.rkt_message.specs.Body.{BodyOf, left_of}
+use Rattle.rkt_message.specs.Reading.{StreamErrs, StreamWaits, Takes}
+use Rattle.rkt_message.specs.Sent.{IsChunk}
+use Rattle.rkt_message.specs.declared.chunk.ChunkRead.{ChunkRead}
+use Rattle.rkt_message.specs.declared.chunk.ChunkRead.TheVariants as chunk_read
+
+-- nothing is left of a body, where that is told
+abbrev pub IsAtEnd : {S : Type 0} → (S → Meaning) → BodyOf S → Type 0
+IsAtEnd meaning body = ForSome (left_of meaning body.content) (λ left. left ≡ [])
+
+-- this much room is no more than a chunk may hold, and there is none only where nothing is left
+pub record IsRoom {S : Type 0} (meaning : S → Meaning) (body : BodyOf S) (room : ℕ) : Type 0 where
+  pub within : room ≤ body.chunk
+  pub none : room ≡ 0 → IsAtEnd meaning body
+
+-- these are the next bytes of a body, where they are told
+abbrev pub IsNext : {S : Type 0} → (S → Meaning) → BodyOf S → BodyOf S → List ℕ → Type 0
+IsNext meaning a b bytes = ForSome (left_of meaning a.content) (λ left. (rest : List ℕ) × (left ≡ bytes ++ rest) × (left_of meaning b.content ≡ Some rest))
+
+-- what a read into room for a chunk came to
+abbrev pub ReadsChunk : {S : Type 0} → (S → Meaning) → BodyOf S → BodyOf S → ChunkRead → Type 0
+ReadsChunk meaning a b (chunk_read.Bytes bytes) = IsChunk a.chunk bytes × IsNext meaning a b bytes × Takes meaning a.content b.content (length bytes)
+ReadsChunk meaning a b chunk_read.End = IsAtEnd meaning a × Takes meaning a.content b.content 0
+ReadsChunk meaning a b chunk_read.Waiting = StreamWaits meaning a.content b.content × (left_of meaning b.content ≡ left_of meaning a.content) × Takes meaning a.content b.content 0
+ReadsChunk meaning a b (chunk_read.Refused e) = StreamErrs meaning e a.content b.content

@@ -1,4 +1,0 @@
-use Rattle.rkt_response.proofs.body.Body.poll_read.Goals as goal
-
-pub returns-clause-answer : goal.returns-clause-answer
-returns-clause-answer g c = rw (← c.self.view_is) c.poll_read.ensures.answer

@@ -1,9 +1,0 @@
-use Rattle.std.proofs.Common.{length, take, ◌-◌, ◌≤◌}
-use Rattle.rkt_response.specs.Whole.{Draws}
-use Rattle.rkt_response.proofs.drain.pour.Given as goal
-
-abbrev pub invariant-loop-n : goal.invariant-loop-n
-invariant-loop-n g l = Draws g.S.Source.meaning g.S.Source.polled l.gate l.fn.body l.body (take l.count l.fn.room) (take l.n l.room) × (l.n ≤ length l.room)
-
-abbrev pub decreases-loop-n : goal.decreases-loop-n
-decreases-loop-n g l = length l.initial.room - l.n

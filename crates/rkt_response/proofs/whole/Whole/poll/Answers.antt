@@ -1,5 +1,0 @@
-use Rattle.rkt_response.proofs.Readings.{ByGate-refl}
-use Rattle.rkt_response.proofs.whole.Whole.poll.Goals as goal
-
-pub returns-in-Some-clause-by_gate : goal.returns-in-Some-clause-by_gate
-returns-in-Some-clause-by_gate g c = ByGate-refl g.S.Source.polled c.args.gate c.args.self.now.body.content

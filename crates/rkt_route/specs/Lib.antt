@@ -1,0 +1,6 @@
+pub mod Catcher
+pub mod Collisions
+pub mod Pairs
+pub mod Route
+pub mod RouteUri
+pub mod Segment

@@ -1,6 +1,0 @@
-use Rattle.rkt_router.specs.RouteUri.{root}
-use Rattle.rkt_router.proofs.Mounted.{root_spelled}
-use Rattle.rkt_router.proofs.catcher.root.Goals as goal
-
-pub returns-in-Ok : goal.returns-in-Ok
-returns-in-Ok c = c.in-Ok.ensures.complete root root_spelled

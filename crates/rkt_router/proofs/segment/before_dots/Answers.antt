@@ -1,5 +1,0 @@
-use Rattle.rkt_router.proofs.Strips.{stripped-end}
-use Rattle.rkt_router.proofs.segment.before_dots.Goals as goal
-
-pub returns : goal.returns
-returns c = stripped-end _ _ _ c.strip_suffix.ensures.cases
