@@ -8,8 +8,8 @@ use rkt_base::NoMemory;
 use rkt_cookie::{Cookie, CookieJar};
 use rkt_data::{Gate, MemorySource};
 use rkt_life::{EndedOf, Ignite, Rocket, Run, Tables};
+use rkt_message::Response;
 use rkt_request::{Head, Request};
-use rkt_response::Response;
 use rkt_turn::Shutdown;
 use std::alloc::{AllocError, Global};
 

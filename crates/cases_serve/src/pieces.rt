@@ -5,7 +5,7 @@ use crate::setting::Setting;
 use crate::words::{first_word, number, numbers, push_item};
 use rkt_base::NoMemory;
 use rkt_data::{Gate, MemorySource};
-use rkt_response::{Piece, Response};
+use rkt_message::{Piece, Response};
 use rkt_serve::{End, MemoryLink, send};
 use std::alloc::{AllocError, Global};
 use std::sync::Wait;

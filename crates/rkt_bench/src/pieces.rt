@@ -8,7 +8,7 @@ use crate::body::{GATE, body, place_behind};
 use anyhow::{Error, bail};
 use rkt_base::{Bytes, Poll};
 use rkt_data::MemorySource;
-use rkt_response::{Piece, Pieces, Response};
+use rkt_message::{Piece, Pieces, Response};
 use std::alloc::{AllocError, Global};
 use std::time::{Clock, Duration, Instant};
 

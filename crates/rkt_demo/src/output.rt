@@ -7,7 +7,7 @@ ghost use Rattle.rkt_demo.specs.Output.{header_line, head_text, body_bytes, labe
 
 use crate::sample::Sample;
 use rkt_base::{NoMemory, Text};
-use rkt_response::Piece;
+use rkt_message::Piece;
 use rkt_serve::{End, Entry, History, MemoryLink};
 use std::alloc::Global;
 

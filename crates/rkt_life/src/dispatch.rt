@@ -10,8 +10,8 @@ use crate::{Answer, App, Call, Ended, EndedOf, Handler, RunOf, Tables, Which};
 use rkt_base::{NoMemory, Seq};
 use rkt_data::Gate;
 use rkt_http::{Origin, Status};
+use rkt_message::Response;
 use rkt_request::{Bad, Ctx, Incoming, Mounted, Request, Types};
-use rkt_response::Response;
 use rkt_turn::Shutdown;
 use std::alloc::Global;
 

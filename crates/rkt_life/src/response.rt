@@ -5,8 +5,8 @@ ghost use Rattle.rkt_life.specs.Response.{typed, PrefersJson, IsDefaultPage, tex
 use rkt_base::NoMemory;
 use rkt_data::Source;
 use rkt_http::{Status, default_page as page};
+use rkt_message::Response;
 use rkt_request::{Request, Types};
-use rkt_response::Response;
 use std::alloc::Global;
 
 // A body of this type.

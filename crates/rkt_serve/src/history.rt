@@ -6,8 +6,8 @@ ghost use Rattle.rkt_serve.specs.Events.{noted, with_first, is_admit, admitted, 
 
 use rkt_base::{NoMemory, Seq};
 use rkt_life::RunOf;
+use rkt_message::Response;
 use rkt_request::Types;
-use rkt_response::Response;
 use std::alloc::Global;
 
 /// How the call of a liftoff callback ended.

@@ -6,8 +6,8 @@ ghost use Rattle.rkt_serve.specs.Link.{LinkMeaning, after_send};
 
 use rkt_base::Poll;
 use rkt_data::Shut;
+use rkt_message::Piece;
 use rkt_request::Head;
-use rkt_response::Piece;
 
 /// Why a piece was not taken.
 #[derive(Clone, Copy, Debug, PartialEq, Eq)]

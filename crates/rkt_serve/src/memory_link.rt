@@ -4,8 +4,8 @@ ghost use Rattle.std.specs.Prelude.{◌≡◌, [], List};
 use crate::{Link, SendError};
 use rkt_base::{Poll, Seq};
 use rkt_data::Shut;
+use rkt_message::Piece;
 use rkt_request::Head;
-use rkt_response::Piece;
 use std::alloc::Global;
 use std::marker::Model;
 

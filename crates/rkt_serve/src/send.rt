@@ -13,7 +13,7 @@ ghost use Rattle.rkt_serve.specs.Sent.{BodyFails, IsSentAs};
 use crate::{End, Failure, Link, SendError};
 use rkt_base::{NoMemory, Poll};
 use rkt_data::{Gate, Source};
-use rkt_response::{Piece, PieceError, Pieces, Response};
+use rkt_message::{Piece, PieceError, Pieces, Response};
 use std::alloc::{AllocError, Global};
 use std::sync::Wait;
 

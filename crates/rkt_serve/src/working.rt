@@ -17,8 +17,8 @@ use crate::{Accepted, Clock, End, Entry, EntryOf, Event, EventOf, Link, Listener
 use rkt_base::{NoMemory, Poll};
 use rkt_data::Gate;
 use rkt_life::{App, Ended, EndedOf, Handler, Run, Tables};
+use rkt_message::Response;
 use rkt_request::{Head, Request};
-use rkt_response::Response;
 use rkt_turn::Shutdown;
 use std::alloc::{AllocError, Global};
 use std::sync::Wait;
