@@ -1,4 +1,4 @@
-//! What `rkt_demo serve` is measured against: the same way of a request, as one would write it in plain Rust over
+//! What `demo serve` is measured against: the same way of a request, as one would write it in plain Rust over
 //! std. A script is read and checked, each head is read as a request with its headers and cookies and routed by its
 //! decoded segments, the response is sent to a link that keeps its pieces, every event goes into a history, and the
 //! text is printed from what the links hold.

@@ -16,6 +16,3 @@ pub use cookie::Cookie;
 pub use jar::{CookieIter, CookieJar};
 pub use parse::InvalidCookie;
 pub use same_site::SameSite;
-
-#[cfg(test)]
-mod tests;

@@ -5,11 +5,11 @@ use Rattle.std.specs.Prelude.{nat_le}
 use Rattle.std.proofs.lemmas.Bool.{leb-true, leb-false}
 use Rattle.std.proofs.lemmas.List.{drop-take}
 use Rattle.rkt_data.specs.Gathering.{Gained, Gathered, Draws, IsUsedUp, Completes}
-use Rattle.rkt_data.specs.Source.{Meaning}
+use Rattle.rkt_source.specs.Source.{Meaning}
 use Rattle.rkt_data.specs.Stream.{Opened, Piped, Follows, TakesAtMost, IsComplete, whole_of}
 use Rattle.rkt_data.specs.Tap.{ByGate}
 use Rattle.rkt_data.specs.declared.capped.N.{N}
-use Rattle.rkt_data.specs.declared.source.Gate.{Gate}
+use Rattle.rkt_source.specs.declared.source.Gate.{Gate}
 use Rattle.rkt_data.proofs.Pulls.{front_of, same_front}
 use Rattle.rkt_data.proofs.Taps.{ByGate-refl, ByGate-trans, SameTap-refl, SameTap-trans, body_same}
 

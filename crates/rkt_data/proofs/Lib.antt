@@ -1,10 +1,4 @@
-pub mod Cancels
-pub mod Chains
 pub mod Drains
-pub mod Flats
-pub mod Flows
-pub mod Joinings
-pub mod MemoryLemmas
 pub mod Pulls
 pub mod Sends
 pub mod Streams

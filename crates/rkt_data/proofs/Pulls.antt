@@ -3,23 +3,9 @@ use Rattle.std.specs.Option.{ForSome}
 use Rattle.std.proofs.Common.{◌≡◌, ℕ, ◌+◌, ◌≤◌, ◌++◌, ◌∙◌, inl, inr, ⊎_elim, List, length, take, drop, Option, refl, sym, ap, ap₂, rules, arith, le_refl, le_trans, length-append, length-take-le, take_at, take-add, drop-drop}
 use Rattle.std.proofs.Math.Seq.{take-append-add}
 use Rattle.std.proofs.lemmas.List.{take-append-le}
-use Rattle.rkt_data.specs.Source.{Meaning, Keeps, Gives}
+use Rattle.rkt_source.specs.Source.{Meaning, Keeps, Gives}
+use Rattle.rkt_source.proofs.Sources.{Keeps-trans}
 use Rattle.rkt_data.specs.Tap.{Pulled, Gave}
-
-pub Keeps-refl : (trip : Option ℕ) (m : Meaning) → Keeps trip m m
-Keeps-refl trip m = record { whole = refl; never_faults = refl; pendings = refl; faults = le_refl _; pended = le_refl _; warned = λ h. inl h; still_warned = λ h. h; still_shut = λ h. h }
-
-pub Keeps-trans : {trip : Option ℕ} {m n o : Meaning} → Keeps trip m n → Keeps trip n o → Keeps trip m o
-Keeps-trans p q = record {
-  whole = q.whole ∙ p.whole;
-  never_faults = q.never_faults ∙ p.never_faults;
-  pendings = q.pendings ∙ p.pendings;
-  faults = le_trans p.faults q.faults;
-  pended = le_trans p.pended q.pended;
-  warned = λ h. ⊎_elim p.warned inr (q.warned h);
-  still_warned = λ h. q.still_warned (p.still_warned h);
-  still_shut = λ h. q.still_shut (p.still_shut h);
-}
 
 -- the front of two parts and a rest
 pub front_of : {A : Type 0} (n k : ℕ) (xs buf post : List A) → length xs ≡ n → k ≤ length buf → take (n + k) (xs ++ (buf ++ post)) ≡ xs ++ take k buf

@@ -2,17 +2,18 @@
 use Rattle.std.proofs.Common.{◌≡◌, ℕ, ◌+◌, ◌-◌, ◌≤◌, ◌<◌, ◌++◌, ◌∙◌, false, List, [], length, take, drop, Option, None, Some, Vec, Global, vec_len, refl, sym, ap, ap₂, arith, le_refl, le_trans, append_assoc, append-nil, length-append, take-add, take-take, take_at, drop-drop}
 use Rattle.std.proofs.lemmas.List.{drop-take}
 use Rattle.std.specs.Prelude.{option_map}
-use Rattle.rkt_data.specs.Gathering.{Gained, IsUsedUp, data_error_of, items_of}
+use Rattle.rkt_data.specs.Gathering.{Gained, IsUsedUp, data_error_of}
+use Rattle.rkt_source.specs.Buffer.{items_of}
 use Rattle.rkt_data.specs.Sending.{Fed, Pumps, SentOf, Sends, SendErr, SentAll, HasRoom, between, sink_error_of}
-use Rattle.rkt_data.specs.Sink.{SinkMeaning, SinkKeeps, SinkWaits, SinkErrs, Gains}
-use Rattle.rkt_data.specs.Source.{Meaning}
+use Rattle.rkt_source.specs.Sink.{SinkMeaning, SinkKeeps, SinkWaits, SinkErrs, Gains}
+use Rattle.rkt_source.specs.Source.{Meaning}
 use Rattle.rkt_data.specs.Stream.{Opened, Piped, Follows, TakesAtMost}
 use Rattle.rkt_data.specs.Tap.{ByGate, TapErrs}
-use Rattle.rkt_data.specs.declared.sink.SinkError.{SinkError}
-use Rattle.rkt_data.specs.declared.sink.SinkError.TheVariants as sink_error
-use Rattle.rkt_data.specs.declared.source.Gate.{Gate}
-use Rattle.rkt_data.specs.declared.source.SourceError.{SourceError}
-use Rattle.rkt_data.specs.declared.source.SourceError.TheVariants as source_error
+use Rattle.rkt_source.specs.declared.sink.SinkError.{SinkError}
+use Rattle.rkt_source.specs.declared.sink.SinkError.TheVariants as sink_error
+use Rattle.rkt_source.specs.declared.source.Gate.{Gate}
+use Rattle.rkt_source.specs.declared.source.SourceError.{SourceError}
+use Rattle.rkt_source.specs.declared.source.SourceError.TheVariants as source_error
 use Rattle.rkt_data.proofs.Drains.{Follows-refl, Follows-trans, Gained-none, Gained-trans, Gathered-more, cut-gathered}
 use Rattle.rkt_data.proofs.Taps.{ByGate-refl, ByGate-trans}
 

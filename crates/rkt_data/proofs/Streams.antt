@@ -3,10 +3,10 @@ use Rattle.std.specs.Option.{ForSome}
 use Rattle.std.proofs.Common.{◌≢◌, ◌≡◌, ℕ, ◌+◌, ◌-◌, ◌≤◌, ◌<◌, ◌++◌, ◌∙◌, Bool, true, false, nat_eq, List, length, take, drop, Option, None, Some, sym, ap, arith, rules, length-take-le, length-drop, length-take, take_all, take_at, take-take, drop-drop}
 use Rattle.std.proofs.lemmas.List.{drop-take, take-append-le}
 use Rattle.std.proofs.lemmas.Bool.{eqb-true, eqb-false}
-use Rattle.rkt_data.specs.Source.{Meaning, Gives}
+use Rattle.rkt_source.specs.Source.{Meaning, Gives}
 use Rattle.rkt_data.specs.Stream.{Drawn, DrawnBy}
 use Rattle.rkt_data.specs.Tap.{Tapped, body}
-use Rattle.rkt_data.proofs.Taps.{mapped}
+use Rattle.rkt_source.proofs.Sources.{mapped}
 
 -- the front is the beginning of the body
 front_is : {S : Type 0} (meaning : S → Meaning) (front : List ℕ) (limit given : ℕ) (probed : Bool) (tap : Option (Tapped S)) → DrawnBy meaning front limit given probed tap

@@ -2,17 +2,12 @@
 use Rattle.std.proofs.Common.{◌≡◌, ℕ, ◌≤◌, ◌∙◌, Bool, List, length, take, drop, Option, None, Some, refl, sym, ap, arith, length-drop, length-take, take_all, take-append-drop, take-take}
 use Rattle.std.specs.Prelude.{◌++◌, min, option_map}
 use Rattle.rkt_data.specs.Body.{EndSeen, FrontOf, Peeked}
-use Rattle.rkt_data.specs.Source.{Meaning, Keeps, Errs}
+use Rattle.rkt_source.specs.Source.{Meaning, Keeps, Errs}
 use Rattle.rkt_data.specs.Tap.{Tapped, Polls, ByGate, SameTap, TapErrs, TapWaits, Gave, ToppedUp, body}
-use Rattle.rkt_data.specs.declared.source.Gate.{Gate}
-use Rattle.rkt_data.specs.declared.source.SourceError.{SourceError}
-use Rattle.rkt_data.specs.declared.source.SourceError.TheVariants.{SourceFault, Gone, TimedOut}
-use Rattle.rkt_data.proofs.Pulls.{Keeps-refl, Keeps-trans}
-
--- what a body's source tells, from where it was handed in
-pub mapped : (m : ℕ) (o : Option (List ℕ)) (b : List ℕ) → option_map (drop m) o ≡ Some b → (w : List ℕ) × (o ≡ Some w) × (drop m w ≡ b)
-mapped m None b e = absurd (cc)
-mapped m (Some w) b e = (w, refl, cc)
+use Rattle.rkt_source.specs.declared.source.Gate.{Gate}
+use Rattle.rkt_source.specs.declared.source.SourceError.{SourceError}
+use Rattle.rkt_source.specs.declared.source.SourceError.TheVariants.{SourceFault, Gone, TimedOut}
+use Rattle.rkt_source.proofs.Sources.{Keeps-refl, Keeps-trans, mapped}
 
 pub Polls-trans : {S : Type 0} {polled : S → Gate → S → Type 0} {gate : Gate} {s t u : S} → Polls polled gate s t → Polls polled gate t u → Polls polled gate s u
 Polls-trans p Polls.none = p

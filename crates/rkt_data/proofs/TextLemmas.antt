@@ -3,7 +3,7 @@ use Rattle.std.specs.Option.{ForSome}
 use Rattle.std.proofs.Common.{◌≡◌, ℕ, ◌≤◌, List, Option, None, Some, Vec, Global, refl, ap, arith}
 use Rattle.std.specs.Prelude.{IsUtf8}
 use Rattle.rkt_data.specs.Gathering.{Gathered, Draws, IsUsedUp, data_error_of}
-use Rattle.rkt_data.specs.Source.{Meaning}
+use Rattle.rkt_source.specs.Source.{Meaning}
 use Rattle.rkt_data.specs.Stream.{Opened, Piped, Follows}
 use Rattle.rkt_data.specs.Tap.{TapErrs}
 use Rattle.rkt_data.specs.Text.{IsRead, TextFails, TextErr, found_bytes, found_so_far}
@@ -11,9 +11,9 @@ use Rattle.rkt_data.specs.declared.error.DataError.{DataError}
 use Rattle.rkt_data.specs.declared.error.DataError.TheVariants as error
 use Rattle.rkt_data.specs.declared.into_string.Found.{Found}
 use Rattle.rkt_data.specs.declared.into_string.Found.TheVariants as found
-use Rattle.rkt_data.specs.declared.source.Gate.{Gate}
-use Rattle.rkt_data.specs.declared.source.SourceError.{SourceError}
-use Rattle.rkt_data.specs.declared.source.SourceError.TheVariants as source_error
+use Rattle.rkt_source.specs.declared.source.Gate.{Gate}
+use Rattle.rkt_source.specs.declared.source.SourceError.{SourceError}
+use Rattle.rkt_source.specs.declared.source.SourceError.TheVariants as source_error
 use Rattle.rkt_data.proofs.Drains.{Gathered-drawn, cut-gathered}
 
 -- what is resumed holds the same bytes

@@ -4,7 +4,7 @@ use Rattle.std.specs.Option.{ForSome}
 use Rattle.std.specs.Prelude.{◌≡◌, ℕ, ◌+◌, ◌≤◌, ◌⊎◌, ◌++◌, min, max, IsTrue, Bool, true, List, length, take, Option, None, Some}
 use Rattle.rkt_base.specs.declared.poll.Poll.{Poll}
 use Rattle.rkt_base.specs.declared.poll.Poll.TheVariants.{Ready, Pending}
-use Rattle.rkt_data.specs.Source.{Meaning, Faulted}
+use Rattle.rkt_source.specs.Source.{Meaning, Faulted}
 use Rattle.rkt_data.specs.Tap.{Tapped, SameTap, TapWaits, Gave, body}
 
 pub record Body (S : Type 0) : Type 0 where

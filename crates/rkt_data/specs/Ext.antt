@@ -4,10 +4,10 @@ use Rattle.std.specs.Prelude.{◌≡◌, ⊤, ℕ, ◌+◌, ◌<◌, ◌≤◌, 
 use Rattle.std.specs.declared.alloc.Global.{Global}
 use Rattle.rkt_base.specs.declared.poll.Poll.{Poll}
 use Rattle.rkt_base.specs.declared.poll.Poll.TheVariants.{Ready, Pending}
-use Rattle.rkt_data.specs.Source.{Meaning, Keeps, Waits, Errs}
+use Rattle.rkt_source.specs.Source.{Meaning, Keeps, Waits, Errs}
 use Rattle.rkt_data.specs.declared.error.DataError.{DataError}
 use Rattle.rkt_data.specs.declared.error.DataError.TheVariants as error
-use Rattle.rkt_data.specs.declared.source.SourceError.TheVariants as source_error
+use Rattle.rkt_source.specs.declared.source.SourceError.TheVariants as source_error
 
 pub record Chunks (R : Type 0) : Type 0 where
   pub reader : R

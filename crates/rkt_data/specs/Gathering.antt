@@ -4,7 +4,7 @@ use Rattle.std.specs.Prelude.{◌≡◌, ⊤, ℕ, ◌+◌, ◌≤◌, ◌<◌, 
 use Rattle.std.specs.declared.alloc.Global.{Global}
 use Rattle.rkt_base.specs.declared.poll.Poll.{Poll}
 use Rattle.rkt_base.specs.declared.poll.Poll.TheVariants.{Ready, Pending}
-use Rattle.rkt_data.specs.Source.{Meaning}
+use Rattle.rkt_source.specs.Source.{Meaning}
 use Rattle.rkt_data.specs.Stream.{Opened, Piped, Follows, TakesAtMost, IsComplete, cut, whole_of}
 use Rattle.rkt_data.specs.Tap.{ByGate, TapErrs, TapWaits}
 use Rattle.rkt_data.specs.declared.capped.Capped.{Capped}
@@ -15,9 +15,9 @@ use Rattle.rkt_data.specs.declared.error.DataError.{DataError}
 use Rattle.rkt_data.specs.declared.error.DataError.TheVariants as error
 use Rattle.rkt_data.specs.declared.into_bytes.Finished.{Finished}
 use Rattle.rkt_data.specs.declared.into_bytes.Finished.TheVariants as finished
-use Rattle.rkt_data.specs.declared.source.Gate.{Gate}
-use Rattle.rkt_data.specs.declared.source.SourceError.{SourceError}
-use Rattle.rkt_data.specs.declared.source.SourceError.TheVariants as source_error
+use Rattle.rkt_source.specs.declared.source.Gate.{Gate}
+use Rattle.rkt_source.specs.declared.source.SourceError.{SourceError}
+use Rattle.rkt_source.specs.declared.source.SourceError.TheVariants as source_error
 use Rattle.rkt_data.specs.declared.tap.Stop.{Stop}
 use Rattle.rkt_data.specs.declared.tap.Stop.TheVariants as stop
 
@@ -101,10 +101,6 @@ abbrev pub Gathers : {S : Type 0} → (S → Meaning) → Piped S → ℕ → Li
 Gathers meaning p from got (Some e) done = ⊤
 Gathers meaning p from got None true = ⊤
 Gathers meaning p from got None false = Gathered meaning p.opened from got × (p.probed ≡ false)
-
-abbrev pub items_of : Option (Vec ℕ Global) → List ℕ
-items_of None = []
-items_of (Some v) = v.items
 
 -- the value is the body from that position on, cut at the limit; n counts it and says whether the body has no more
 abbrev pub Completes : {S : Type 0} → (S → Meaning) → Opened S → ℕ → List ℕ → N → Type 0

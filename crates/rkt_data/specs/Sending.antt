@@ -5,8 +5,8 @@ use Rattle.std.specs.declared.alloc.Global.{Global}
 use Rattle.rkt_base.specs.declared.poll.Poll.{Poll}
 use Rattle.rkt_base.specs.declared.poll.Poll.TheVariants.{Ready, Pending}
 use Rattle.rkt_data.specs.Gathering.{Gained, Gathered, IsUsedUp, cut_from}
-use Rattle.rkt_data.specs.Sink.{SinkMeaning, SinkKeeps, SinkWaits, SinkFaulted, SinkErrs, Gains}
-use Rattle.rkt_data.specs.Source.{Meaning}
+use Rattle.rkt_source.specs.Sink.{SinkMeaning, SinkKeeps, SinkWaits, SinkFaulted, SinkErrs, Gains}
+use Rattle.rkt_source.specs.Source.{Meaning}
 use Rattle.rkt_data.specs.Stream.{Opened, Piped, Follows, TakesAtMost, IsComplete, whole_of}
 use Rattle.rkt_data.specs.Tap.{ByGate, TapErrs, TapWaits}
 use Rattle.rkt_data.specs.declared.capped.N.{N}
@@ -16,10 +16,10 @@ use Rattle.rkt_data.specs.declared.pump.Pumped.{Pumped}
 use Rattle.rkt_data.specs.declared.pump.Pumped.TheVariants as pumped
 use Rattle.rkt_data.specs.declared.pump.Sent.{Sent}
 use Rattle.rkt_data.specs.declared.pump.Sent.TheVariants as sent
-use Rattle.rkt_data.specs.declared.sink.SinkError.{SinkError}
-use Rattle.rkt_data.specs.declared.sink.SinkError.TheVariants as sink_error
-use Rattle.rkt_data.specs.declared.source.Gate.{Gate}
-use Rattle.rkt_data.specs.declared.source.SourceError.TheVariants as source_error
+use Rattle.rkt_source.specs.declared.sink.SinkError.{SinkError}
+use Rattle.rkt_source.specs.declared.sink.SinkError.TheVariants as sink_error
+use Rattle.rkt_source.specs.declared.source.Gate.{Gate}
+use Rattle.rkt_source.specs.declared.source.SourceError.TheVariants as source_error
 
 -- a sink as it is now, and as it was handed in
 pub record Fed (K : Type 0) : Type 0 where

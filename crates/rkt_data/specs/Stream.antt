@@ -3,9 +3,9 @@ use Rattle.std.specs.Option.{ForSome}
 use Rattle.std.specs.Prelude.{◌≡◌, ◌↔◌, ℕ, ◌+◌, ◌≤◌, ◌<◌, max, IsTrue, Bool, true, false, List, length, take, drop, Option, None, Some, Result, Ok, Err}
 use Rattle.rkt_base.specs.declared.poll.Poll.{Poll}
 use Rattle.rkt_base.specs.declared.poll.Poll.TheVariants.{Ready, Pending}
-use Rattle.rkt_data.specs.Source.{Meaning}
+use Rattle.rkt_source.specs.Source.{Meaning}
 use Rattle.rkt_data.specs.Tap.{Tapped, SameTap, TapErrs, TapWaits, body}
-use Rattle.rkt_data.specs.declared.source.SourceError.{SourceError}
+use Rattle.rkt_source.specs.declared.source.SourceError.{SourceError}
 
 pub record Opened (S : Type 0) : Type 0 where
   -- the bytes held when it was opened: all of a local body, else those that were peeked

@@ -1,9 +1,9 @@
 -- A source behind a body, and what several reads of it come to.
 use Rattle.std.specs.Option.{ForSome}
 use Rattle.std.specs.Prelude.{◌≡◌, ⊤, ℕ, ◌+◌, ◌≤◌, List, length, take, drop, Option, Some, None, option_map}
-use Rattle.rkt_data.specs.Source.{Meaning, Keeps, Waits, Errs}
-use Rattle.rkt_data.specs.declared.source.Gate.{Gate}
-use Rattle.rkt_data.specs.declared.source.SourceError.{SourceError}
+use Rattle.rkt_source.specs.Source.{Meaning, Keeps, Waits, Errs}
+use Rattle.rkt_source.specs.declared.source.Gate.{Gate}
+use Rattle.rkt_source.specs.declared.source.SourceError.{SourceError}
 use Rattle.rkt_data.specs.declared.tap.Stop.{Stop}
 use Rattle.rkt_data.specs.declared.tap.Stop.TheVariants.{Full, End, Failed, Waiting}
 use Rattle.rkt_data.specs.declared.tap.Tap.{Tap}

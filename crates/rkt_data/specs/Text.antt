@@ -6,7 +6,7 @@ use Rattle.std.specs.declared.alloc.Global.{Global}
 use Rattle.rkt_base.specs.declared.poll.Poll.{Poll}
 use Rattle.rkt_base.specs.declared.poll.Poll.TheVariants.{Ready, Pending}
 use Rattle.rkt_data.specs.Gathering.{Gathering, Gathered, Draws, IsUsedUp, Completes, cut_from}
-use Rattle.rkt_data.specs.Source.{Meaning}
+use Rattle.rkt_source.specs.Source.{Meaning}
 use Rattle.rkt_data.specs.Stream.{Opened, Piped, whole_of}
 use Rattle.rkt_data.specs.Tap.{TapErrs, TapWaits}
 use Rattle.rkt_data.specs.declared.capped.Capped.{Capped}
@@ -16,8 +16,8 @@ use Rattle.rkt_data.specs.declared.into_string.Found.{Found}
 use Rattle.rkt_data.specs.declared.into_string.Found.TheVariants as found
 use Rattle.rkt_data.specs.declared.into_string.Texted.{Texted}
 use Rattle.rkt_data.specs.declared.into_string.Texted.TheVariants as texted
-use Rattle.rkt_data.specs.declared.source.Gate.{Gate}
-use Rattle.rkt_data.specs.declared.source.SourceError.TheVariants as source_error
+use Rattle.rkt_source.specs.declared.source.Gate.{Gate}
+use Rattle.rkt_source.specs.declared.source.SourceError.TheVariants as source_error
 
 abbrev pub found_bytes : Found → List ℕ
 found_bytes (found.Bytes room count) = take count room.items

@@ -3,9 +3,9 @@ ghost use Rattle.std.specs.Prelude.{◌≡◌, [], IfOk, IsTrue, false, min, tak
 
 use crate::data_stream::{ByteUnit, DataStream};
 use crate::pipe::Pipe;
-use crate::source::{Gate, Source};
 use crate::tap::{Stop, Tap, top_up};
 use rkt_base::{NoMemory, Poll};
+use rkt_source::{Gate, Source};
 use std::alloc::Global;
 use std::marker::Model;
 use std::snapshot::Snapshot;

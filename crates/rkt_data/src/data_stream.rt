@@ -2,8 +2,8 @@
 ghost use Rattle.std.specs.Prelude.{◌≡◌, ◌-◌, Ok, false, length, min};
 
 use crate::pipe::Pipe;
-use crate::source::{Gate, Source, SourceError};
 use rkt_base::Poll;
+use rkt_source::{Gate, Source, SourceError};
 use std::marker::Model;
 
 /// A number of bytes.

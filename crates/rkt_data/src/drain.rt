@@ -1,12 +1,13 @@
 //! Reads all of an opened body, up to its limit.
 ghost use Rattle.std.specs.Prelude.{◌≡◌, ◌≤◌, ◌<◌, None, OnOk, false, length, take, vec_len};
-ghost use Rattle.rkt_data.specs.Gathering.{Draws, Drains, Pours, items_of};
+ghost use Rattle.rkt_data.specs.Gathering.{Draws, Drains, Pours};
+ghost use Rattle.rkt_source.specs.Buffer.{items_of};
 ghost use Rattle.rkt_data.specs.Stream.{TakesAtMost};
 
 use crate::pipe::Pipe;
-use crate::source::{Gate, Source, SourceError};
 use crate::tap::Stop;
 use rkt_base::{NoMemory, Poll};
+use rkt_source::{Gate, Source, SourceError};
 use std::alloc::Global;
 
 /// Why reading stopped.

@@ -2,7 +2,7 @@
 ghost use Rattle.std.specs.Prelude.{◌≡◌};
 ghost use Rattle.rkt_data.specs.Gathering.{data_error_of};
 
-use crate::source::SourceError;
+use rkt_source::SourceError;
 use thiserror::Error;
 
 /// Why a body was not read to its end or to its limit.

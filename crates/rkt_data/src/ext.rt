@@ -3,8 +3,8 @@ ghost use Rattle.std.specs.Prelude.{◌≡◌, false, max};
 ghost use Rattle.rkt_base.specs.declared.poll.Poll.{Poll};
 
 use crate::error::{DataError, error_of};
-use crate::source::{Gate, Source};
 use rkt_base::Poll;
+use rkt_source::{Gate, Source};
 use std::alloc::Global;
 use std::marker::Model;
 
@@ -52,7 +52,7 @@ impl<R: Source> AsyncReadExt for R {
 
 impl<R: Source> ReaderStream<R> {
     ghost use Rattle.rkt_data.specs.Ext.{GivesChunk};
-    ghost use Rattle.rkt_data.specs.Source.{LeftOrRead};
+    ghost use Rattle.rkt_source.specs.Source.{LeftOrRead};
 
     /// The next chunk, which is not empty. After a fault or the end there is none.
     pub fn poll_next(

@@ -11,8 +11,8 @@ use crate::data_stream::DataStream;
 use crate::drain::{Drained, drain, resume};
 use crate::error::{DataError, error_of};
 use crate::pipe::Pipe;
-use crate::source::{Gate, Source};
 use rkt_base::Poll;
+use rkt_source::{Gate, Source};
 use std::alloc::Global;
 use std::marker::Model;
 
@@ -29,7 +29,8 @@ pub struct IntoBytes<S: Source> {
 
 impl<S: Source> Model for IntoBytes<S> {
     ghost use Rattle.std.specs.Prelude.{◌≤◌, length, take};
-    ghost use Rattle.rkt_data.specs.Gathering.{Gathering, Gathers, items_of};
+    ghost use Rattle.rkt_data.specs.Gathering.{Gathering, Gathers};
+    ghost use Rattle.rkt_source.specs.Buffer.{items_of};
 
     ghost Value = { Gathering S };
 

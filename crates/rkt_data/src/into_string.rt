@@ -11,8 +11,8 @@ use crate::data_stream::DataStream;
 use crate::drain::{Drained, drain};
 use crate::error::{DataError, error_of};
 use crate::pipe::Pipe;
-use crate::source::{Gate, Source};
 use rkt_base::Poll;
+use rkt_source::{Gate, Source};
 use std::alloc::Global;
 use std::marker::Model;
 

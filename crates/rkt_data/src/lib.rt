@@ -1,9 +1,8 @@
-//! Bodies of requests: sources and sinks that are polled, and what is read from them under a limit.
+//! Bodies of requests: what is read of a source under a limit. What bodies are made of is offered beside them: sources and
+//! sinks, objects that are cut off, and streams.
 #![tactic(auto)]
 
-mod cancel;
 mod capped;
-mod chain;
 mod data;
 mod data_stream;
 mod drain;
@@ -11,37 +10,21 @@ mod error;
 pub mod ext;
 mod into_bytes;
 mod into_string;
-mod memory;
 mod peek;
-mod piece;
 mod pipe;
 mod pump;
 mod sender;
-mod sink;
-mod source;
-mod stage;
-pub mod stream;
-mod stream_reader;
 mod stream_to;
-mod tally;
 mod tap;
 
-pub use cancel::CancellableIo;
 pub use capped::{Capped, N};
-pub use chain::Chain;
 pub use data::{Data, PEEK_BYTES};
 pub use data_stream::{ByteUnit, DataStream};
 pub use error::DataError;
 pub use ext::{AsyncReadExt, PollExt};
 pub use into_bytes::IntoBytes;
 pub use into_string::IntoString;
-pub use memory::{MemorySink, MemorySource};
-pub use sink::{Sink, SinkError};
-pub use source::{Gate, Shut, Source, SourceError};
-pub use stage::{Refused, Stage};
-pub use stream::{Join, One, Stream, StreamExt};
-pub use stream_reader::StreamReader;
+pub use rkt_cancel::{CancellableIo, Refused, Stage};
+pub use rkt_source::{Gate, MemorySink, MemorySource, Shut, Sink, SinkError, Source, SourceError};
+pub use rkt_stream::{Chain, Join, One, Stream, StreamExt, StreamReader, stream};
 pub use stream_to::{StreamPrecise, StreamTo};
-
-#[cfg(test)]
-mod tests;

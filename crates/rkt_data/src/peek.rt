@@ -1,8 +1,8 @@
 //! A peek, which lends the bytes that are held.
 
 use crate::data::Data;
-use crate::source::{Gate, Source};
 use rkt_base::Poll;
+use rkt_source::{Gate, Source};
 
 impl<S: Source> Data<S> {
     ghost use Rattle.std.specs.Prelude.{⊤};

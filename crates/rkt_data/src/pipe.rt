@@ -1,9 +1,9 @@
 //! What an opened body reads from: the bytes held, and then the source, up to a limit.
 ghost use Rattle.std.specs.Prelude.{◌≡◌, ◌+◌, ◌-◌, ◌≤◌, Ok, false, length, min, take, vec_len};
 
-use crate::source::{Gate, Source, SourceError};
 use crate::tap::Tap;
 use rkt_base::Poll;
+use rkt_source::{Gate, Source, SourceError};
 use std::marker::Model;
 
 #[derive(Drop)]

@@ -1,15 +1,14 @@
 //! Sends what an opened body gives to a sink, through a buffer.
 ghost use Rattle.std.specs.Prelude.{◌≡◌, ◌≤◌, ◌<◌, IfOk, OnErr, None, ℕ, false, length, take, vec_len};
-ghost use Rattle.rkt_data.specs.Gathering.{items_of};
+ghost use Rattle.rkt_source.specs.Buffer.{items_of};
 ghost use Rattle.rkt_data.specs.Sending.{Pumps, PumpStops, SendStops, between, sink_error_of};
-ghost use Rattle.rkt_data.specs.Sink.{SinkKeeps, Gains};
+ghost use Rattle.rkt_source.specs.Sink.{SinkKeeps, Gains};
 ghost use Rattle.rkt_data.specs.Stream.{TakesAtMost};
 
 use crate::error::{DataError, error_of};
 use crate::pipe::Pipe;
-use crate::sink::{Sink, SinkError};
-use crate::source::{Gate, Source};
 use rkt_base::{NoMemory, Poll};
+use rkt_source::{Gate, Sink, SinkError, Source};
 use std::alloc::Global;
 
 /// How many bytes the buffer has.

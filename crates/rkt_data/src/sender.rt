@@ -2,16 +2,15 @@
 ghost use Rattle.std.specs.Prelude.{◌≡◌, ◌+◌, ◌≤◌, [], false, length};
 ghost use Rattle.rkt_data.specs.Gathering.{IsUsedUp, Closes};
 ghost use Rattle.rkt_data.specs.Sending.{PumpStops, SentAll, Sends};
-ghost use Rattle.rkt_data.specs.Sink.{SinkKeeps};
+ghost use Rattle.rkt_source.specs.Sink.{SinkKeeps};
 ghost use Rattle.rkt_data.specs.Stream.{Follows, TakesAtMost, PullsAtMost};
 ghost use Rattle.rkt_data.specs.Tap.{ByGate};
 
 use crate::error::DataError;
 use crate::pipe::Pipe;
 use crate::pump::{Pumped, pump, resume};
-use crate::sink::Sink;
-use crate::source::{Gate, Source, SourceError};
 use rkt_base::Poll;
+use rkt_source::{Gate, Sink, Source, SourceError};
 use std::alloc::Global;
 use std::marker::Model;
 use std::snapshot::Snapshot;
@@ -29,7 +28,7 @@ pub(crate) struct Sender<S: Source, K: Sink> {
 
 impl<S: Source, K: Sink> Model for Sender<S, K> {
     ghost use Rattle.std.specs.Prelude.{◌≤◌, length};
-    ghost use Rattle.rkt_data.specs.Gathering.{items_of};
+    ghost use Rattle.rkt_source.specs.Buffer.{items_of};
     ghost use Rattle.rkt_data.specs.Sending.{SentState, SentOf, HasRoom, between};
 
     ghost Value = { SentState S K };

@@ -3,7 +3,7 @@ ghost use Rattle.std.specs.Option.{ForSome};
 ghost use Rattle.std.specs.Prelude.{◌≡◌, Err, None, false};
 ghost use Rattle.rkt_base.specs.declared.poll.Poll.TheVariants.{Ready};
 ghost use Rattle.rkt_data.specs.Sending.{Sends};
-ghost use Rattle.rkt_data.specs.Sink.{SinkKeeps};
+ghost use Rattle.rkt_source.specs.Sink.{SinkKeeps};
 ghost use Rattle.rkt_data.specs.Stream.{Follows, PullsAtMost, TakesAtMost};
 ghost use Rattle.rkt_data.specs.Tap.{ByGate};
 
@@ -12,9 +12,8 @@ use crate::data_stream::DataStream;
 use crate::error::{DataError, error_of};
 use crate::pump::Pumped;
 use crate::sender::Sender;
-use crate::sink::Sink;
-use crate::source::{Gate, Source};
 use rkt_base::Poll;
+use rkt_source::{Gate, Sink, Source};
 use std::alloc::Global;
 use std::marker::Model;
 

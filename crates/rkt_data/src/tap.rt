@@ -2,8 +2,8 @@
 ghost use Rattle.std.specs.Prelude.{◌≡◌, ◌≤◌, length, take};
 ghost use Rattle.rkt_data.specs.Tap.{Pulled, Stopped, Polls, Gave, ToppedUp};
 
-use crate::source::{Gate, Source, SourceError};
 use rkt_base::Poll;
+use rkt_source::{Gate, Source, SourceError};
 use std::snapshot::Snapshot;
 
 /// A source, and for contracts the source as it was handed in.

@@ -6,13 +6,13 @@ use Rattle.std.proofs.lemmas.Bool.{false≢true}
 use Rattle.std.proofs.lemmas.Option.{none-some}
 use Rattle.rkt_http.specs.DefaultPage.{html_page}
 use Rattle.rkt_http.specs.Method.{method_of}
-use Rattle.rkt_http.specs.Origin.{Target, Spells, SaysWhatItSpells, target_of, segments_of}
+use Rattle.rkt_uri.specs.Origin.{Target, Spells, SaysWhatItSpells, target_of, segments_of}
 use Rattle.rkt_http.specs.declared.method.Method.{Method}
-use Rattle.rkt_http.specs.declared.origin_place.Profile.TheVariants.{Request}
+use Rattle.rkt_uri.specs.declared.origin_place.Profile.TheVariants.{Request}
 use Rattle.rkt_request.specs.Incoming.{faults_of, headers_of, root}
-use Rattle.rkt_http.specs.Accept.{Weighed}
+use Rattle.rkt_media.specs.Accept.{Weighed}
 use Rattle.rkt_http.specs.Headers.{Group}
-use Rattle.rkt_http.specs.Media.{Media, is_kind}
+use Rattle.rkt_media.specs.Media.{Media, is_kind}
 use Rattle.rkt_request.specs.Seen.{Seen, ReadAs, IsAccepted}
 use Rattle.rkt_request.specs.declared.bad.Bad.{Bad}
 use Rattle.rkt_request.specs.declared.head.Head.{Head}
@@ -22,7 +22,7 @@ use Rattle.rkt_life.specs.Rocket.{SeenTables}
 use Rattle.rkt_life.specs.Routes.{matches, tries}
 use Rattle.rkt_life.specs.declared.run.Call.{Call}
 use Rattle.rkt_life.specs.declared.run.RunOf.{RunOf}
-use Rattle.rkt_data.specs.Memory.{SourceInMemory, source_meaning}
+use Rattle.rkt_source.specs.Memory.{SourceInMemory, source_meaning}
 use Rattle.rkt_response.specs.Response.{ResponseOf}
 use Rattle.rkt_response.specs.Sent.{Sent, head_of}
 use Rattle.rkt_response.specs.declared.piece.Piece.{Piece}

@@ -5,9 +5,9 @@ use Rattle.std.proofs.lemmas.Bool.{false≢true}
 use Rattle.std.proofs.lemmas.Bool.Decides.{nat_tests}
 use Rattle.std.proofs.lemmas.List.Sums.{passes_at_first, prefix_len-le-length, split_at_first}
 use Rattle.std.proofs.Math.Seq.{take-length}
-use Rattle.rkt_http.specs.Grammar.{OnlyOf, has_byte}
-use Rattle.rkt_http.specs.Origin.{Target, IsTarget, Spells, SaysWhatItSpells, is_path_byte, is_query_byte, is_question, query_text, spelling, target_of}
-use Rattle.rkt_http.specs.declared.origin_place.Profile.TheVariants.{Request}
+use Rattle.rkt_grammar.specs.Grammar.{OnlyOf, has_byte}
+use Rattle.rkt_uri.specs.Origin.{Target, IsTarget, Spells, SaysWhatItSpells, is_path_byte, is_query_byte, is_question, query_text, spelling, target_of}
+use Rattle.rkt_uri.specs.declared.origin_place.Profile.TheVariants.{Request}
 use Rattle.rkt_request.specs.Seen.{ReadAs}
 use Rattle.rkt_demo.specs.Printed.{fits, is_origin}
 

@@ -1,7 +1,7 @@
 -- `/page` is an origin.
 use Rattle.std.proofs.Common.{codes, refl}
-use Rattle.rkt_http.specs.Origin.{Spells}
-use Rattle.rkt_http.specs.declared.origin_place.Profile.TheVariants.{Request}
+use Rattle.rkt_uri.specs.Origin.{Spells}
+use Rattle.rkt_uri.specs.declared.origin_place.Profile.TheVariants.{Request}
 use Rattle.rkt_demo.specs.Sample.{page_target}
 
 pub page_spelled : Spells Request (codes "/page") page_target

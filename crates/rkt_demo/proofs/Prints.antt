@@ -2,7 +2,7 @@
 use Rattle.std.proofs.Common.{◌≡◌, ◌<◌, ◌≤◌, ◌++◌, ℕ, ◌+◌, inl, inr, List, [], ◌∷◌, Bool, true, false, ◌==◌, Option, if◌then◌else◌, refl, ap, ◌∙◌, sym, arith}
 use Rattle.std.specs.List.{AllByRecursion}
 use Rattle.std.proofs.lemmas.Bool.Decides.{nat_tests}
-use Rattle.rkt_http.specs.Origin.{SaysWhatItSpells}
+use Rattle.rkt_uri.specs.Origin.{SaysWhatItSpells}
 use Rattle.rkt_request.specs.declared.head.Head.{Head}
 use Rattle.rkt_demo.proofs.Answers.{one_section}
 use Rattle.rkt_demo.specs.Output.{starved_section}

@@ -2,8 +2,8 @@
 use Rattle.std.proofs.Common.{suc, ◌≡◌, ◌+◌, ◌-◌, ℕ, inl, inr, List, [], ◌∷◌, Bool, Option, take, drop, length, add-one, ap, ◌∙◌, sym, subst}
 use Rattle.std.proofs.Math.Seq.{take-length}
 use Rattle.std.specs.Option.{ForSome}
-use Rattle.rkt_data.specs.Source.{Meaning}
-use Rattle.rkt_http.specs.Origin.{SaysWhatItSpells}
+use Rattle.rkt_source.specs.Source.{Meaning}
+use Rattle.rkt_uri.specs.Origin.{SaysWhatItSpells}
 use Rattle.rkt_request.specs.declared.head.Head.{Head}
 use Rattle.rkt_demo.proofs.Cuts.{bad_front, good_front}
 use Rattle.rkt_demo.proofs.Prints.{none_in_lines, printed_but_starved}

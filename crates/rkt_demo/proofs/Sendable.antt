@@ -1,8 +1,8 @@
 -- Every response of an exchange can be sent.
 use Rattle.std.proofs.Common.{◌≡◌, inl, inr, ◌⊎◌, ℕ, List, [], ◌∷◌, Bool, true, false, None, refl, ◌∙◌, sym, subst}
 use Rattle.std.proofs.lemmas.Bool.{false≢true}
-use Rattle.rkt_data.specs.Memory.{SourceInMemory, source_meaning}
-use Rattle.rkt_data.specs.declared.source.SourceError.{SourceError}
+use Rattle.rkt_source.specs.Memory.{SourceInMemory, source_meaning}
+use Rattle.rkt_source.specs.declared.source.SourceError.{SourceError}
 use Rattle.rkt_request.specs.Seen.{Seen}
 use Rattle.rkt_request.specs.declared.bad.Bad.{Bad}
 use Rattle.rkt_request.specs.declared.head.Head.{Head}

@@ -6,8 +6,8 @@ use Rattle.std.proofs.lemmas.List.{drop-drop}
 use Rattle.std.proofs.lemmas.Grind.{common_steps}
 use Rattle.std.specs.Option.{ForSome, IsSome, option_map}
 use Rattle.std.specs.Bool.{IsTrue}
-use Rattle.rkt_data.specs.Sink.{SinkMeaning, Gains}
-use Rattle.rkt_data.specs.Source.{Meaning, Keeps, Gives}
+use Rattle.rkt_source.specs.Sink.{SinkMeaning, Gains}
+use Rattle.rkt_source.specs.Source.{Meaning, Keeps, Gives}
 use Rattle.rkt_demo.specs.Streams.{Reads}
 
 no_warning : (warned : Bool) → warned ≡ false → IsTrue warned ⊎ IsSome {T = ℕ} None → ⊥

@@ -1,6 +1,6 @@
 -- The text of a list of entries.
 use Rattle.std.specs.Prelude.{◌≡◌, ℕ, ◌+◌, ◌++◌, ◌<◌, List, [], ◌∷◌, Option, Some, None, length, slice_get}
-use Rattle.rkt_data.specs.Memory.{SourceInMemory}
+use Rattle.rkt_source.specs.Memory.{SourceInMemory}
 use Rattle.rkt_response.specs.declared.piece.Piece.{Piece}
 use Rattle.rkt_serve.specs.Events.{admitted, end_of}
 use Rattle.rkt_serve.specs.Memory.{LinkInMemory}

@@ -5,8 +5,8 @@ use Rattle.std.specs.Fmt.{decimal}
 use Rattle.std.specs.List.{list_all}
 use Rattle.rkt_http.specs.DefaultPage.{html_page}
 use Rattle.rkt_http.specs.Method.{method_of}
-use Rattle.rkt_http.specs.Origin.{Target, is_path_byte, is_query_byte, target_of, segments_of}
-use Rattle.rkt_http.specs.declared.origin_place.Profile.TheVariants.{Request}
+use Rattle.rkt_uri.specs.Origin.{Target, is_path_byte, is_query_byte, target_of, segments_of}
+use Rattle.rkt_uri.specs.declared.origin_place.Profile.TheVariants.{Request}
 use Rattle.rkt_request.specs.declared.head.Head.{Head}
 use Rattle.rkt_demo.specs.Output.{header_line, answered_section, starved_section, last_line}
 use Rattle.rkt_demo.specs.Sample.{page_target}

@@ -1,6 +1,6 @@
 -- The sample application.
 use Rattle.std.specs.Prelude.{◌≡◌, ℕ, List, [], ◌∷◌, None, codes}
-use Rattle.rkt_http.specs.Origin.{Target}
+use Rattle.rkt_uri.specs.Origin.{Target}
 use Rattle.rkt_config.specs.Config.{IsConfig}
 use Rattle.rkt_request.specs.Seen.{Seen}
 use Rattle.rkt_life.specs.Rocket.{SeenTables}

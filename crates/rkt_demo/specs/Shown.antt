@@ -1,6 +1,6 @@
 -- What the program writes of the requests that it served.
 use Rattle.std.specs.Prelude.{◌≡◌, ◌⊎◌, ℕ, ◌+◌, ◌++◌, List, [], ◌∷◌, Option, take}
-use Rattle.rkt_data.specs.Memory.{SourceInMemory, source_meaning}
+use Rattle.rkt_source.specs.Memory.{SourceInMemory, source_meaning}
 use Rattle.rkt_request.specs.declared.head.Head.{Head}
 use Rattle.rkt_response.specs.Response.{ResponseOf}
 use Rattle.rkt_response.specs.Sent.{Sent}

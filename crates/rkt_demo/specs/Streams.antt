@@ -2,8 +2,8 @@
 use Rattle.std.specs.Prelude.{◌≡◌, ◌≤◌, ◌⊎◌, ℕ, ◌+◌, false, List, length, take, drop}
 use Rattle.std.specs.Option.{ForSome}
 use Rattle.rkt_base.specs.Counts.{Rose}
-use Rattle.rkt_data.specs.Sink.{SinkMeaning, Gains}
-use Rattle.rkt_data.specs.Source.{Meaning}
+use Rattle.rkt_source.specs.Sink.{SinkMeaning, Gains}
+use Rattle.rkt_source.specs.Source.{Meaning}
 
 -- reads gave these bytes, of a source that was never warned
 pub record Reads (before after : Meaning) (bytes : List ℕ) : Type 0 where

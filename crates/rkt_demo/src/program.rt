@@ -2,7 +2,7 @@
 ghost use Rattle.std.specs.Prelude.{◌≡◌, ◌↔◌, ◌⊎◌, ◌≤◌, ◌+◌, [], List, ℕ, Bool, false, IfOk, length, map, string_bytes};
 ghost use Rattle.std.specs.List.{AllByRecursion};
 ghost use Rattle.rkt_base.specs.Counts.{Rose};
-ghost use Rattle.rkt_data.specs.Sink.{Gains};
+ghost use Rattle.rkt_source.specs.Sink.{Gains};
 ghost use Rattle.rkt_serve.specs.Memory.{HoldsNothing};
 ghost use Rattle.rkt_demo.specs.Printed.{printed_but};
 ghost use Rattle.rkt_demo.specs.Program.{OfScript, IsScript, IsGoodScript, IsFirstBadLine, IsText, IsAllRead, refusal};

@@ -2,7 +2,7 @@
 ghost use Rattle.std.specs.Prelude.{◌≡◌, ◌≤◌, ◌<◌, ◌+◌, false, [], List, ℕ, vec_len, IfOk, OnOk, OnErr, IsErrOf, length, take, drop};
 ghost use Rattle.std.specs.Option.{ForSome};
 ghost use Rattle.rkt_base.specs.Counts.{Rose};
-ghost use Rattle.rkt_data.specs.Sink.{Gains};
+ghost use Rattle.rkt_source.specs.Sink.{Gains};
 ghost use Rattle.rkt_demo.specs.Streams.{GainsFront, Reads, IsAtEnd, IsReadTo};
 ghost use Rattle.rkt_demo.specs.declared.stream.StreamError.TheVariants.{NoMemory as OutOfMemory};
 

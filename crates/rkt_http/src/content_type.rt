@@ -1,30 +1,14 @@
 ghost use Rattle.std.specs.Prelude.{◌≡◌, IfOk, codes};
 ghost use Rattle.rkt_base.specs.Want.{IfRefused, GivesUnlessNoMemory};
-ghost use Rattle.rkt_http.specs.Grammar.{LeavesAt};
-ghost use Rattle.rkt_http.specs.MediaText.{SpellsMedia, IsMedia};
-ghost use Rattle.rkt_http.specs.Media.{Media, media_text, is_kind, known_media, known_text};
+ghost use Rattle.rkt_grammar.specs.Grammar.{LeavesAt};
+ghost use Rattle.rkt_media.specs.MediaText.{SpellsMedia, IsMedia};
+ghost use Rattle.rkt_media.specs.Media.{Media, media_text, is_kind, known_media, known_text};
 
 use crate::header::Header;
-use crate::media_type::{InvalidMedia, MediaType};
 use rkt_base::{NoMemory, Want};
+use rkt_media::{InvalidMedia, Known, MediaType};
 use std::alloc::Global;
 use std::marker::Model;
-
-/// The media types with a name of their own.
-#[derive(Clone, Copy, Debug, PartialEq, Eq)]
-pub enum Known {
-    Any,
-    Plain,
-    Text,
-    Binary,
-    JSON,
-    JavaScript,
-    MsgPack,
-    HTML,
-    CSS,
-    XML,
-    Form,
-}
 
 /// The media type of a content.
 #[derive(Debug, Drop)]
@@ -33,28 +17,11 @@ pub struct ContentType {
 }
 
 impl Model for ContentType {
-    ghost use Rattle.rkt_http.specs.Media.{Media};
+    ghost use Rattle.rkt_media.specs.Media.{Media};
 
     ghost Value = { Media };
 
     ghost view = { λ t. t.media_type };
-}
-
-fn known_media_type(alloc: Global, known: Known) -> Result<MediaType, NoMemory>
-    ensures { IfOk result (λ media. media ≡ known_media known) }
-{
-    match known {
-        Known::Any => MediaType::bare(alloc, "*", "*"),
-        Known::Plain | Known::Text => MediaType::utf8_text(alloc, "plain"),
-        Known::Binary => MediaType::bare(alloc, "application", "octet-stream"),
-        Known::JSON => MediaType::bare(alloc, "application", "json"),
-        Known::JavaScript => MediaType::bare(alloc, "text", "javascript"),
-        Known::MsgPack => MediaType::bare(alloc, "application", "msgpack"),
-        Known::HTML => MediaType::utf8_text(alloc, "html"),
-        Known::CSS => MediaType::utf8_text(alloc, "css"),
-        Known::XML => MediaType::utf8_text(alloc, "xml"),
-        Known::Form => MediaType::bare(alloc, "application", "x-www-form-urlencoded"),
-    }
 }
 
 impl ContentType {
@@ -73,7 +40,7 @@ impl ContentType {
         ensures text { IfOk result (λ t. media_text t ≡ known_text known) }
     {
         Ok(ContentType {
-            media_type: known_media_type(alloc, known)?,
+            media_type: MediaType::known(alloc, known)?,
         })
     }
 
@@ -113,8 +80,8 @@ impl ContentType {
 
 impl PartialEq for ContentType {
     ghost use Rattle.std.specs.Cmp.{partial_equiv_from_equiv};
-    ghost use Rattle.rkt_http.specs.Media.{same_media};
-    ghost use Rattle.rkt_http.specs.MediaEquality.{same_media_equiv};
+    ghost use Rattle.rkt_media.specs.Media.{same_media};
+    ghost use Rattle.rkt_media.specs.MediaEquality.{same_media_equiv};
 
     ghost eq = { same_media };
 
@@ -126,7 +93,7 @@ impl PartialEq for ContentType {
 }
 
 impl Eq for ContentType {
-    ghost use Rattle.rkt_http.specs.MediaEquality.{same_media_equiv};
+    ghost use Rattle.rkt_media.specs.MediaEquality.{same_media_equiv};
 
     ghost laws = { same_media_equiv };
 }

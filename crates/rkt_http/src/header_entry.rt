@@ -1,9 +1,9 @@
 ghost use Rattle.std.specs.Prelude.{◌≡◌, ◌∷◌, ◌++◌, [], OnOk, OnErr};
 ghost use Rattle.rkt_http.specs.Headers.{Group, is_named};
 
-use crate::copies::copy_texts;
 use crate::uncased::Uncased;
 use rkt_base::{NoMemory, Text};
+use rkt_grammar::copy_texts;
 use std::marker::Model;
 
 /// The values under one name.

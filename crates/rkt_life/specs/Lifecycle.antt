@@ -1,7 +1,7 @@
 -- One exchange, from what is asked to the response.
 use Rattle.std.specs.Prelude.{◌≡◌, ℕ, List, [], ◌∷◌, Some, slice_get}
 use Rattle.rkt_cookie.specs.Jar.{JarParts}
-use Rattle.rkt_http.specs.Origin.{Target}
+use Rattle.rkt_uri.specs.Origin.{Target}
 use Rattle.rkt_request.specs.Incoming.{IsIncoming}
 use Rattle.rkt_request.specs.Seen.{Seen}
 use Rattle.rkt_request.specs.declared.bad.Bad.{Bad}

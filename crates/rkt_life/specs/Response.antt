@@ -1,9 +1,9 @@
 -- The responses that an exchange makes. S is the type of streams.
 use Rattle.std.specs.Prelude.{◌≡◌, ℕ, List, [], ◌∷◌, Bool, Option, Some, None, codes, if◌then◌else◌}
-use Rattle.rkt_http.specs.Accept.{Weighed}
+use Rattle.rkt_media.specs.Accept.{Weighed}
 use Rattle.rkt_http.specs.DefaultPage.{html_page, json_page}
 use Rattle.rkt_http.specs.Headers.{Group}
-use Rattle.rkt_http.specs.Media.{Media, is_kind}
+use Rattle.rkt_media.specs.Media.{Media, is_kind}
 use Rattle.rkt_request.specs.Seen.{Seen, IsAccept, IsAccepted}
 use Rattle.rkt_response.specs.Body.{body_of}
 use Rattle.rkt_response.specs.Response.{ResponseOf}

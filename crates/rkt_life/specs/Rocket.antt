@@ -1,6 +1,6 @@
 -- A rocket as contracts see it.
 use Rattle.std.specs.Prelude.{ℕ, List}
-use Rattle.rkt_http.specs.Origin.{Target}
+use Rattle.rkt_uri.specs.Origin.{Target}
 use Rattle.rkt_config.specs.declared.config.Config.{Config}
 use Rattle.rkt_turn.specs.Shutdown.{Handle}
 

@@ -1,7 +1,7 @@
 -- Which routes a request is tried on.
 use Rattle.std.specs.Prelude.{ℕ, ◌+◌, List, [], ◌∷◌, Bool, nat_eq, if◌then◌else◌}
 use Rattle.std.specs.Cmp.Lexicographic.{pointwise}
-use Rattle.rkt_http.specs.Origin.{Target, segments_of}
+use Rattle.rkt_uri.specs.Origin.{Target, segments_of}
 use Rattle.rkt_request.specs.Seen.{Seen}
 
 -- a route matches where its decoded segments are those of the request

@@ -10,6 +10,3 @@ mod run;
 pub use app::{App, Handler};
 pub use rocket::{Ignite, Rocket, Tables};
 pub use run::{Answer, Call, Ended, EndedOf, Run, RunOf, Which};
-
-#[cfg(test)]
-mod tests;

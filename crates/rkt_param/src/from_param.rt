@@ -1,6 +1,6 @@
 //! Parameters: one decoded segment of a path as a value.
 ghost use Rattle.std.specs.Prelude.{◌≡◌, ℕ, List, Result};
-ghost use Rattle.rkt_http.specs.PathBuf.{path_of_names};
+ghost use Rattle.rkt_uri.specs.PathBuf.{path_of_names};
 ghost use Rattle.rkt_param.specs.Reads.{UnlessNoMemory, StdReads, TakesText, KeepsAnswer, KeepsValue};
 
 mod addresses;
@@ -9,7 +9,7 @@ mod numbers;
 mod tests;
 
 use rkt_base::{Text, Want};
-use rkt_http::{PathBuf, PathError, Segments};
+use rkt_uri::{PathBuf, PathError, Segments};
 use std::alloc::Global;
 use std::convert::Infallible;
 use std::str::FromStr;

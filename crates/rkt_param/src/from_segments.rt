@@ -1,10 +1,10 @@
 //! Parameters: all decoded segments of a path from one on, as a value.
 ghost use Rattle.std.specs.Prelude.{◌≡◌, ℕ, List, Result};
-ghost use Rattle.rkt_http.specs.PathBuf.{path_of_names};
+ghost use Rattle.rkt_uri.specs.PathBuf.{path_of_names};
 ghost use Rattle.rkt_param.specs.Reads.{UnlessNoMemory, TakesTexts, KeepsAnswer, KeepsValue};
 
 use rkt_base::Want;
-use rkt_http::{PathBuf, PathError, Segments};
+use rkt_uri::{PathBuf, PathError, Segments};
 use std::alloc::Global;
 use std::convert::Infallible;
 

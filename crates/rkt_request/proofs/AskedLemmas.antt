@@ -11,8 +11,8 @@ use Rattle.rkt_cookie.specs.Cookie.{Parts}
 use Rattle.rkt_cookie.specs.Jar.{JarParts, with_cookie}
 use Rattle.rkt_cookie.specs.Reading.{Reads}
 use Rattle.rkt_http.specs.Headers.{added}
-use Rattle.rkt_http.specs.Origin.{Spells}
-use Rattle.rkt_http.specs.declared.origin_place.Profile.TheVariants.{Request as OfRequest}
+use Rattle.rkt_uri.specs.Origin.{Spells}
+use Rattle.rkt_uri.specs.declared.origin_place.Profile.TheVariants.{Request as OfRequest}
 use Rattle.rkt_request.specs.Incoming.{AddsCookies, Cookies, field_of, headers_of, root}
 use Rattle.rkt_request.specs.Seen.{ReadAs}
 

@@ -1,10 +1,10 @@
 -- What is kept beside headers, when a field is added or put in place of others.
 use Rattle.std.proofs.Common.{◌≡◌, ℕ, List, Option, Some, codes}
-use Rattle.rkt_http.specs.Accept.{Weighed}
-use Rattle.rkt_http.specs.AcceptText.{SpellsAccept}
+use Rattle.rkt_media.specs.Accept.{Weighed}
+use Rattle.rkt_media.specs.AcceptText.{SpellsAccept}
 use Rattle.rkt_http.specs.Headers.{Group}
-use Rattle.rkt_http.specs.Media.{Media}
-use Rattle.rkt_http.specs.MediaText.{SpellsMedia}
+use Rattle.rkt_media.specs.Media.{Media}
+use Rattle.rkt_media.specs.MediaText.{SpellsMedia}
 use Rattle.rkt_request.specs.RequestHeaders.{IsRead}
 use Rattle.rkt_request.specs.Seen.{ReadAs, first_value}
 use Rattle.rkt_request.proofs.FirstValues.{read_anew, read_before}

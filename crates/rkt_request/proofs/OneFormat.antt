@@ -1,10 +1,10 @@
 -- A request has one format at most.
 use Rattle.std.proofs.Common.{◌≡◌, ℕ, List, [], ◌∷◌, Bool, true, false, Option, Some, None, sym, ◌∙◌, ap, refl, subst}
 use Rattle.std.specs.Prelude.{MatchBool, IsSomeAnd}
-use Rattle.rkt_http.specs.Accept.{Weighed, PrefersOne}
-use Rattle.rkt_http.specs.AcceptText.{SpellsAccept, SpellsOneAccept}
-use Rattle.rkt_http.specs.Media.{Media}
-use Rattle.rkt_http.specs.MediaText.{SpellsMedia, SpellsOneMedia}
+use Rattle.rkt_media.specs.Accept.{Weighed, PrefersOne}
+use Rattle.rkt_media.specs.AcceptText.{SpellsAccept, SpellsOneAccept}
+use Rattle.rkt_media.specs.Media.{Media}
+use Rattle.rkt_media.specs.MediaText.{SpellsMedia, SpellsOneMedia}
 use Rattle.rkt_http.specs.Method.{carries_payload}
 use Rattle.rkt_request.specs.Seen.{Seen, IsAccept, IsAccepted, IsContentType, HasOneFormat, MaybeReadAs}
 

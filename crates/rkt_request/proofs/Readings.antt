@@ -5,12 +5,12 @@ use Rattle.rkt_base.specs.declared.poll.Poll.{Poll}
 use Rattle.rkt_base.specs.declared.poll.Poll.TheVariants.{Ready}
 use Rattle.rkt_data.specs.Body.{Body}
 use Rattle.rkt_data.specs.Gathering.{Gathering}
-use Rattle.rkt_data.specs.Source.{Meaning}
+use Rattle.rkt_source.specs.Source.{Meaning}
 use Rattle.rkt_data.specs.Stream.{Follows, PullsAtMost}
 use Rattle.rkt_data.specs.Tap.{Tapped, SameTap, ByGate, TapWaits}
 use Rattle.rkt_data.specs.declared.error.DataError.{DataError}
 use Rattle.rkt_data.specs.declared.error.DataError.TheVariants.{NoMemory}
-use Rattle.rkt_data.specs.declared.source.Gate.{Gate}
+use Rattle.rkt_source.specs.declared.source.Gate.{Gate}
 use Rattle.rkt_request.specs.Guarding.{AnswersData, Guarded}
 use Rattle.rkt_request.specs.Guards.{Leads, IsReading, capped_guard, or_bad_request, pended, pendings}
 use Rattle.rkt_request.specs.Seen.{Seen}

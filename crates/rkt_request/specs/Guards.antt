@@ -6,7 +6,7 @@ use Rattle.rkt_base.specs.declared.poll.Poll.{Poll}
 use Rattle.rkt_base.specs.declared.poll.Poll.TheVariants.{Ready}
 use Rattle.rkt_data.specs.Body.{Body}
 use Rattle.rkt_data.specs.Gathering.{Gathering, GathersBytes}
-use Rattle.rkt_data.specs.Source.{Meaning}
+use Rattle.rkt_source.specs.Source.{Meaning}
 use Rattle.rkt_data.specs.Stream.{Follows, PullsAtMost}
 use Rattle.rkt_data.specs.Text.{AnswersText}
 use Rattle.rkt_data.specs.Tap.{Tapped, SameTap, ByGate}
@@ -14,7 +14,7 @@ use Rattle.rkt_data.specs.declared.capped.Capped.{Capped}
 use Rattle.rkt_data.specs.declared.data_stream.ByteUnit.{ByteUnit}
 use Rattle.rkt_data.specs.declared.error.DataError.{DataError}
 use Rattle.rkt_data.specs.declared.error.DataError.TheVariants.{NoMemory}
-use Rattle.rkt_data.specs.declared.source.Gate.{Gate}
+use Rattle.rkt_source.specs.declared.source.Gate.{Gate}
 use Rattle.rkt_http.specs.Outcome.{MatchOutcome, IsErrorAnd}
 use Rattle.rkt_http.specs.declared.outcome.Outcome.{Outcome}
 use Rattle.rkt_http.specs.declared.outcome.Outcome.TheVariants.{Success, Error, Forward}

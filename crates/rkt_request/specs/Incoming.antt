@@ -6,12 +6,12 @@ use Rattle.rkt_cookie.specs.Cookie.{Parts}
 use Rattle.rkt_cookie.specs.Jar.{JarParts, with_cookie}
 use Rattle.rkt_cookie.specs.Reading.{Reads, is_semicolon}
 use Rattle.rkt_http.specs.Headers.{Field, Group, added, values_of}
-use Rattle.rkt_http.specs.Host.{Authority, IsHost, authority_of}
+use Rattle.rkt_uri.specs.Host.{Authority, IsHost, authority_of}
 use Rattle.rkt_http.specs.Method.{method_of}
-use Rattle.rkt_http.specs.Origin.{Target, Spells}
+use Rattle.rkt_uri.specs.Origin.{Target, Spells}
 use Rattle.rkt_http.specs.declared.method.Method.{Method}
 use Rattle.rkt_http.specs.declared.method.Method.TheVariants.{Get}
-use Rattle.rkt_http.specs.declared.origin_place.Profile.TheVariants.{Request as OfRequest}
+use Rattle.rkt_uri.specs.declared.origin_place.Profile.TheVariants.{Request as OfRequest}
 use Rattle.rkt_request.specs.Seen.{Seen, ReadAs, MaybeReadAs, first_value}
 use Rattle.rkt_request.specs.declared.bad.Bad.{Bad}
 use Rattle.rkt_request.specs.declared.bad.Bad.TheVariants.{BadMethod, InvalidUri}

@@ -1,7 +1,7 @@
 -- What a callback is lent beside the request: what it may change, and the Gate that its poll was given.
 use Rattle.std.specs.Prelude.{◌==◌, List, Option, find, option_map}
 use Rattle.rkt_cookie.specs.Jar.{JarParts}
-use Rattle.rkt_data.specs.declared.source.Gate.{Gate}
+use Rattle.rkt_source.specs.declared.source.Gate.{Gate}
 use Rattle.rkt_http.specs.declared.key.Key.{Key}
 use Rattle.rkt_turn.specs.Shutdown.{Handle}
 

@@ -5,15 +5,15 @@ use Rattle.std.specs.Net.Grammar.{IsIpText}
 use Rattle.std.specs.Net.Socket.{socket_ip}
 use Rattle.std.specs.declared.net.ip_addr.IpAddr.{IpAddr}
 use Rattle.std.specs.declared.net.socket_addr.SocketAddr.{SocketAddr}
-use Rattle.rkt_http.specs.Accept.{Prefers, Weighed}
-use Rattle.rkt_http.specs.AcceptText.{SpellsAccept}
+use Rattle.rkt_media.specs.Accept.{Prefers, Weighed}
+use Rattle.rkt_media.specs.AcceptText.{SpellsAccept}
 use Rattle.rkt_http.specs.Headers.{Group, values_of}
-use Rattle.rkt_http.specs.Host.{Authority}
-use Rattle.rkt_http.specs.Media.{Media, known_media}
-use Rattle.rkt_http.specs.MediaText.{SpellsMedia}
+use Rattle.rkt_uri.specs.Host.{Authority}
+use Rattle.rkt_media.specs.Media.{Media, known_media}
+use Rattle.rkt_media.specs.MediaText.{SpellsMedia}
 use Rattle.rkt_http.specs.Method.{carries_payload}
-use Rattle.rkt_http.specs.Origin.{Target, segments_of}
-use Rattle.rkt_http.specs.declared.content_type.Known.TheVariants.{Any}
+use Rattle.rkt_uri.specs.Origin.{Target, segments_of}
+use Rattle.rkt_media.specs.declared.known.Known.TheVariants.{Any}
 use Rattle.rkt_http.specs.declared.method.Method.{Method}
 use Rattle.rkt_config.specs.declared.config.Config.{Config}
 use Rattle.rkt_request.specs.declared.head.Mounted.{Mounted}

@@ -2,8 +2,8 @@
 ghost use Rattle.std.specs.Prelude.{◌≡◌, ◌∷◌, [], IfOk, OnOk, IsUtf8, MatchOption, codes, unwrap_or};
 ghost use Rattle.rkt_cookie.specs.Reading.{Reads};
 ghost use Rattle.rkt_http.specs.Headers.{values_of};
-ghost use Rattle.rkt_http.specs.Origin.{Spells};
-ghost use Rattle.rkt_http.specs.declared.origin_place.Profile.TheVariants.{Request as OfRequest};
+ghost use Rattle.rkt_uri.specs.Origin.{Spells};
+ghost use Rattle.rkt_uri.specs.declared.origin_place.Profile.TheVariants.{Request as OfRequest};
 ghost use Rattle.rkt_request.specs.Incoming.{AddsCookies, IsJar, SpellsHost, cookie_pieces, faults_of, headers_of, root};
 ghost use Rattle.rkt_request.specs.Seen.{MaybeReadAs, ReadAs, first_value};
 

@@ -1,6 +1,6 @@
 ghost use Rattle.std.specs.Prelude.{◌≡◌, [], Some, None, IfOk, OnOk, OnErr, drop, slice_get, option_copied};
 ghost use Rattle.rkt_http.specs.Headers.{added, replaced};
-ghost use Rattle.rkt_http.specs.Origin.{fields_of};
+ghost use Rattle.rkt_uri.specs.Origin.{fields_of};
 ghost use Rattle.rkt_request.specs.Seen.{IsAccept, IsClientIp, IsContentType, IsFormat, IsRealIp, base_segments, routed};
 
 use crate::head::Mounted;

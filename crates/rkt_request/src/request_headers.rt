@@ -2,11 +2,11 @@
 ghost use Rattle.std.specs.Prelude.{◌≡◌, [], Some, IfOk, OnOk, OnErr, IsTrue, MatchBool, codes};
 ghost use Rattle.std.specs.Option.{option_copied};
 ghost use Rattle.std.specs.Str.{str_eq_ignore_ascii_case};
-ghost use Rattle.rkt_http.specs.AcceptText.{SpellsAccept};
+ghost use Rattle.rkt_media.specs.AcceptText.{SpellsAccept};
 ghost use Rattle.rkt_http.specs.Headers.{added, replaced};
-ghost use Rattle.rkt_http.specs.Media.{known_media};
-ghost use Rattle.rkt_http.specs.MediaText.{SpellsMedia};
-ghost use Rattle.rkt_http.specs.declared.content_type.Known.TheVariants.{Any};
+ghost use Rattle.rkt_media.specs.Media.{known_media};
+ghost use Rattle.rkt_media.specs.MediaText.{SpellsMedia};
+ghost use Rattle.rkt_media.specs.declared.known.Known.TheVariants.{Any};
 ghost use Rattle.rkt_request.specs.Seen.{IsAccept, IsContentType, ReadAs, first_value};
 
 use rkt_base::{NoMemory, Want};

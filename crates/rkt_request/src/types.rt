@@ -33,7 +33,7 @@ pub trait HasBody: Types {
 }
 
 impl<T: Types> HasBody for T {
-    ghost use Rattle.rkt_data.specs.Cancel.{cut_meaning};
+    ghost use Rattle.rkt_cancel.specs.Cancel.{cut_meaning};
     ghost use Rattle.rkt_data.specs.Tap.{body};
 
     type Body = Body0<T>;

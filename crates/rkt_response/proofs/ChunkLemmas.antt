@@ -3,7 +3,7 @@ use Rattle.std.proofs.Common.{◌≡◌, ◌<◌, ◌++◌, ◌∙◌, ◌⊎◌
 use Rattle.std.specs.List.{AllByRecursion, concat}
 use Rattle.std.specs.Option.{ForSome}
 use Rattle.rkt_base.specs.declared.poll.Poll.TheVariants.{Ready}
-use Rattle.rkt_data.specs.Source.{Meaning}
+use Rattle.rkt_source.specs.Source.{Meaning}
 use Rattle.rkt_response.specs.Body.{BodyOf, left_of}
 use Rattle.rkt_response.specs.Chunks.{IsAtEnd, IsNext, IsRoom}
 use Rattle.rkt_response.specs.Reading.{Reads, Takes}

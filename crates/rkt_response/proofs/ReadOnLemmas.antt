@@ -1,6 +1,6 @@
 -- A response that is read on, poll by poll.
 use Rattle.std.proofs.Common.{◌≡◌, ◌<◌, ◌+◌, ◌∙◌, inl, inr, ⊎_elim, ℕ, arith, Option, Some, le_trans, refl, sym, subst}
-use Rattle.rkt_data.specs.Source.{Meaning, Keeps}
+use Rattle.rkt_source.specs.Source.{Meaning, Keeps}
 use Rattle.rkt_response.specs.Body.{preset_of}
 use Rattle.rkt_response.specs.Reading.{Follows, ReadsOn, StreamWaits, Takes}
 use Rattle.rkt_response.specs.Response.{ResponseOf}

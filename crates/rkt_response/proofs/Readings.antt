@@ -2,16 +2,17 @@
 use Rattle.std.specs.Option.{ForSome}
 use Rattle.std.specs.Prelude.{option_map}
 use Rattle.std.proofs.Common.{◌≡◌, ℕ, ◌+◌, ◌≤◌, ◌++◌, ◌∙◌, List, length, take, drop, Option, None, Some, refl, sym, ap, subst, arith, append_assoc, length-append, length-take-le, drop-drop, take-append-drop}
-use Rattle.rkt_data.proofs.Pulls.{Keeps-refl, Keeps-trans, front_of, same_front}
+use Rattle.rkt_source.proofs.Sources.{Keeps-refl, Keeps-trans}
+use Rattle.rkt_data.proofs.Pulls.{front_of, same_front}
 use Rattle.rkt_data.proofs.Taps.{Polls-trans}
 use Rattle.rkt_data.specs.Gathering.{data_error_of}
-use Rattle.rkt_data.specs.Source.{Meaning, Keeps, Errs}
+use Rattle.rkt_source.specs.Source.{Meaning, Keeps, Errs}
 use Rattle.rkt_data.specs.Tap.{Polls}
 use Rattle.rkt_data.specs.declared.error.DataError.{DataError}
 use Rattle.rkt_data.specs.declared.error.DataError.TheVariants as error
-use Rattle.rkt_data.specs.declared.source.Gate.{Gate}
-use Rattle.rkt_data.specs.declared.source.SourceError.{SourceError}
-use Rattle.rkt_data.specs.declared.source.SourceError.TheVariants as source_error
+use Rattle.rkt_source.specs.declared.source.Gate.{Gate}
+use Rattle.rkt_source.specs.declared.source.SourceError.{SourceError}
+use Rattle.rkt_source.specs.declared.source.SourceError.TheVariants as source_error
 use Rattle.rkt_response.specs.Body.{BodyOf, left_of, preset_of, resized}
 use Rattle.rkt_response.specs.Reading.{ByGate, Follows, ReadsOn, StreamErrs, StreamWaits, Takes}
 use Rattle.rkt_response.specs.Whole.{BytesErr, Draws, Stops, all_of}

@@ -1,6 +1,6 @@
 -- The pieces of a response, poll by poll.
 use Rattle.std.proofs.Common.{◌≡◌, ◌<◌, ◌∙◌, ℕ, true, List, ◌∷◌, sym, ap, subst}
-use Rattle.rkt_data.specs.Source.{Meaning}
+use Rattle.rkt_source.specs.Source.{Meaning}
 use Rattle.rkt_response.specs.Chunks.{ReadsChunk}
 use Rattle.rkt_response.specs.Response.{ResponseOf}
 use Rattle.rkt_response.specs.Sending.{Gives, IsHead, Owes, OwesAt, Sending, stage_after}

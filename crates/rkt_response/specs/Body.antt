@@ -1,6 +1,6 @@
 -- What contracts see of the body of a response.
 use Rattle.std.specs.Prelude.{ℕ, ◌-◌, Bool, true, false, List, [], length, drop, Option, None, Some, unwrap_or, option_map, if◌then◌else◌}
-use Rattle.rkt_data.specs.Source.{Meaning}
+use Rattle.rkt_source.specs.Source.{Meaning}
 use Rattle.rkt_response.specs.declared.content.Content.{Content}
 use Rattle.rkt_response.specs.declared.content.Content.TheVariants as content
 

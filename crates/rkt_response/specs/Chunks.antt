@@ -1,7 +1,7 @@
 -- How a chunk of a body is read.
 use Rattle.std.specs.Option.{ForSome}
 use Rattle.std.specs.Prelude.{◌≡◌, ◌≤◌, ◌++◌, ℕ, List, [], length, Some}
-use Rattle.rkt_data.specs.Source.{Meaning}
+use Rattle.rkt_source.specs.Source.{Meaning}
 use Rattle.rkt_response.specs.Body.{BodyOf, left_of}
 use Rattle.rkt_response.specs.Reading.{StreamErrs, StreamWaits, Takes}
 use Rattle.rkt_response.specs.Sent.{IsChunk}

@@ -3,10 +3,10 @@ use Rattle.std.specs.Option.{ForSome}
 use Rattle.std.specs.Prelude.{◌≡◌, ⊤, ℕ, ◌+◌, ◌≤◌, ◌<◌, List, [], length, take, drop, Option, option_map, Result, Ok, Err}
 use Rattle.rkt_base.specs.declared.poll.Poll.{Poll}
 use Rattle.rkt_base.specs.declared.poll.Poll.TheVariants.{Ready, Pending}
-use Rattle.rkt_data.specs.Source.{Meaning, Keeps, Answers, Waits, Errs}
+use Rattle.rkt_source.specs.Source.{Meaning, Keeps, Answers, Waits, Errs}
 use Rattle.rkt_data.specs.Tap.{Polls}
-use Rattle.rkt_data.specs.declared.source.Gate.{Gate}
-use Rattle.rkt_data.specs.declared.source.SourceError.{SourceError}
+use Rattle.rkt_source.specs.declared.source.Gate.{Gate}
+use Rattle.rkt_source.specs.declared.source.SourceError.{SourceError}
 use Rattle.rkt_response.specs.Body.{BodyOf, left_of}
 use Rattle.rkt_response.specs.declared.content.Content.{Content}
 use Rattle.rkt_response.specs.declared.content.Content.TheVariants as content

@@ -2,8 +2,8 @@
 use Rattle.std.specs.Prelude.{◌≡◌, ⊤, ℕ, ◌+◌, ◌<◌, ◌≤◌, ◌⊎◌, ◌↔◌, true, false, List, [], ◌∷◌, length, Option, Result, Ok, Err}
 use Rattle.rkt_base.specs.declared.poll.Poll.{Poll}
 use Rattle.rkt_base.specs.declared.poll.Poll.TheVariants.{Ready, Pending}
-use Rattle.rkt_data.specs.Source.{Meaning}
-use Rattle.rkt_data.specs.declared.source.SourceError.{SourceError}
+use Rattle.rkt_source.specs.Source.{Meaning}
+use Rattle.rkt_source.specs.declared.source.SourceError.{SourceError}
 use Rattle.rkt_response.specs.Body.{preset_of, size_of}
 use Rattle.rkt_response.specs.Reading.{Follows, StreamErrs, StreamWaits, Takes}
 use Rattle.rkt_response.specs.Response.{ResponseOf}

@@ -5,11 +5,11 @@ use Rattle.std.specs.Str.Lossy.{utf8_valid_len}
 use Rattle.std.specs.declared.alloc.Global.{Global}
 use Rattle.rkt_base.specs.declared.poll.Poll.{Poll}
 use Rattle.rkt_base.specs.declared.poll.Poll.TheVariants.{Ready, Pending}
-use Rattle.rkt_data.specs.Source.{Meaning}
+use Rattle.rkt_source.specs.Source.{Meaning}
 use Rattle.rkt_data.specs.declared.error.DataError.{DataError}
 use Rattle.rkt_data.specs.declared.error.DataError.TheVariants as error
-use Rattle.rkt_data.specs.declared.source.Gate.{Gate}
-use Rattle.rkt_data.specs.declared.source.SourceError.TheVariants as source_error
+use Rattle.rkt_source.specs.declared.source.Gate.{Gate}
+use Rattle.rkt_source.specs.declared.source.SourceError.TheVariants as source_error
 use Rattle.rkt_response.specs.Body.{BodyOf, left_of, lowered, preset_of}
 use Rattle.rkt_response.specs.Reading.{ByGate, Follows, StreamErrs, StreamWaits, Moves}
 use Rattle.rkt_response.specs.declared.content.Content.{Content}

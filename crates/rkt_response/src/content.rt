@@ -1,7 +1,7 @@
 //! What a body is.
 ghost use Rattle.std.specs.Prelude.{◌≡◌, ◌<◌, ◌++◌, [], Ok, IfSome, IfNone, drop, length, min, take};
 ghost use Rattle.rkt_base.specs.declared.poll.Poll.TheVariants.{Ready};
-ghost use Rattle.rkt_data.specs.Source.{Keeps, Answers};
+ghost use Rattle.rkt_source.specs.Source.{Keeps, Answers};
 ghost use Rattle.rkt_data.specs.Tap.{Polls};
 
 use rkt_base::Poll;

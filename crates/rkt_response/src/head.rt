@@ -3,7 +3,7 @@ ghost use Rattle.std.specs.Fmt.{decimal};
 ghost use Rattle.std.specs.List.{list_all};
 ghost use Rattle.std.specs.Prelude.{◌≡◌, ◌++◌, [], IfOk};
 ghost use Rattle.rkt_http.specs.Headers.{fields_of};
-ghost use Rattle.rkt_http.specs.MediaText.{is_token_byte};
+ghost use Rattle.rkt_media.specs.MediaText.{is_token_byte};
 ghost use Rattle.rkt_response.specs.Body.{size_of};
 ghost use Rattle.rkt_response.specs.Lines.{lines_of, only_length};
 ghost use Rattle.rkt_response.specs.Sent.{has_head, head_of, is_sendable, is_token, is_value_byte, sent_headers};

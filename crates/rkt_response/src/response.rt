@@ -2,7 +2,7 @@
 ghost use Rattle.std.specs.Option.{ForSome};
 ghost use Rattle.std.specs.Prelude.{◌≡◌, ◌+◌, List, ℕ, None, Some, IfOk, OnOk, OnErr, codes, drop, is_some, max, option_map, unwrap_or};
 ghost use Rattle.rkt_http.specs.Headers.{added, group_of, removed, replaced, values_of};
-ghost use Rattle.rkt_http.specs.MediaText.{SpellsMedia};
+ghost use Rattle.rkt_media.specs.MediaText.{SpellsMedia};
 ghost use Rattle.rkt_request.specs.Seen.{MaybeReadAs, first_value};
 ghost use Rattle.rkt_response.specs.declared.content.Content.{Content};
 

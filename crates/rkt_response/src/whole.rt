@@ -2,7 +2,7 @@
 ghost use Rattle.std.specs.Option.{ForSome};
 ghost use Rattle.std.specs.Prelude.{◌≡◌, Err, None, Some, false};
 ghost use Rattle.rkt_base.specs.declared.poll.Poll.TheVariants.{Ready};
-ghost use Rattle.rkt_data.specs.Gathering.{items_of};
+ghost use Rattle.rkt_source.specs.Buffer.{items_of};
 ghost use Rattle.rkt_response.specs.Reading.{ByGate, Follows};
 
 use crate::body::Body;
@@ -24,7 +24,7 @@ pub struct Whole<S> {
 
 impl<S> Model for Whole<S> {
     ghost use Rattle.std.specs.Prelude.{◌≤◌, length, take};
-    ghost use Rattle.rkt_data.specs.Gathering.{items_of};
+    ghost use Rattle.rkt_source.specs.Buffer.{items_of};
     ghost use Rattle.rkt_response.specs.Whole.{Gathering};
 
     ghost Value = { Gathering S };

@@ -1,7 +1,7 @@
 -- How the best of the catchers is kept.
 use Rattle.std.proofs.Common.{◌≡◌, ◌<◌, ◌≤◌, ◌+◌, ℕ, List, Option, Some, None, ◌⊎◌, inl, inr, arith, sym, ◌∙◌, refl, subst, length, Bool, IsTrue, ◌↔◌}
 use Rattle.std.specs.Prelude.{IsSome, IsNone, IsSomeAnd, slice_get}
-use Rattle.rkt_http.specs.Origin.{segments_of}
+use Rattle.rkt_uri.specs.Origin.{segments_of}
 use Rattle.rkt_request.specs.Seen.{Seen}
 use Rattle.std.proofs.lemmas.Option.{slice_get_within}
 use Rattle.rkt_router.specs.Catchers.{Catches, CatchesAt, IsChosen, Outranks, OutranksAt}

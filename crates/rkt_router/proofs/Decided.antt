@@ -1,9 +1,9 @@
 -- Whether a route matches, by its parts.
 use Rattle.std.proofs.Common.{◌≡◌, ◌↔◌, IsTrue, ℕ, ◌<◌, ◌≤◌, ◌+◌, List, Bool, get_or, sym, ◌∙◌, subst, arith, length, ◌⊎◌, inl, inr, ap, Option}
 use Rattle.std.specs.List.{All, AllWithin, IsAmong}
-use Rattle.rkt_http.specs.Origin.{fields_of, segments_of}
+use Rattle.rkt_uri.specs.Origin.{fields_of, segments_of}
 use Rattle.std.proofs.lemmas.List.{get_or_default}
-use Rattle.rkt_http.specs.Media.{Media}
+use Rattle.rkt_media.specs.Media.{Media}
 use Rattle.rkt_request.specs.Seen.{Seen}
 use Rattle.rkt_router.specs.RouteUri.{path_segments, static_fields}
 use Rattle.rkt_router.specs.Tries.{FormatMatches, Matches, PathMatches}

@@ -1,6 +1,6 @@
 -- Whether the format of a request is what a route asks for.
 use Rattle.std.proofs.Common.{◌≡◌, ◌↔◌, IsTrue, Bool, Option, Some, sym, subst}
-use Rattle.rkt_http.specs.Media.{Media}
+use Rattle.rkt_media.specs.Media.{Media}
 use Rattle.rkt_http.specs.Method.{carries_payload}
 use Rattle.rkt_router.specs.Tries.{FormatFits, FormatMatches}
 use Rattle.rkt_request.specs.Seen.{Seen, HasOneFormat, IsFormat}

@@ -2,10 +2,11 @@
 use Rattle.std.proofs.Common.{◌≡◌, ℕ, ◌==◌, ◌||◌, codes, Bool, true, false, List, [], ◌∷◌, ◌++◌, refl, sym, inl, inr, ◌∙◌, ap, append_assoc}
 use Rattle.std.proofs.lemmas.Bool.{false≢true}
 use Rattle.std.specs.List.{list_any}
-use Rattle.rkt_http.specs.Grammar.{LeavesAt, OnlyOf}
-use Rattle.rkt_http.specs.Origin.{Target, IsOrigin, IsTarget, SaysWhatItSpells, Spells, is_alphanumeric, is_bracket, is_path_byte, query_text, spelling}
-use Rattle.rkt_http.specs.declared.origin_place.Profile.{Profile}
-use Rattle.rkt_http.specs.declared.origin_place.Profile.TheVariants.{Request, Route}
+use Rattle.rkt_grammar.specs.Grammar.{LeavesAt, OnlyOf}
+use Rattle.rkt_grammar.specs.Grammar.{is_alphanumeric}
+use Rattle.rkt_uri.specs.Origin.{Target, IsOrigin, IsTarget, SaysWhatItSpells, Spells, is_bracket, is_path_byte, query_text, spelling}
+use Rattle.rkt_uri.specs.declared.origin_place.Profile.{Profile}
+use Rattle.rkt_uri.specs.declared.origin_place.Profile.TheVariants.{Request, Route}
 use Rattle.rkt_router.specs.RouteUri.{MountedUri, SpellsMounted, LeavesMountedAt, IsRebased, mounted_at, root}
 
 -- a test that passes goes on to pass where more passes

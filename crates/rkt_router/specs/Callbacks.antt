@@ -1,7 +1,7 @@
 -- What handlers and catchers are handed, what they answer, and the laws that they keep.
 use Rattle.std.specs.Prelude.{◌≡◌, ℕ, List, Option, Ok, Err, ⊤}
-use Rattle.rkt_data.specs.declared.source.Gate.{Gate}
-use Rattle.rkt_http.specs.Grammar.{IsFrontOf}
+use Rattle.rkt_source.specs.declared.source.Gate.{Gate}
+use Rattle.rkt_grammar.specs.Grammar.{IsFrontOf}
 use Rattle.rkt_http.specs.declared.outcome.Outcome.{Outcome}
 use Rattle.rkt_http.specs.declared.outcome.Outcome.TheVariants.{Success, Error, Forward}
 use Rattle.rkt_http.specs.declared.status.Status.{Status}

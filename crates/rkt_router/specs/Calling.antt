@@ -1,6 +1,6 @@
 -- What a callback means that is polled until it is done, and what one poll of it answers.
 use Rattle.std.specs.Prelude.{ℕ, ◌+◌, ◌<◌, List, [], ◌∷◌, ◌++◌}
-use Rattle.rkt_data.specs.declared.source.Gate.{Gate}
+use Rattle.rkt_source.specs.declared.source.Gate.{Gate}
 use Rattle.rkt_router.specs.declared.step.Step.{Step}
 use Rattle.rkt_router.specs.declared.step.Step.TheVariants.{Pending, Done, Fault, Starved}
 

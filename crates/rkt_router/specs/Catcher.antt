@@ -1,7 +1,7 @@
 -- Which codes a catcher may have, and what it is made of.
 use Rattle.std.specs.Prelude.{◌≡◌, ◌≤◌, ℕ, List, Option, Some}
-use Rattle.rkt_http.specs.Origin.{Target, Spells, normalized}
-use Rattle.rkt_http.specs.declared.origin_place.Profile.TheVariants.{Request}
+use Rattle.rkt_uri.specs.Origin.{Target, Spells, normalized}
+use Rattle.rkt_uri.specs.declared.origin_place.Profile.TheVariants.{Request}
 use Rattle.rkt_router.specs.RouteUri.{path_alone, root}
 use Rattle.rkt_router.specs.declared.catcher.Catcher.{Catcher}
 use Rattle.rkt_router.specs.declared.catcher.Catching.{Catching}

@@ -1,7 +1,7 @@
 -- Which catcher answers for a status.
 use Rattle.std.specs.Prelude.{◌≡◌, ◌<◌, ◌⊎◌, ℕ, List, Option, Some, None, IfSome, IsSome, IsNone, IsSomeAnd, length, slice_get}
-use Rattle.rkt_http.specs.Grammar.{IsFrontOf}
-use Rattle.rkt_http.specs.Origin.{segments_of}
+use Rattle.rkt_grammar.specs.Grammar.{IsFrontOf}
+use Rattle.rkt_uri.specs.Origin.{segments_of}
 use Rattle.rkt_request.specs.Seen.{Seen}
 use Rattle.rkt_router.specs.declared.catcher.Catcher.{Catcher}
 

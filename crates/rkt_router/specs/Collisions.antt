@@ -1,9 +1,9 @@
 -- Which routes, and which catchers, would answer the same requests.
 use Rattle.std.specs.Prelude.{◌≡◌, ◌<◌, ◌⊎◌, ◌↔◌, ℕ, List, [], ◌∷◌, true, false, Option, Some, None, Bool, IsSomeAnd, slice_get, ⊤}
 use Rattle.std.specs.List.{AllPairs, IsAmong}
-use Rattle.rkt_http.specs.Media.{Media}
+use Rattle.rkt_media.specs.Media.{Media}
 use Rattle.rkt_http.specs.Method.{carries_payload}
-use Rattle.rkt_http.specs.Origin.{segments_of}
+use Rattle.rkt_uri.specs.Origin.{segments_of}
 use Rattle.rkt_router.specs.RouteUri.{path_segments}
 use Rattle.rkt_router.specs.Tries.{MediaCollide}
 use Rattle.rkt_router.specs.declared.catcher.Catcher.{Catcher}

@@ -1,9 +1,9 @@
 -- The URI of a route.
 use Rattle.std.specs.Prelude.{◌≡◌, ◌⊎◌, ℕ, ◌+◌, ◌*◌, ℤ, pos, ◌-ℤ◌, List, [], ◌∷◌, ◌++◌, codes, not, None, filter, map, unwrap_or}
 use Rattle.std.specs.List.{before_first, after_first}
-use Rattle.rkt_http.specs.Grammar.{LeavesAt}
-use Rattle.rkt_http.specs.Origin.{Target, IsTarget, IsOrigin, Spells, is_equals, normalized, pieces, raw_segments_of}
-use Rattle.rkt_http.specs.declared.origin_place.Profile.TheVariants.{Request, Route}
+use Rattle.rkt_grammar.specs.Grammar.{LeavesAt}
+use Rattle.rkt_uri.specs.Origin.{Target, IsTarget, IsOrigin, Spells, is_equals, normalized, pieces, raw_segments_of}
+use Rattle.rkt_uri.specs.declared.origin_place.Profile.TheVariants.{Request, Route}
 use Rattle.rkt_router.specs.Segment.{segment_of, color_of, weight}
 use Rattle.rkt_router.specs.declared.segment.Segment.{Segment}
 

@@ -2,9 +2,9 @@
 use Rattle.std.specs.Prelude.{◌≡◌, ◌≤◌, ◌<◌, ◌<ℤ◌, ◌+◌, ◌⊎◌, ◌↔◌, ℕ, List, [], ◌∷◌, ◌++◌, Bool, true, false, not, Option, Some, None, IfSome, IsSomeAnd, codes, length, slice_get, ⊤}
 use Rattle.std.specs.List.{All, AllPairs, IsAmong, take_while}
 use Rattle.std.specs.Str.{str_eq_ignore_ascii_case}
-use Rattle.rkt_http.specs.Media.{Media, specificity_of}
+use Rattle.rkt_media.specs.Media.{Media, specificity_of}
 use Rattle.rkt_http.specs.Method.{carries_payload}
-use Rattle.rkt_http.specs.Origin.{fields_of, segments_of}
+use Rattle.rkt_uri.specs.Origin.{fields_of, segments_of}
 use Rattle.rkt_request.specs.Seen.{Seen, IsFormat}
 use Rattle.rkt_router.specs.RouteUri.{path_segments, static_fields}
 use Rattle.rkt_router.specs.declared.route.Route.{Route}

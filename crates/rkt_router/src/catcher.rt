@@ -1,8 +1,8 @@
 ghost use Rattle.std.specs.Prelude.{◌≡◌, Some, None, Ok, IfOk, IfSome, codes, string_bytes};
 ghost use Rattle.std.specs.Fn.{FnOnceTakesAt, FnOnceReturnsAt};
 ghost use Rattle.rkt_base.specs.Want.{IfRefused, GivesUnlessNoMemory};
-ghost use Rattle.rkt_http.specs.Grammar.{LeavesAt};
-ghost use Rattle.rkt_http.specs.Origin.{IsOrigin, Spells, Target, normalized};
+ghost use Rattle.rkt_grammar.specs.Grammar.{LeavesAt};
+ghost use Rattle.rkt_uri.specs.Origin.{IsOrigin, Spells, Target, normalized};
 ghost use Rattle.rkt_router.specs.Catcher.{IsErrorCode, catcher_at_root, catcher_of_info, IsMovedTo};
 ghost use Rattle.rkt_router.specs.RouteUri.{path_alone, root};
 

@@ -1,6 +1,6 @@
 ghost use Rattle.std.specs.Prelude.{◌≡◌, ◌↔◌, IsTrue, option_copied};
 ghost use Rattle.rkt_http.specs.Method.{carries_payload};
-ghost use Rattle.rkt_http.specs.Origin.{segments_of};
+ghost use Rattle.rkt_uri.specs.Origin.{segments_of};
 ghost use Rattle.rkt_router.specs.Collisions.{CatchersCollide, FormatsCollide, FormatsMeet, MayEnd, PathsCollide, RoutesCollide, SegmentsMeet};
 ghost use Rattle.rkt_router.specs.Tries.{MediaCollide, PartsCollide};
 

@@ -1,6 +1,6 @@
 ghost use Rattle.std.specs.Prelude.{◌≡◌, ◌↔◌, ◌≤◌, ◌+◌, ◌⊎◌, List, ℕ, IsTrue, false, not, option_copied, length};
 ghost use Rattle.std.specs.List.{All, IsAmong, take_while};
-ghost use Rattle.rkt_http.specs.Origin.{fields_of, segments_of};
+ghost use Rattle.rkt_uri.specs.Origin.{fields_of, segments_of};
 ghost use Rattle.rkt_router.specs.RouteUri.{path_segments, static_fields};
 ghost use Rattle.rkt_router.specs.Tries.{Agrees, EndsTrailing, FormatFits, FormatMatches, Matches, PathMatches};
 

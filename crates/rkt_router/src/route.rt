@@ -1,8 +1,8 @@
 ghost use Rattle.std.specs.Prelude.{◌≡◌, Some, None, Ok, IfOk, codes, string_bytes};
 ghost use Rattle.std.specs.Fn.{FnOnceTakesAt, FnOnceReturnsAt};
 ghost use Rattle.rkt_base.specs.Want.{IfRefused, GivesUnlessNoMemory};
-ghost use Rattle.rkt_http.specs.Grammar.{LeavesAt};
-ghost use Rattle.rkt_http.specs.Origin.{IsOrigin};
+ghost use Rattle.rkt_grammar.specs.Grammar.{LeavesAt};
+ghost use Rattle.rkt_uri.specs.Origin.{IsOrigin};
 ghost use Rattle.rkt_router.specs.RouteUri.{MountedUri, SpellsMounted};
 ghost use Rattle.rkt_router.specs.Route.{route_at, route_of_info, IsMovedTo};
 

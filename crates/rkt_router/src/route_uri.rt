@@ -1,7 +1,7 @@
 ghost use Rattle.std.specs.Prelude.{◌≡◌, ◌++◌, ◌<◌, IfOk, Some, codes, filter, map, not, option_copied};
 ghost use Rattle.rkt_base.specs.Want.{IfRefused, GivesUnlessNoMemory};
-ghost use Rattle.rkt_http.specs.Grammar.{LeavesAt};
-ghost use Rattle.rkt_http.specs.Origin.{IsOrigin, IsTarget, pieces, spelling};
+ghost use Rattle.rkt_grammar.specs.Grammar.{LeavesAt};
+ghost use Rattle.rkt_uri.specs.Origin.{IsOrigin, IsTarget, pieces, spelling};
 ghost use Rattle.rkt_router.specs.Segment.{segment_of};
 ghost use Rattle.rkt_router.specs.RouteUri.{MountedUri, SpellsMounted, LeavesMountedAt, IsRebased, default_rank, path_segments, raw_field, static_fields};
 

@@ -1,7 +1,7 @@
 -- Reads of a body, one after another, are reads of it.
 use Rattle.std.proofs.Common.{◌+◌, ◌∙◌, inl, inr, List, ℕ, Option, arith, refl, ap, subst}
 use Rattle.std.proofs.lemmas.List.{drop-drop}
-use Rattle.rkt_data.specs.Source.{Meaning, Keeps}
+use Rattle.rkt_source.specs.Source.{Meaning, Keeps}
 use Rattle.rkt_response.specs.Reading.{ReadsOn}
 use Rattle.rkt_response.specs.declared.content.Content.{Content}
 use Rattle.rkt_response.specs.declared.content.Content.TheVariants as content

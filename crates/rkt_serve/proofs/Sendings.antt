@@ -3,9 +3,9 @@ use Rattle.std.proofs.Common.{◌≡◌, ◌≢◌, ◌≤◌, ◌++◌, ◌∙�
 use Rattle.rkt_base.specs.Counts.{Rose}
 use Rattle.rkt_base.specs.Poll.{IfReadyOk}
 use Rattle.rkt_base.specs.declared.poll.Poll.TheVariants.{Ready}
-use Rattle.rkt_data.specs.Source.{Meaning, Keeps, Errs}
-use Rattle.rkt_data.specs.declared.source.SourceError.{SourceError}
-use Rattle.rkt_data.specs.declared.source.SourceError.TheVariants.{SourceFault, Gone, TimedOut}
+use Rattle.rkt_source.specs.Source.{Meaning, Keeps, Errs}
+use Rattle.rkt_source.specs.declared.source.SourceError.{SourceError}
+use Rattle.rkt_source.specs.declared.source.SourceError.TheVariants.{SourceFault, Gone, TimedOut}
 use Rattle.rkt_response.specs.Reading.{ReadsOn, StreamErrs}
 use Rattle.rkt_response.specs.Response.{ResponseOf}
 use Rattle.rkt_response.specs.Sending.{Gives, GivesUp, MayWait, Owes, OwesAt, ReadOn, Sending, Waits, stage_after}

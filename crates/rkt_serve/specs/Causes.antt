@@ -2,7 +2,7 @@
 use Rattle.std.specs.Prelude.{◌≡◌, ℕ, max, List, [], Some, None}
 use Rattle.std.specs.List.{AllByRecursion}
 use Rattle.std.specs.Option.{ForSome}
-use Rattle.rkt_data.specs.Source.{Meaning}
+use Rattle.rkt_source.specs.Source.{Meaning}
 use Rattle.rkt_request.specs.Seen.{Seen}
 use Rattle.rkt_response.specs.Reading.{ReadsOn}
 use Rattle.rkt_response.specs.Response.{ResponseOf}

@@ -1,6 +1,6 @@
 -- What is known of a response while it is sent.
 use Rattle.std.specs.Prelude.{◌≡◌, ◌≢◌, ◌↔◌, ◌++◌, List, [], ◌∷◌}
-use Rattle.rkt_data.specs.Source.{Meaning}
+use Rattle.rkt_source.specs.Source.{Meaning}
 use Rattle.rkt_response.specs.Sending.{IsHead, Owes, ReadOn, Sending, stage_after}
 use Rattle.rkt_response.specs.Sent.{Sent}
 use Rattle.rkt_response.specs.declared.piece.Piece.{Piece}

@@ -1,7 +1,7 @@
 -- How the sending of a response ended.
 use Rattle.std.specs.Prelude.{◌≡◌, ◌≢◌, ◌⊎◌, ◌++◌, ℕ, false, List, []}
-use Rattle.rkt_data.specs.Source.{Meaning}
-use Rattle.rkt_data.specs.declared.source.SourceError.{SourceError}
+use Rattle.rkt_source.specs.Source.{Meaning}
+use Rattle.rkt_source.specs.declared.source.SourceError.{SourceError}
 use Rattle.rkt_response.specs.Reading.{StreamErrs}
 use Rattle.rkt_response.specs.Response.{ResponseOf}
 use Rattle.rkt_response.specs.Sending.{MayWait}

@@ -23,7 +23,5 @@ pub use list_clock::ListClock;
 pub use list_listener::ListListener;
 pub use listener::{Accepted, Listener};
 pub use memory_link::MemoryLink;
+pub use send::send;
 pub use system_clock::SystemClock;
-
-#[cfg(test)]
-mod tests;

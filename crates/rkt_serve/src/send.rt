@@ -90,7 +90,7 @@ fn put_all<R: Wait, K: Link, S: Source>(
 
 /// Sends a response, and answers how that ended. The source of its body is polled under this Gate, and fails where it
 /// is Pending `turns` times in a row.
-pub(crate) fn send<R: Wait, K: Link, S: Source>(
+pub fn send<R: Wait, K: Link, S: Source>(
     rt: &R,
     alloc: Global,
     link: &mut K,

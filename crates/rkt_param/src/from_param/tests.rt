@@ -1,6 +1,6 @@
 use super::FromParam;
 use rkt_base::Want;
-use rkt_http::{PathBuf, PathError};
+use rkt_uri::{PathBuf, PathError};
 use std::alloc::Global;
 use std::net::{IpAddr, Ipv4Addr, Ipv6Addr, SocketAddr, SocketAddrV4, SocketAddrV6};
 use std::num::{

@@ -1,7 +1,7 @@
 //! Guards of what a request keeps, which give a copy.
 ghost use Rattle.std.specs.Prelude.{◌≡◌, List, Option};
-ghost use Rattle.rkt_http.specs.Accept.{Weighed};
-ghost use Rattle.rkt_http.specs.Media.{Media};
+ghost use Rattle.rkt_media.specs.Accept.{Weighed};
+ghost use Rattle.rkt_media.specs.Media.{Media};
 ghost use Rattle.rkt_http.specs.declared.outcome.Outcome.TheVariants.{Success};
 ghost use Rattle.rkt_request.specs.FromRequest.{Answers, or_forward};
 ghost use Rattle.rkt_request.specs.Seen.{IsAccept, IsContentType};

@@ -3,8 +3,8 @@ ghost use Rattle.std.specs.Prelude.{◌≡◌, Ok};
 ghost use Rattle.std.specs.Arc.{arc_slice_items};
 ghost use Rattle.std.specs.Box.{boxed_slice_items};
 ghost use Rattle.std.specs.Cow.{cow_slice_items};
-ghost use Rattle.rkt_http.specs.Media.{known_text};
-ghost use Rattle.rkt_http.specs.declared.content_type.Known.TheVariants.{Binary};
+ghost use Rattle.rkt_media.specs.Media.{known_text};
+ghost use Rattle.rkt_media.specs.declared.known.Known.TheVariants.{Binary};
 ghost use Rattle.rkt_request.specs.FromRequest.{Answers};
 ghost use Rattle.rkt_response.specs.Responder.{typed_bytes};
 

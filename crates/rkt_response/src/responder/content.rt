@@ -1,7 +1,7 @@
 //! Responders that set the content type.
 ghost use Rattle.std.specs.Prelude.{◌≡◌};
-ghost use Rattle.rkt_http.specs.Media.{known_text, media_text};
-ghost use Rattle.rkt_http.specs.declared.content_type.Known.TheVariants.{JSON, XML, MsgPack, HTML, Text, CSS, JavaScript};
+ghost use Rattle.rkt_media.specs.Media.{known_text, media_text};
+ghost use Rattle.rkt_media.specs.declared.known.Known.TheVariants.{JSON, XML, MsgPack, HTML, Text, CSS, JavaScript};
 ghost use Rattle.rkt_response.specs.Responder.{Changes, StarvesWithin, with_type};
 
 use crate::responder::Responder;

@@ -1,6 +1,6 @@
 //! The responses that several responders answer.
 ghost use Rattle.std.specs.Prelude.{◌≡◌, IfOk};
-ghost use Rattle.rkt_http.specs.Media.{known_text};
+ghost use Rattle.rkt_media.specs.Media.{known_text};
 ghost use Rattle.rkt_response.specs.Responder.{Changes, IfAnswered, IfStarved, StarvesWithin, streamed, typed_bytes, with_status, with_type};
 
 use crate::responder::Responder;

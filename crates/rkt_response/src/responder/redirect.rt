@@ -1,5 +1,5 @@
 ghost use Rattle.std.specs.Prelude.{◌≡◌, None, Some, IfOk};
-ghost use Rattle.rkt_http.specs.Reference.{IsReference};
+ghost use Rattle.rkt_uri.specs.Reference.{IsReference};
 ghost use Rattle.rkt_request.specs.FromRequest.{Answers};
 ghost use Rattle.rkt_response.specs.Responder.{answer_of_redirect};
 

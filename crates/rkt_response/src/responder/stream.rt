@@ -1,7 +1,7 @@
 //! Responders whose body is a source.
 ghost use Rattle.std.specs.Prelude.{◌≡◌, Ok};
-ghost use Rattle.rkt_http.specs.Media.{known_text};
-ghost use Rattle.rkt_http.specs.declared.content_type.Known.TheVariants.{Binary, Plain};
+ghost use Rattle.rkt_media.specs.Media.{known_text};
+ghost use Rattle.rkt_media.specs.declared.known.Known.TheVariants.{Binary, Plain};
 ghost use Rattle.rkt_request.specs.FromRequest.{Answers};
 ghost use Rattle.rkt_response.specs.Responder.{streamed, with_type};
 

@@ -3,8 +3,8 @@ ghost use Rattle.std.specs.Prelude.{◌≡◌, Ok, string_bytes};
 ghost use Rattle.std.specs.Arc.{arc_str_bytes};
 ghost use Rattle.std.specs.Box.{boxed_str_bytes};
 ghost use Rattle.std.specs.Cow.{cow_str_bytes};
-ghost use Rattle.rkt_http.specs.Media.{known_text};
-ghost use Rattle.rkt_http.specs.declared.content_type.Known.TheVariants.{Plain};
+ghost use Rattle.rkt_media.specs.Media.{known_text};
+ghost use Rattle.rkt_media.specs.declared.known.Known.TheVariants.{Plain};
 ghost use Rattle.rkt_request.specs.FromRequest.{Answers};
 ghost use Rattle.rkt_response.specs.Responder.{typed_bytes};
 

@@ -28,8 +28,8 @@ impl Stalling {
 }
 
 impl Shut for Stalling {
-    ghost use Rattle.rkt_data.specs.Memory.{source_meaning};
-    ghost use Rattle.rkt_data.specs.Source.{Shuts};
+    ghost use Rattle.rkt_source.specs.Memory.{source_meaning};
+    ghost use Rattle.rkt_source.specs.Source.{Shuts};
 
     ghost shuts = { λ s answer t. Shuts (record (source_meaning s.inner) { pended = s.waited; pendings = s.waited + s.waits }) answer (record (source_meaning t.inner) { pended = t.waited; pendings = t.waited + t.waits }) };
 
@@ -40,7 +40,7 @@ impl Shut for Stalling {
 
 impl Source for Stalling {
     ghost use Rattle.std.proofs.Common.{le-add_right};
-    ghost use Rattle.rkt_data.specs.Memory.{source_meaning};
+    ghost use Rattle.rkt_source.specs.Memory.{source_meaning};
 
     ghost meaning = { λ s. record (source_meaning s.inner) { pended = s.waited; pendings = s.waited + s.waits } };
 

@@ -1,5 +1,5 @@
 use Rattle.std.proofs.Common.{length, take, ◌-◌, ◌≤◌}
-use Rattle.rkt_data.specs.Sink.{SinkKeeps, Gains}
+use Rattle.rkt_source.specs.Sink.{SinkKeeps, Gains}
 use Rattle.rkt_data.proofs.pump.send.Given as goal
 
 abbrev pub invariant-loop-n : goal.invariant-loop-n

@@ -1,5 +1,5 @@
 use Rattle.std.proofs.Common.{◌≤◌, take, length}
-use Rattle.rkt_data.specs.Sink.{Gains}
+use Rattle.rkt_source.specs.Sink.{Gains}
 use Rattle.rkt_demo.proofs.stream.write_all.Given as goal
 
 abbrev pub invariant-loop : goal.invariant-loop

@@ -1,6 +1,6 @@
 use Rattle.std.proofs.Common.{◌↔◌}
 use Rattle.std.specs.List.{IsAmong}
-use Rattle.rkt_http.specs.Origin.{fields_of}
+use Rattle.rkt_uri.specs.Origin.{fields_of}
 use Rattle.rkt_router.proofs.matches.has_field.Given as goal
 
 abbrev pub invariant-loop-found : goal.invariant-loop-found

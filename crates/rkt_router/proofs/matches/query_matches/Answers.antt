@@ -1,7 +1,7 @@
 use Rattle.std.proofs.Common.{refl, sym, ◌∙◌, arith}
 use Rattle.std.specs.List.{IsAmong}
 use Rattle.std.proofs.lemmas.Bool.{false≢true}
-use Rattle.rkt_http.specs.Origin.{fields_of}
+use Rattle.rkt_uri.specs.Origin.{fields_of}
 use Rattle.rkt_router.proofs.Decided.{within_on, not_all}
 use Rattle.rkt_router.proofs.matches.query_matches.Goals as goal
 

@@ -1,5 +1,5 @@
 use Rattle.std.specs.List.{AllWithin, IsAmong}
-use Rattle.rkt_http.specs.Origin.{fields_of}
+use Rattle.rkt_uri.specs.Origin.{fields_of}
 use Rattle.rkt_router.proofs.matches.query_matches.Given as goal
 
 abbrev pub invariant-loop-field : goal.invariant-loop-field

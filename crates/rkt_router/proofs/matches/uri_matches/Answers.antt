@@ -1,5 +1,5 @@
 use Rattle.std.proofs.Common.{ap, ◌∙◌}
-use Rattle.rkt_http.specs.Origin.{segments_of}
+use Rattle.rkt_uri.specs.Origin.{segments_of}
 use Rattle.rkt_router.proofs.Decided.{uri_decided}
 use Rattle.rkt_router.proofs.matches.uri_matches.Goals as goal
 

@@ -1,5 +1,5 @@
 use Rattle.std.proofs.Common.{◌≡◌, ◌++◌, rules}
-use Rattle.rkt_http.specs.Origin.{spelling}
+use Rattle.rkt_uri.specs.Origin.{spelling}
 use Rattle.rkt_router.proofs.Mounted.{spells_both}
 use Rattle.rkt_router.proofs.route_uri.joined.Goals as goal
 

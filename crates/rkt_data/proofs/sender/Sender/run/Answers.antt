@@ -1,6 +1,6 @@
 use Rattle.std.proofs.Common.{◌≡◌, ◌∙◌, length, take, ap, arith}
 use Rattle.std.proofs.lemmas.List.{with_items_is}
-use Rattle.rkt_data.specs.Gathering.{items_of}
+use Rattle.rkt_source.specs.Buffer.{items_of}
 use Rattle.rkt_data.specs.Sending.{between}
 use Rattle.rkt_data.proofs.Sends.{SentOf-pumped, HasRoom-resumed, between-same}
 use Rattle.rkt_data.proofs.Taps.{ByGate-refl}

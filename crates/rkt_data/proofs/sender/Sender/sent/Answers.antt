@@ -1,5 +1,5 @@
 use Rattle.std.proofs.Common.{◌≡◌, ◌-◌, length, drop, arith, length-take, length-drop}
-use Rattle.rkt_data.specs.Gathering.{items_of}
+use Rattle.rkt_source.specs.Buffer.{items_of}
 use Rattle.rkt_data.specs.Sending.{between}
 use Rattle.rkt_data.proofs.Sends.{Sends-of}
 use Rattle.rkt_data.proofs.sender.Sender.sent.Goals as goal

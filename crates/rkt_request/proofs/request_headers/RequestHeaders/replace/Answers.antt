@@ -1,6 +1,6 @@
 use Rattle.std.proofs.Common.{refl, sym, ap, ◌∙◌, subst}
-use Rattle.rkt_http.specs.AcceptText.{SpellsAccept}
-use Rattle.rkt_http.specs.MediaText.{SpellsMedia}
+use Rattle.rkt_media.specs.AcceptText.{SpellsAccept}
+use Rattle.rkt_media.specs.MediaText.{SpellsMedia}
 use Rattle.rkt_request.specs.Seen.{ReadAs, first_value}
 use Rattle.rkt_request.proofs.FirstValues.{first_value-replaced, first_value-replaced_other, other_name}
 use Rattle.rkt_request.proofs.HeaderReads.{accept, accept_anew, all_stay, content_type, content_type_anew}

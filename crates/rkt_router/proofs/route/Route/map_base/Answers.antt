@@ -1,7 +1,7 @@
 use Rattle.std.proofs.Common.{◌≡◌, rules, refl, subst, List, ℕ, Err}
-use Rattle.rkt_http.specs.Grammar.{LeavesAt}
-use Rattle.rkt_http.specs.Origin.{IsOrigin}
-use Rattle.rkt_http.specs.declared.origin_place.Profile.TheVariants.{Request}
+use Rattle.rkt_grammar.specs.Grammar.{LeavesAt}
+use Rattle.rkt_uri.specs.Origin.{IsOrigin}
+use Rattle.rkt_uri.specs.declared.origin_place.Profile.TheVariants.{Request}
 use Rattle.rkt_router.specs.RouteUri.{IsRebased}
 use Rattle.rkt_router.proofs.Calls.{IfRefused-weaker, refused_again, returned_at}
 use Rattle.rkt_router.proofs.route.Route.map_base.Goals as goal

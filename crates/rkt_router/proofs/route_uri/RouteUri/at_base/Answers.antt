@@ -1,7 +1,7 @@
 use Rattle.std.proofs.Common.{◌∙◌, ap, subst}
 use Rattle.std.proofs.lemmas.Result.{IfOk-weaker}
-use Rattle.rkt_http.specs.Origin.{IsTarget, spelling}
-use Rattle.rkt_http.specs.declared.origin_place.Profile.TheVariants.{Route}
+use Rattle.rkt_uri.specs.Origin.{IsTarget, spelling}
+use Rattle.rkt_uri.specs.declared.origin_place.Profile.TheVariants.{Route}
 use Rattle.rkt_router.specs.RouteUri.{MountedUri, SpellsMounted, IsRebased}
 use Rattle.rkt_router.proofs.Mounted.{rebased}
 use Rattle.rkt_router.proofs.route_uri.RouteUri.at_base.Goals as goal

@@ -1,7 +1,7 @@
 use Rattle.std.proofs.Common.{codes}
-use Rattle.rkt_http.specs.Grammar.{LeavesAt}
-use Rattle.rkt_http.specs.Origin.{IsOrigin}
-use Rattle.rkt_http.specs.declared.origin_place.Profile.TheVariants.{Route}
+use Rattle.rkt_grammar.specs.Grammar.{LeavesAt}
+use Rattle.rkt_uri.specs.Origin.{IsOrigin}
+use Rattle.rkt_uri.specs.declared.origin_place.Profile.TheVariants.{Route}
 use Rattle.rkt_router.specs.RouteUri.{LeavesMountedAt}
 use Rattle.rkt_router.proofs.Calls.{IfRefused-weaker}
 use Rattle.rkt_router.proofs.Mounted.{leaves_below_root}

@@ -1,6 +1,6 @@
 use Rattle.std.proofs.Common.{rules}
 use Rattle.rkt_router.specs.RouteUri.{SpellsMounted}
-use Rattle.rkt_http.specs.declared.origin_place.Profile.TheVariants.{Route}
+use Rattle.rkt_uri.specs.declared.origin_place.Profile.TheVariants.{Route}
 use Rattle.rkt_router.proofs.Mounted.{mounted_alike}
 use Rattle.rkt_router.proofs.route_uri.RouteUri.try_new.Goals as goal
 

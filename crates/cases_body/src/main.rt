@@ -1,0 +1,81 @@
+//! The cases of bodies and of what they are made of. Each line of standard input says one, and is written again with ` -> `
+//! and its answer; beside this folder, `stdout` is the table of cases with the answers that are wanted, and `stdin` has its
+//! lines up to the arrow. Empty lines and those that begin with `#` are headings, and are written as they are.
+//!
+//! A line has an object and then steps, each behind ` | `; the answers of the steps stand behind one another. A source is
+//! one of these:
+//!
+//! - `"TEXT"`: in memory. `chunk=N`: at most so many bytes a read; `fails=N,N`: these of its reads fail, counted from 0;
+//!   `pends=N`: so many polls are Pending at first, a shutdown's too.
+//! - `cut SOURCE`, over one in memory: it is cut off by a trip.
+//! - `chain SOURCE + SOURCE`, over two in memory, the first of which a trip cuts off.
+//! - `pieces "TEXT" "TEXT" ..`: the items of a stream, joined; so many polls of it are Pending at first as `pends=N` says.
+//! - `sources "TEXT" "TEXT" ..`: the sources that a stream gives, joined; `chunk` and `fails` are each source's.
+//! - `one SOURCE`: a stream of one source in memory.
+//! - `nothing`: no stream.
+//!
+//! | Line | Answers |
+//! |---|---|
+//! | a source | of `read SIZE` into a buffer of that size: the bytes, or the error; of `shut`: `shut`; of each also `pending` |
+//! | `cut` and `chain` | besides, of `stage`: when the first saw the trip, when its grace was over, whether it is there, and how many of its polls are still to be Pending |
+//! | `cut` | besides, of `call`: what a closure answers that gives 7 |
+//! | `body SOURCE`, `local "TEXT"` | of `peek COUNT` the bytes shown, of `complete` whether these are all; of `open LIMIT` nothing; then of `read SIZE` the bytes, of `hint` how many are held; and at last of `bytes`, `text`, `send` or `send_precise` what each poll answers, and an error twice |
+//! | `chunks SIZE SOURCE` | the chunks of the source, until their end |
+//! | `join "TEXT" "TEXT" .. + "TEXT" \| COUNT` | so many items of the two streams, joined |
+//! | `capped WRITTEN COMPLETE \| VALUE NEW` | a copy of the value, and the value when the new one was written |
+//! | `mapped WRITTEN COMPLETE \| VALUE` | the value plus one, how many bytes were read, and the value alone |
+//! | `whole "TEXT"` | the length of a text that was read whole |
+//!
+//! `send` and `send_precise` take `chunk`, `fails` and `pends` for the sink, and show the bytes that it has at last. Bytes
+//! stand between quotes, and as numbers where they are no UTF-8. Behind `read SIZE` and `call` may stand a Gate, `@MOMENT`
+//! or `@MOMENT!WORD+GRACE+MERCY`. A last step `counts` adds how many reads the sources in memory had past their Pending
+//! ones, and how many bytes these gave. A state is polled 20 times at most. Any other line answers `? line`.
+#![tactic(auto)]
+
+mod answer;
+mod body;
+mod capped;
+mod chunks;
+mod error;
+mod gathered;
+mod made;
+mod objects;
+mod polled;
+mod sent;
+mod setting;
+mod shown;
+mod steps;
+mod words;
+
+use crate::answer::answer;
+use std::alloc::Global;
+use std::io;
+
+fn print_answer(rt: &impl Print, line: &str, text: &str) -> io::Result<()> {
+    println!(rt; "{line} -> {text}")
+}
+
+/// Empty lines and those that begin with `#` are headings, and are written as they are.
+fn is_heading(line: &str) -> bool {
+    line.is_empty() || line.starts_with('#')
+}
+
+/// Writes the line, and behind an arrow the answer where it is a case.
+fn print_line(rt: &impl Print, alloc: Global, line: &str) -> io::Result<()> {
+    if is_heading(line) {
+        return rt.println(line);
+    }
+    match answer(alloc, line) {
+        Ok(text) => print_answer(rt, line, text.as_str()),
+        Err(error) => print_answer(rt, line, error.text()),
+    }
+}
+
+fn main(rt: HostRuntime) -> io::Result<()> {
+    let alloc = rt.alloc();
+    for line in rt.lines(alloc) {
+        let line = line?;
+        print_line(&rt, alloc, line.as_str())?;
+    }
+    Ok(())
+}

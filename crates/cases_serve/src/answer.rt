@@ -1,0 +1,50 @@
+use crate::error::CaseError;
+use crate::exchange::{exchange, parted};
+use crate::launch::launch;
+use crate::pieces::send_case;
+use crate::polls::{clock, polls};
+use crate::setting::{Setting, set_header, set_routes};
+use crate::words::first_word;
+use std::alloc::Global;
+use std::sync::Wait;
+use std::thread::Threads;
+
+fn set(
+    alloc: Global,
+    setting: &mut Setting,
+    command: &str,
+    rest: &str,
+) -> Result<String, CaseError> {
+    match command {
+        "routes" => set_routes(alloc, setting, rest)?,
+        _ => set_header(alloc, setting, rest)?,
+    }
+    Ok(String::from_str(alloc, "set")?)
+}
+
+/// What is asked of the objects that a launch is handed.
+fn asked(alloc: Global, setting: &Setting, command: &str, rest: &str) -> Result<String, CaseError> {
+    match command {
+        "exchange" => exchange(alloc, setting, rest),
+        "parted" => parted(alloc, setting),
+        "polls" => polls(alloc, setting, rest),
+        "clock" => clock(alloc, rest),
+        _ => Err(CaseError::Line),
+    }
+}
+
+/// What a case answers.
+pub fn answer<R: Wait + Threads>(
+    rt: &R,
+    alloc: Global,
+    setting: &mut Setting,
+    line: &str,
+) -> Result<String, CaseError> {
+    let (command, rest) = first_word(line);
+    match command {
+        "routes" | "header" => set(alloc, setting, command, rest),
+        "launch" => launch(rt, alloc, setting, rest),
+        "send" => send_case(rt, alloc, setting, rest),
+        _ => asked(alloc, setting, command, rest),
+    }
+}

@@ -1,0 +1,111 @@
+//! One exchange.
+use crate::app::{Site, Stopped, rocket};
+use crate::error::CaseError;
+use crate::heads::head_of;
+use crate::setting::Setting;
+use crate::words::{first_word, number, push_item};
+use rkt_base::NoMemory;
+use rkt_cookie::{Cookie, CookieJar};
+use rkt_data::{Gate, MemorySource};
+use rkt_life::{EndedOf, Ignite, Rocket, Run, Tables};
+use rkt_request::{Head, Request};
+use rkt_response::Response;
+use rkt_turn::Shutdown;
+use std::alloc::{AllocError, Global};
+
+fn gate(moment: u64) -> Gate {
+    Gate {
+        moment,
+        tripped: None,
+        grace: 2,
+        mercy: 3,
+    }
+}
+
+fn push_cookie(alloc: Global, list: &mut String, cookie: &Cookie) -> Result<(), AllocError> {
+    let text = format!(in alloc; "{}={}", cookie.name(), cookie.value())?;
+    push_item(list, text.as_str())
+}
+
+/// The cookies that came.
+pub fn cookies(alloc: Global, jar: &CookieJar) -> Result<String, AllocError> {
+    let mut list = String::new(alloc);
+    for cookie in jar.iter() {
+        push_cookie(alloc, &mut list, cookie)?;
+    }
+    Ok(list)
+}
+
+/// The status and the content type of a response, and the size of its body.
+fn answered(alloc: Global, mut response: Response<MemorySource>) -> Result<String, AllocError> {
+    let size = response.body_mut().size().unwrap_or(0);
+    let media = response.headers().get_one("Content-Type").unwrap_or("-");
+    format!(in alloc; "{} {media}, {size} bytes", response.status().code)
+}
+
+/// What a run did.
+fn done(alloc: Global, run: &Run<Site>) -> Result<String, AllocError> {
+    let (calls, cached) = (run.calls.len(), run.cache.len());
+    let cookies = cookies(alloc, &run.jar)?;
+    format!(in alloc;
+        "{calls} calls, cookies [{cookies}], {cached} cached, at {}",
+        run.moment
+    )
+}
+
+fn shown(
+    alloc: Global,
+    run: &Run<Site>,
+    response: Response<MemorySource>,
+) -> Result<String, CaseError> {
+    let mut text = answered(alloc, response)?;
+    let done = done(alloc, run)?;
+    text.push_str("; ")?;
+    text.push_str(done.as_str())?;
+    Ok(text)
+}
+
+fn dispatched(
+    alloc: Global,
+    tables: &Tables<Site>,
+    head: &Head,
+    shutdown: Shutdown<Stopped>,
+    moment: u64,
+) -> Result<String, CaseError> {
+    let incoming = Request::from_incoming(alloc, head, &tables.config, &tables.managed)?;
+    match tables.dispatch(alloc, incoming, shutdown, gate(moment)) {
+        EndedOf::Finished { run, response, .. } => shown(alloc, &run, response),
+        EndedOf::Starved { .. } => Err(CaseError::NoMemory),
+    }
+}
+
+fn handle(rocket: &mut Rocket<Ignite, Site>) -> Result<Shutdown<Stopped>, NoMemory> {
+    rocket.shutdown()
+}
+
+fn exchanged(
+    alloc: Global,
+    rocket: &mut Rocket<Ignite, Site>,
+    head: &Head,
+    moment: u64,
+) -> Result<String, CaseError> {
+    let shutdown = handle(rocket)?;
+    dispatched(alloc, rocket.tables(), head, shutdown, moment)
+}
+
+/// The exchange of `MOMENT METHOD TARGET`.
+pub fn exchange(alloc: Global, setting: &Setting, text: &str) -> Result<String, CaseError> {
+    let (moment, asked) = first_word(text);
+    let moment = number(moment)?;
+    let head = head_of(alloc, setting, asked)?;
+    let mut rocket = rocket(alloc, setting.routes.as_slice())?;
+    exchanged(alloc, &mut rocket, &head, moment)
+}
+
+/// How many routes a rocket has that was taken apart and put together.
+pub fn parted(alloc: Global, setting: &Setting) -> Result<String, CaseError> {
+    let rocket = rocket(alloc, setting.routes.as_slice())?;
+    let (tables, handle) = rocket.into_parts();
+    let rocket: Rocket<Ignite, Site> = Rocket::from_parts(tables, handle);
+    Ok(rocket.tables().routes.len().to_string(alloc)?)
+}

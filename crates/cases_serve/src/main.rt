@@ -1,0 +1,72 @@
+//! The cases of exchanges and launches: each line of standard input says one, and standard output has it again with
+//! its answer. `stdout` is the table of cases with the answers that are wanted; `stdin` has its lines up to the arrow.
+//! An empty line and one that begins with `#` are headings. What is no line of these is answered with `? line`.
+//!
+//!     routes PATH=TEXT ..                  from here on the application has these routes, each of which says its text
+//!     header NAME: VALUE                   from here on every request has this header; without one, it has none
+//!     exchange MOMENT METHOD TARGET        one exchange at this moment: the status, the content type, the size of the
+//!                                          body, the calls, the cookies that came, the cached values and the moment
+//!     parted                               how many routes a rocket has that was taken apart and put together
+//!     launch WORKERS MOMENTS POLLS LINK | LINK ..
+//!                                          a launch: the clock tells these moments, these polls of the listener (from
+//!                                          0) are Pending, and each link asks METHOD TARGET. How many events there
+//!                                          are, each entry, and the moment of the close
+//!     polls POLLS COUNT LINK | LINK ..     what so many polls of this listener answer
+//!     clock MOMENTS COUNT                  what a listed clock tells at so many calls
+//!     send TURNS CHUNK READS TEXT          a response with the header above and a streamed body, which gives chunks
+//!                                          and fails at these reads (from 0), is sent: how that ends, and the pieces
+//!
+//! MOMENTS, POLLS and READS are numbers parted by commas, or `-` for none. In a value, `\n` is a line feed.
+#![tactic(auto)]
+
+mod answer;
+mod app;
+mod error;
+mod exchange;
+mod heads;
+mod launch;
+mod pieces;
+mod polls;
+mod setting;
+mod words;
+
+use crate::answer::answer;
+use crate::setting::Setting;
+use std::alloc::Global;
+use std::io;
+use std::sync::Wait;
+use std::thread::Threads;
+
+fn print_answer(rt: &impl Print, line: &str, text: &str) -> io::Result<()> {
+    println!(rt; "{line} -> {text}")
+}
+
+fn is_heading(line: &str) -> bool {
+    line.is_empty() || line.starts_with('#')
+}
+
+/// Writes the line, and behind an arrow the answer where it is a case.
+fn print_line<R: Print + Wait + Threads>(
+    rt: &R,
+    alloc: Global,
+    setting: &mut Setting,
+    line: &str,
+) -> io::Result<()> {
+    if is_heading(line) {
+        return rt.println(line);
+    }
+    match answer(rt, alloc, setting, line) {
+        Ok(text) => print_answer(rt, line, text.as_str()),
+        Err(error) => print_answer(rt, line, error.text()),
+    }
+}
+
+fn main(rt: HostRuntime) -> io::Result<()> {
+    let alloc = rt.alloc();
+    let mut setting = Setting::new(alloc);
+    for line in rt.lines(alloc) {
+        let line = line?;
+        print_line(&rt, alloc, &mut setting, line.as_str())?;
+    }
+    Ok(())
+}

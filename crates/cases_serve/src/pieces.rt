@@ -1,0 +1,123 @@
+//! Pieces, and how a response is sent.
+use crate::error::CaseError;
+use crate::heads::head_of;
+use crate::setting::Setting;
+use crate::words::{first_word, number, numbers, push_item};
+use rkt_base::NoMemory;
+use rkt_data::{Gate, MemorySource};
+use rkt_response::{Piece, Response};
+use rkt_serve::{End, MemoryLink, send};
+use std::alloc::{AllocError, Global};
+use std::sync::Wait;
+
+const GATE: Gate = Gate {
+    moment: 7,
+    tripped: None,
+    grace: 2,
+    mercy: 3,
+};
+
+fn piece_text(alloc: Global, piece: &Piece) -> Result<String, AllocError> {
+    match piece {
+        Piece::Head { status, .. } => format!(in alloc; "head {status}"),
+        Piece::Chunk(bytes) => format!(in alloc; "chunk {}", bytes.len()),
+        Piece::End => String::from_str(alloc, "end"),
+    }
+}
+
+fn push_piece(alloc: Global, list: &mut String, piece: &Piece) -> Result<(), AllocError> {
+    let text = piece_text(alloc, piece)?;
+    push_item(list, text.as_str())
+}
+
+/// The pieces that a link holds.
+pub fn held(alloc: Global, pieces: &[Piece]) -> Result<String, AllocError> {
+    let mut list = String::new(alloc);
+    for piece in pieces {
+        push_piece(alloc, &mut list, piece)?;
+    }
+    Ok(list)
+}
+
+/// How an exchange ended, and the pieces that its link holds.
+pub fn ended(alloc: Global, end: End, link: &MemoryLink) -> Result<String, AllocError> {
+    let held = held(alloc, link.held())?;
+    format!(in alloc; "{end:?} [{held}]")
+}
+
+fn source(
+    alloc: Global,
+    chunk: u64,
+    reads: Vec<u64>,
+    text: &str,
+) -> Result<MemorySource, NoMemory> {
+    let bytes = text.as_bytes().to_vec(alloc)?;
+    Ok(MemorySource::new(bytes, chunk as usize, reads))
+}
+
+fn response(
+    alloc: Global,
+    setting: &Setting,
+    source: MemorySource,
+) -> Result<Response<MemorySource>, NoMemory> {
+    let mut response = Response::new(alloc);
+    if let Some(header) = &setting.header {
+        response.set_raw_header(header.left.as_str(), header.right.as_str())?;
+    }
+    response.set_streamed_body(source);
+    Ok(response)
+}
+
+fn sent<R: Wait>(
+    rt: &R,
+    alloc: Global,
+    link: &mut MemoryLink,
+    response: Response<MemorySource>,
+    turns: u32,
+) -> Result<End, NoMemory> {
+    let (_response, ended) = send(rt, alloc, link, response, turns, GATE);
+    ended
+}
+
+fn send_body<R: Wait>(
+    rt: &R,
+    alloc: Global,
+    setting: &Setting,
+    turns: u32,
+    source: MemorySource,
+) -> Result<String, CaseError> {
+    let head = head_of(alloc, setting, "GET /")?;
+    let mut link = MemoryLink::new(alloc, head);
+    let response = response(alloc, setting, source)?;
+    let end = sent(rt, alloc, &mut link, response, turns)?;
+    Ok(ended(alloc, end, &link)?)
+}
+
+fn turns_of(text: &str) -> Result<u32, CaseError> {
+    match text.parse::<u32>() {
+        Ok(turns) => Ok(turns),
+        Err(_) => Err(CaseError::Line),
+    }
+}
+
+/// The body of `CHUNK READS TEXT`.
+fn source_of(alloc: Global, text: &str) -> Result<MemorySource, CaseError> {
+    let (chunk, rest) = first_word(text);
+    let (reads, text) = first_word(rest);
+    let chunk = number(chunk)?;
+    let reads = numbers(alloc, reads)?;
+    Ok(source(alloc, chunk, reads, text)?)
+}
+
+/// The response of `TURNS CHUNK READS TEXT`, sent.
+pub fn send_case<R: Wait>(
+    rt: &R,
+    alloc: Global,
+    setting: &Setting,
+    text: &str,
+) -> Result<String, CaseError> {
+    let (turns, rest) = first_word(text);
+    let turns = turns_of(turns)?;
+    let source = source_of(alloc, rest)?;
+    send_body(rt, alloc, setting, turns, source)
+}

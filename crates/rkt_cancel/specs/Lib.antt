@@ -1,0 +1,3 @@
+pub use Rattle.rkt_source.specs.Source
+pub mod Cancel
+pub mod CancelLaws

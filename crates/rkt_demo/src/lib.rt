@@ -1,0 +1,14 @@
+//! The program's work: a script of requests is read, served by the sample application, and printed.
+#![tactic(auto)]
+
+mod output;
+mod program;
+mod sample;
+mod script;
+mod stream;
+mod words;
+
+pub use program::run;
+pub use sample::{Page, Sample, Stopped};
+pub use script::SCRIPT_LIMIT;
+pub use words::USAGE;

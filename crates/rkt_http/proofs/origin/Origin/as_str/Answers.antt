@@ -1,7 +1,0 @@
-use Rattle.std.proofs.Common.{◌∙◌, ap}
-use Rattle.rkt_http.specs.Origin.{spelling}
-use Rattle.rkt_http.proofs.OriginLemmas.{spelled_back}
-use Rattle.rkt_http.proofs.origin.Origin.as_str.Goals as goal
-
-pub returns : goal.returns
-returns c = c.as_str.ensures ∙ spelled_back c.self.inside.text ∙ ap spelling c.self.view_is

@@ -1,8 +1,0 @@
-use Rattle.std.proofs.Common.{◌≡◌, string_bytes}
-use Rattle.rkt_http.specs.Origin.{led}
-use Rattle.rkt_http.proofs.Pieces.{kept_by}
-use Rattle.rkt_http.proofs.origin.led_pieces.Given as goal
-
--- the pieces so far, each behind a separator
-abbrev pub invariant-loop-piece : goal.invariant-loop-piece
-invariant-loop-piece l = string_bytes l.led ≡ led l.separator (kept_by (λ piece. piece) l.yielded)

@@ -1,7 +1,0 @@
-use Rattle.std.proofs.Common.{◌≡◌}
-use Rattle.rkt_http.specs.Origin.{decoded}
-use Rattle.rkt_http.proofs.Pieces.{kept_by}
-use Rattle.rkt_http.proofs.origin.read_segments.Given as goal
-
-abbrev pub invariant-loop-piece : goal.invariant-loop-piece
-invariant-loop-piece l = l.segments ≡ kept_by decoded l.yielded

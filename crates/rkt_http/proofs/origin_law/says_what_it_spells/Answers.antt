@@ -1,5 +1,0 @@
-use Rattle.rkt_http.proofs.OriginLemmas.{target_said}
-use Rattle.rkt_http.proofs.origin_law.says_what_it_spells.Goals as goal
-
-pub returns : goal.returns
-returns c = target_said

@@ -1,0 +1,12 @@
+pub mod Accept
+pub mod AcceptPlaces
+pub mod AcceptRests
+pub mod AcceptText
+pub mod ByteClass
+pub mod Media
+pub mod MediaEquality
+pub mod MediaPlaces
+pub mod MediaRests
+pub mod MediaText
+pub mod Ranges
+pub mod Runs

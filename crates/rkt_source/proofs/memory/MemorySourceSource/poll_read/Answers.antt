@@ -1,0 +1,8 @@
+use Rattle.rkt_source.proofs.MemoryLemmas.{source_keeps, source_answers}
+use Rattle.rkt_source.proofs.memory.MemorySourceSource.poll_read.Goals as goal
+
+pub returns-clause-kept : goal.returns-clause-kept
+returns-clause-kept c = source_keeps _ _ _ _ _ _ c.read.ensures.later c.read.ensures.reads
+
+pub returns-clause-answer : goal.returns-clause-answer
+returns-clause-answer c = source_answers _ _ _ _ _ c.read.ensures.within c.read.ensures.reads

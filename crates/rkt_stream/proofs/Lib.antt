@@ -1,0 +1,4 @@
+pub mod Chains
+pub mod Flats
+pub mod Flows
+pub mod Joinings

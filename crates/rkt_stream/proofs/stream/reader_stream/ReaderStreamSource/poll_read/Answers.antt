@@ -1,0 +1,20 @@
+use Rattle.std.proofs.Common.{le_trans, rules}
+use Rattle.rkt_stream.proofs.Flats.{ReadsFlat-refl, split_more}
+use Rattle.rkt_stream.proofs.stream.reader_stream.ReaderStreamSource.poll_read.Goals as goal
+
+pub returns-then-is_empty-clause-polled : goal.returns-then-is_empty-clause-polled
+returns-then-is_empty-clause-polled g c = ReadsFlat-refl g.S.Item.Source.meaning g.S.Item.Source.polled g.S.Stream.may_give c.args.gate c.args.self.now
+
+pub invariant_of-self-in-Ready-Ok : goal.invariant_of-self-in-Ready-Ok
+invariant_of-self-in-Ready-Ok g c =
+    let a = rw c.in-Ready-Ok.field-0-is at c.in-Ready-Ok.ensures.answer in
+    let before = c.self.invariant in
+    rw c.add.ensures record {
+      bytes = λ w e.
+          let b = before.bytes w e in
+          let n = a.1 b.1 b.2 in
+          split_more w b.0 b.1 c.self.inside.taken c.in-Ready-Ok.n _ b.3 b.4 n.1 n.2;
+      waits = le_trans c.in-Ready-Ok.ensures.goes.waits before.waits;
+      fresh = c.in-Ready-Ok.ensures.goes.fresh;
+      warned = search rules;
+    }

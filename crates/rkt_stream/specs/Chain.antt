@@ -1,0 +1,56 @@
+-- What a source means that gives one source's bytes, and then another's.
+use Rattle.std.specs.Option.{ForSome}
+use Rattle.std.specs.Prelude.{◌≡◌, ℕ, ◌+◌, ◌-◌, ◌≤◌, ◌⊎◌, ◌&&◌, ◌||◌, ◌++◌, Bool, true, false, IsTrue, List, length, drop, Option, None, Some}
+use Rattle.rkt_base.specs.declared.poll.Poll.{Poll}
+use Rattle.rkt_base.specs.declared.poll.Poll.TheVariants.{Ready, Pending}
+use Rattle.rkt_source.specs.Source.{Meaning, LeftOrRead}
+use Rattle.rkt_source.specs.declared.source.Gate.{Gate}
+
+pub record Chained (T U : Type 0) : Type 0 where
+  pub first : T
+  pub second : U
+  -- how many bytes the second had given before it was chained
+  pub skipped : ℕ
+  -- the first has ended
+  pub over : Bool
+
+-- the first's bytes, and then those that the second had still to give; told where both tell
+abbrev pub chained_whole : Option (List ℕ) → Option (List ℕ) → ℕ → Option (List ℕ)
+chained_whole None ys skipped = None
+chained_whole (Some xs) None skipped = None
+chained_whole (Some xs) (Some ys) skipped = Some (xs ++ drop skipped ys)
+
+-- counts are sums; it never fails where neither does, was warned where one was, and is shut where the one is that it reads
+abbrev pub chained_meaning : Bool → ℕ → Meaning → Meaning → Meaning
+chained_meaning over skipped m n = record {
+  whole = chained_whole m.whole n.whole skipped;
+  taken = m.taken + (n.taken - skipped);
+  faults = m.faults + n.faults;
+  never_faults = m.never_faults && n.never_faults;
+  warned = m.warned || n.warned;
+  shut = m.shut || (over && n.shut);
+  pended = m.pended + n.pended;
+  pendings = m.pendings + n.pendings;
+}
+
+-- until the first has ended, nothing is taken from the second
+abbrev pub InTurn : Bool → ℕ → Meaning → Meaning → Type 0
+InTurn false skipped m n = n.taken ≡ skipped
+InTurn true skipped m n = (skipped ≤ n.taken) × ForSome m.whole (λ w. m.taken ≡ length w)
+
+-- one read under this Gate: the second is left alone until the first is over, and the first from then on; that it is over
+-- comes of a read of it alone
+pub record ReadsChained {T U : Type 0} (first : T → Gate → T → Type 0) (second : U → Gate → U → Type 0) (gate : Gate) (a b : Chained T U) : Type 0 where
+  pub first_read : LeftOrRead first gate a.first b.first
+  pub second_read : LeftOrRead second gate a.second b.second
+  pub waiting : b.over ≡ false → b.second ≡ a.second
+  pub done : IsTrue a.over → (b.first ≡ a.first) × IsTrue b.over
+  pub turned : IsTrue b.over → IsTrue a.over ⊎ first a.first gate b.first
+
+abbrev pub SamePlace : {T U : Type 0} → Chained T U → Chained T U → Type 0
+SamePlace a b = (b.skipped ≡ a.skipped) × (b.over ≡ a.over)
+
+-- the first is shut down, and then the second
+abbrev pub ShutsChained : {T U : Type 0} → (T → Poll (Unit {0}) → T → Type 0) → (U → Poll (Unit {0}) → U → Type 0) → Chained T U → Poll (Unit {0}) → Chained T U → Type 0
+ShutsChained first second a Pending b = SamePlace a b × (((b.second ≡ a.second) × first a.first Pending b.first) ⊎ (first a.first (Ready tt) b.first × second a.second Pending b.second))
+ShutsChained first second a (Ready answer) b = SamePlace a b × first a.first (Ready tt) b.first × second a.second (Ready tt) b.second

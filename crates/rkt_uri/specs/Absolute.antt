@@ -1,0 +1,79 @@
+-- Absolute URIs (RFC 3986, 3.1, 3.2 and 4.3), as this project takes them: a scheme, and then an authority with maybe an origin behind it, or a path.
+use Rattle.std.specs.Prelude.{ℕ, ◌⊎◌, List, [], ◌∷◌, Bool, ◌==◌, ◌||◌, ◌&&◌, nat_le, codes, Option, Some, None, if◌then◌else◌}
+use Rattle.std.specs.List.{list_any, before_first, after_first}
+use Rattle.std.specs.Option.{option_map, option_and_then}
+use Rattle.rkt_grammar.specs.Grammar.{OnlyOf, IsFrontOf, has_byte}
+use Rattle.rkt_uri.specs.Words.{Then, Many, One}
+use Rattle.rkt_grammar.specs.Grammar.{is_alphanumeric}
+use Rattle.rkt_uri.specs.Origin.{is_path_byte, is_query_byte, is_question, is_slash, IsOrigin}
+use Rattle.rkt_uri.specs.Host.{is_name_byte, MaybeHost, End, domain_in, port_behind, is_colon}
+use Rattle.rkt_uri.specs.declared.origin_place.Profile.TheVariants.{Request}
+
+abbrev pub is_letter : ℕ → Bool
+is_letter b = (nat_le 65 b && nat_le b 90) || (nat_le 97 b && nat_le b 122)
+
+-- a byte of a scheme, behind its first letter
+abbrev pub is_scheme_byte : ℕ → Bool
+is_scheme_byte b = is_alphanumeric b || list_any (λ c. c == b) (codes "+-.")
+
+-- a byte of the user part: one of a name, or a colon
+abbrev pub is_user_byte : ℕ → Bool
+is_user_byte b = is_name_byte b || b == 58
+
+-- the rest of a user part, its at sign, and then the rest
+abbrev pub UserThen : (List ℕ → Type 0) → List ℕ → Type 0
+UserThen Rest text = Many is_user_byte (Then 64 Rest) text
+
+-- nothing, an origin, or a query alone
+abbrev pub MaybeOrigin : List ℕ → Type 0
+MaybeOrigin text = End text ⊎ (IsOrigin Request text ⊎ Then 63 (OnlyOf (is_query_byte Request)) text)
+
+-- behind two slashes: maybe a user part, a host that may be empty, maybe a port, and maybe an origin
+abbrev pub Located : List ℕ → Type 0
+Located text = MaybeHost MaybeOrigin text ⊎ UserThen (MaybeHost MaybeOrigin) text
+
+-- a path of its own, which does not begin with two slashes
+abbrev pub IsLonePath : List ℕ → Type 0
+IsLonePath text = OnlyOf (is_path_byte Request) text × ¬ IsFrontOf (codes "//") text
+
+-- behind the colon of a scheme
+abbrev pub IsHierarchy : List ℕ → Type 0
+IsHierarchy text = Then 47 (Then 47 Located) text ⊎ IsLonePath text
+
+-- the rest of a scheme, its colon, and what is behind it
+abbrev pub SchemeRest : List ℕ → Type 0
+SchemeRest text = Many is_scheme_byte (Then 58 IsHierarchy) text
+
+-- the text is an absolute URI
+abbrev pub IsAbsolute : List ℕ → Type 0
+IsAbsolute text = One is_letter SchemeRest text
+
+-- the scheme that a text says, up to the first colon
+abbrev pub scheme_of : List ℕ → List ℕ
+scheme_of text = before_first is_colon text
+
+-- what stands behind this byte at the front, if it stands there
+abbrev pub behind_byte : ℕ → List ℕ → Option (List ℕ)
+behind_byte b [] = None
+behind_byte b (c ∷ cs) = if c == b then Some cs else None
+
+abbrev pub is_at : ℕ → Bool
+is_at b = b == 64
+
+-- what stands behind the first at sign, or all where there is none
+abbrev pub without_user : List ℕ → List ℕ
+without_user text = if has_byte is_at text then after_first is_at text else text
+
+-- the host and the port of what stands behind two slashes: they go as far as the next slash or question mark
+abbrev pub host_and_port : List ℕ → List ℕ
+host_and_port text = without_user (before_first is_question (before_first is_slash text))
+
+-- the host and the port that a text says, if two slashes stand behind its scheme
+abbrev pub authority_in : List ℕ → Option (List ℕ)
+authority_in text = option_map host_and_port (option_and_then (behind_byte 47) (behind_byte 47 (after_first is_colon text)))
+
+abbrev pub host_of : List ℕ → Option (List ℕ)
+host_of text = option_map domain_in (authority_in text)
+
+abbrev pub port_of : List ℕ → Option ℕ
+port_of text = option_and_then port_behind (authority_in text)

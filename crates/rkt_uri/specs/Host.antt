@@ -1,0 +1,86 @@
+-- Hosts with ports (RFC 3986, 3.2.2 and 3.2.3), as this project takes them: a name, or an address between brackets.
+use Rattle.std.specs.Prelude.{ℕ, ◌≡◌, ◌+◌, ◌-◌, ◌*◌, ◌⊎◌, List, [], ◌∷◌, ◌++◌, Bool, true, ◌==◌, ◌||◌, ◌&&◌, nat_le, codes, Option, Some, None, if◌then◌else◌}
+use Rattle.std.specs.List.{list_any, before_first, after_first}
+use Rattle.rkt_grammar.specs.Grammar.{has_byte}
+use Rattle.rkt_uri.specs.Words.{Then, Many, Many1}
+use Rattle.rkt_grammar.specs.Grammar.{is_alphanumeric}
+
+abbrev pub is_digit : ℕ → Bool
+is_digit b = nat_le 48 b && nat_le b 57
+
+-- a byte of a host's name
+abbrev pub is_name_byte : ℕ → Bool
+is_name_byte b = is_alphanumeric b || list_any (λ c. c == b) (codes "-._~%!$&'()*+,;=")
+
+-- a byte of an address between brackets: a hexadecimal digit, a colon or a dot
+abbrev pub is_address_byte : ℕ → Bool
+is_address_byte b = is_digit b || (nat_le 65 b && nat_le b 70) || (nat_le 97 b && nat_le b 102) || b == 58 || b == 46
+
+-- a number with one more digit
+abbrev pub with_digit : ℕ → ℕ → ℕ
+with_digit n digit = 10 * n + (digit - 48)
+
+-- the digit goes on with the number, and it stays a port
+abbrev pub is_port_digit : ℕ → ℕ → Bool
+is_port_digit n b = is_digit b && nat_le (with_digit n b) 65535
+
+-- more digits of a port that so far is n, and then the rest
+abbrev pub MoreDigits : ℕ → (List ℕ → Type 0) → List ℕ → Type 0
+MoreDigits n Rest [] = Rest []
+MoreDigits n Rest (b ∷ bs) = Rest (b ∷ bs) ⊎ ((is_port_digit n b ≡ true) × MoreDigits (with_digit n b) Rest bs)
+
+-- the digits of a port, one at least, and then the rest
+abbrev pub Digits : (List ℕ → Type 0) → List ℕ → Type 0
+Digits Rest [] = ⊥
+Digits Rest (b ∷ bs) = (is_port_digit 0 b ≡ true) × MoreDigits (with_digit 0 b) Rest bs
+
+-- maybe a port behind a colon, and then the rest
+abbrev pub MaybePort : (List ℕ → Type 0) → List ℕ → Type 0
+MaybePort Rest text = Rest text ⊎ Then 58 (Digits Rest) text
+
+-- behind the opening bracket of an address
+abbrev pub Address : (List ℕ → Type 0) → List ℕ → Type 0
+Address Rest text = Many is_address_byte (Then 93 Rest) text
+
+abbrev pub End : List ℕ → Type 0
+End text = text ≡ []
+
+-- a host that may be empty, and maybe a port, and then the rest
+abbrev pub MaybeHost : (List ℕ → Type 0) → List ℕ → Type 0
+MaybeHost Rest text = Many is_name_byte (MaybePort Rest) text ⊎ Then 91 (Address (MaybePort Rest)) text
+
+-- the text is a host that is not empty, and maybe a port
+abbrev pub IsHost : List ℕ → Type 0
+IsHost text = Many1 is_name_byte (MaybePort End) text ⊎ Then 91 (Address (MaybePort End)) text
+
+abbrev pub is_colon : ℕ → Bool
+is_colon b = b == 58
+
+abbrev pub is_close : ℕ → Bool
+is_close b = b == 93
+
+-- the number that these digits go on with, if it stays a port
+abbrev pub port_on : ℕ → List ℕ → Option ℕ
+port_on n [] = Some n
+port_on n (b ∷ bs) = if is_port_digit n b then port_on (with_digit n b) bs else None
+
+-- the port behind the first colon of a text, if there is one
+abbrev pub port_in : List ℕ → Option ℕ
+port_in text = if has_byte is_colon text then port_on 0 (after_first is_colon text) else None
+
+-- a host's name or address, and its port
+pub record Authority : Type 0 where
+  pub domain : List ℕ
+  pub port : Option ℕ
+
+-- an address goes as far as its closing bracket, and a name as far as the first colon
+abbrev pub domain_in : List ℕ → List ℕ
+domain_in text = if has_byte is_close text then before_first is_close text ++ 93 ∷ [] else before_first is_colon text
+
+-- the port is behind the address or the name
+abbrev pub port_behind : List ℕ → Option ℕ
+port_behind text = if has_byte is_close text then port_in (after_first is_close text) else port_in text
+
+-- what a text says
+abbrev pub authority_of : List ℕ → Authority
+authority_of text = record { domain = domain_in text; port = port_behind text }

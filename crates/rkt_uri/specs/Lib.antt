@@ -1,0 +1,10 @@
+pub mod Absolute
+pub mod AbsolutePlaces
+pub mod Host
+pub mod HostPlaces
+pub mod Origin
+pub mod OriginPlaces
+pub mod PathBuf
+pub mod Reference
+pub mod ReferencePlaces
+pub mod Words

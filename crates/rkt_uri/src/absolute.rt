@@ -1,0 +1,117 @@
+ghost use Rattle.std.specs.Prelude.{◌≡◌, IfOk};
+ghost use Rattle.std.specs.List.{after_first};
+ghost use Rattle.std.specs.Option.{option_copied};
+ghost use Rattle.rkt_base.specs.Want.{IfRefused, GivesUnlessNoMemory};
+ghost use Rattle.rkt_grammar.specs.Grammar.{LeavesAt};
+ghost use Rattle.rkt_uri.specs.Absolute.{IsAbsolute, scheme_of, host_of, port_of, host_and_port, authority_in, behind_byte};
+ghost use Rattle.rkt_uri.specs.Host.{is_colon};
+
+use crate::absolute_place::AbsolutePlace;
+use crate::host::{before_colon, domain_of_text, port_of_authority};
+use crate::origin::{InvalidUri, path_of_text};
+use crate::origin_iter::before_slash;
+use rkt_base::{NoMemory, Text, Want};
+use rkt_grammar::first_fault;
+use std::alloc::Global;
+use std::marker::Model;
+
+/// An absolute URI: a scheme, and then an authority with maybe an origin, or a path (RFC 3986, 4.3).
+#[derive(Debug, Drop)]
+pub struct Absolute {
+    text: Text,
+}
+
+impl Model for Absolute {
+    ghost use Rattle.std.specs.Prelude.{List, ℕ};
+
+    ghost Value = { List ℕ };
+
+    ghost view = { λ a. a.text };
+}
+
+/// What stands behind the scheme's colon.
+fn behind_colon(text: &str) -> &str
+    ensures { result.now ≡ after_first is_colon text.now }
+{
+    match text.split_once(':') {
+        Some((_, rest)) => rest,
+        None => "",
+    }
+}
+
+fn behind_slash(text: &str) -> Option<&str>
+    ensures { option_copied result ≡ behind_byte 47 text.now }
+{
+    text.strip_prefix('/')
+}
+
+/// The host and the port of what stands behind two slashes.
+fn host_and_port_of(text: &str) -> &str
+    ensures { result.now ≡ host_and_port text.now }
+{
+    let authority = path_of_text(before_slash(text));
+    match authority.split_once('@') {
+        Some((_, rest)) => rest,
+        None => authority,
+    }
+}
+
+/// The host and the port of a text, if two slashes stand behind its scheme.
+fn authority_of_text(text: &str) -> Option<&str>
+    ensures { option_copied result ≡ authority_in text.now }
+{
+    let first = behind_slash(behind_colon(text))?;
+    Some(host_and_port_of(behind_slash(first)?))
+}
+
+impl Absolute {
+    pub fn parse(alloc: Global, text: &str) -> Result<Absolute, Want<InvalidUri>>
+        // What is accepted is an absolute URI, and is kept as it is.
+        ensures accepted { IfOk result (λ a. IsAbsolute text.now × (a ≡ text.now)) }
+        // What is an absolute URI is accepted, unless memory runs out.
+        ensures complete { IsAbsolute text.now → GivesUnlessNoMemory result text.now }
+        // A refusal names the place where the text leaves the grammar.
+        ensures refused { IfRefused result (λ e. LeavesAt IsAbsolute text.now e.at) }
+    {
+        match first_fault(AbsolutePlace::Start, text) {
+            Some(at) => Err(Want::Refused(InvalidUri { at })),
+            None => Ok(Absolute {
+                text: Text::new(alloc, text)?,
+            }),
+        }
+    }
+
+    pub fn as_str(&self) -> &str
+        ensures { result.now ≡ self.now }
+    {
+        self.text.as_str()
+    }
+
+    pub fn scheme(&self) -> &str
+        ensures { result.now ≡ scheme_of self.now }
+    {
+        before_colon(self.text.as_str())
+    }
+
+    /// The name, or the address with its brackets, if there is an authority. It may be empty.
+    pub fn host(&self) -> Option<&str>
+        ensures { option_copied result ≡ host_of self.now }
+    {
+        Some(domain_of_text(authority_of_text(self.text.as_str())?))
+    }
+
+    pub fn port(&self) -> Option<u16>
+        ensures { result ≡ port_of self.now }
+    {
+        port_of_authority(authority_of_text(self.text.as_str())?)
+    }
+
+    /// The same, in a text of its own.
+    pub fn try_clone(&self, alloc: Global) -> Result<Absolute, NoMemory>
+        ensures { IfOk result (λ a. a ≡ self.now) }
+    {
+        Ok(Absolute {
+            text: self.text.try_clone(alloc)?,
+        })
+    }
+}
