@@ -6,10 +6,10 @@ use crate::error::CaseError;
 use crate::made::{made_peer, made_pieces, made_sources};
 use crate::objects::{Counts, Listed};
 use crate::shown::push_count;
-use crate::steps::{Stepped, take_steps};
+use crate::steps::{take_chain_steps, take_cut_steps, take_steps};
 use crate::words::{both_sides, first_step, first_word, quoted, size};
 use rkt_data::stream::ReaderStream;
-use rkt_data::{CancellableIo, Chain, Data, MemorySource, StreamReader};
+use rkt_data::{CancellableIo, Chain, Data, MemorySource, Source, StreamReader};
 use std::alloc::Global;
 use std::cell::Cell;
 
@@ -29,7 +29,7 @@ struct Case<'a> {
     steps: &'a str,
 }
 
-fn use_source<S: Stepped>(
+fn use_source<S: Source>(
     alloc: Global,
     log: &mut String,
     source: S,
@@ -61,7 +61,11 @@ fn over_cut(
     case: Case<'_>,
 ) -> Result<(), CaseError> {
     let peer = made_peer(alloc, counts, case.words)?;
-    use_source(alloc, log, CancellableIo::new(peer), case)
+    let object = CancellableIo::new(peer);
+    match case.usage {
+        Use::Steps => take_cut_steps(alloc, log, object, case.steps),
+        _ => use_source(alloc, log, object, case),
+    }
 }
 
 /// `one PEER`
@@ -84,8 +88,12 @@ fn over_chain(
 ) -> Result<(), CaseError> {
     let (first, second) = both_sides(case.words)?;
     let second = made_peer(alloc, counts, second)?;
-    let first = CancellableIo::new(made_peer(alloc, counts, first)?);
-    use_source(alloc, log, Chain::new(first, second), case)
+    let first = made_peer(alloc, counts, first)?;
+    let chain = Chain::new(CancellableIo::new(first), second);
+    match case.usage {
+        Use::Steps => take_chain_steps(alloc, log, chain, case.steps),
+        _ => use_source(alloc, log, chain, case),
+    }
 }
 
 /// `pieces "TEXT" "TEXT" .. NAME=VALUE ..`

@@ -2,6 +2,7 @@
 use crate::error::CaseError;
 use crate::gathered::{gather_bytes, gather_text};
 use crate::sent::{send, send_precise};
+use crate::setting::parse_setting;
 use crate::shown::{push, push_bytes, push_count, push_flag, push_read};
 use crate::words::{first_step, first_word, last_step, number, open_gate, size};
 use rkt_base::Poll;
@@ -98,8 +99,8 @@ fn finish<S: Source>(
     match word {
         "bytes" => gather_bytes(alloc, log, stream),
         "text" => gather_text(alloc, log, stream),
-        "send" => send(alloc, log, stream, rest),
-        "send_precise" => send_precise(alloc, log, stream, rest),
+        "send" => send(alloc, log, stream, parse_setting(rest)?),
+        "send_precise" => send_precise(alloc, log, stream, parse_setting(rest)?),
         _ => stream_step(alloc, log, &mut stream, step),
     }
 }

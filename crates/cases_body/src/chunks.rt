@@ -3,7 +3,7 @@ use crate::error::CaseError;
 use crate::made::made_pieces;
 use crate::objects::Listed;
 use crate::polled::POLLS;
-use crate::shown::{push, push_bytes};
+use crate::shown::{push, push_bytes, push_error};
 use crate::words::{both_sides, open_gate, quoted};
 use rkt_base::Poll;
 use rkt_data::{AsyncReadExt, DataError, Join, One, PollExt, Source, Stream, StreamExt, ext};
@@ -13,31 +13,22 @@ fn chunked<R: AsyncReadExt>(source: R, cap: usize) -> ext::ReaderStream<R> {
     source.into_bytes_stream(cap)
 }
 
-/// The name of an error that a chunk may have.
-fn named(error: DataError) -> &'static str {
-    match error {
-        DataError::SourceFault => "SourceFault",
-        DataError::Gone => "Gone",
-        DataError::TimedOut => "TimedOut",
-        _ => "another error",
-    }
+/// Why a chunk was not read.
+#[derive(Clone, Copy, Drop)]
+struct Unread(DataError);
+
+fn with_unread<T: Drop, P: PollExt<T, DataError>>(answer: P) -> Poll<Option<Result<T, Unread>>> {
+    answer.map_err_ext(|error| Unread(error))
 }
 
-fn with_names<T: Drop, P: PollExt<T, DataError>>(
-    answer: P,
-) -> Poll<Option<Result<T, &'static str>>> {
-    answer.map_err_ext(|error| named(error))
-}
-
-/// Adds a chunk, and answers whether it was the end.
 fn push_chunk(
     alloc: Global,
     log: &mut String,
-    answer: &Poll<Option<Result<Vec<u8>, &'static str>>>,
+    answer: &Poll<Option<Result<Vec<u8>, Unread>>>,
 ) -> Result<(), CaseError> {
     match answer {
         Poll::Ready(Some(Ok(bytes))) => push_bytes(alloc, log, bytes.as_slice()),
-        Poll::Ready(Some(Err(name))) => push(log, name),
+        Poll::Ready(Some(Err(unread))) => push_error(alloc, log, unread.0),
         Poll::Ready(None) => push(log, "end"),
         Poll::Pending => push(log, "pending"),
     }
@@ -52,7 +43,7 @@ pub fn push_chunks<R: Source>(
 ) -> Result<(), CaseError> {
     let mut chunks = chunked(source, cap);
     for _ in 0..POLLS {
-        let answer = with_names(chunks.poll_next(alloc, open_gate(0)));
+        let answer = with_unread(chunks.poll_next(alloc, open_gate(0)));
         push_chunk(alloc, log, &answer)?;
         if matches!(answer, Poll::Ready(None)) {
             return Ok(());

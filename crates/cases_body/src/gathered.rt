@@ -2,7 +2,7 @@
 ghost use Rattle.std.specs.Prelude.{◌≡◌, None, false};
 
 use crate::error::CaseError;
-use crate::polled::{Polled, poll_on};
+use crate::polled::{Polled, over, poll_on, waits};
 use crate::shown::{push, push_bytes, push_error, push_flag};
 use crate::words::open_gate;
 use rkt_base::Poll;
@@ -35,26 +35,48 @@ fn push_capped(alloc: Global, log: &mut String, bytes: &[u8], n: N) -> Result<()
     push_n(alloc, log, n)
 }
 
-fn push_gathered(
+fn push_capped_bytes(
     alloc: Global,
     log: &mut String,
-    answer: &Poll<Result<Capped<Vec<u8>>, DataError>>,
+    capped: Capped<Vec<u8>>,
 ) -> Result<(), CaseError> {
-    match answer {
-        Poll::Ready(Ok(capped)) => push_capped(alloc, log, capped.value.as_slice(), capped.n),
-        Poll::Ready(Err(error)) => push_error(alloc, log, *error),
+    push_capped(alloc, log, capped.value.as_slice(), capped.n)
+}
+
+fn push_capped_text(
+    alloc: Global,
+    log: &mut String,
+    capped: Capped<String>,
+) -> Result<(), CaseError> {
+    push_capped(alloc, log, capped.value.as_bytes(), capped.n)
+}
+
+/// Adds an error, and what the next poll has answered.
+fn push_failed(
+    alloc: Global,
+    log: &mut String,
+    error: DataError,
+    again: Poll<Result<Capped<Vec<u8>>, DataError>>,
+) -> Result<(), CaseError> {
+    push_error(alloc, log, error)?;
+    match again {
+        Poll::Ready(Ok(capped)) => push_capped_bytes(alloc, log, capped),
+        Poll::Ready(Err(error)) => push_error(alloc, log, error),
         Poll::Pending => push(log, "pending"),
     }
 }
 
-fn push_text(
+/// The same of a text.
+fn push_failed_text(
     alloc: Global,
     log: &mut String,
-    answer: &Poll<Result<Capped<String>, DataError>>,
+    error: DataError,
+    again: Poll<Result<Capped<String>, DataError>>,
 ) -> Result<(), CaseError> {
-    match answer {
-        Poll::Ready(Ok(capped)) => push_capped(alloc, log, capped.value.as_bytes(), capped.n),
-        Poll::Ready(Err(error)) => push_error(alloc, log, *error),
+    push_error(alloc, log, error)?;
+    match again {
+        Poll::Ready(Ok(capped)) => push_capped_text(alloc, log, capped),
+        Poll::Ready(Err(error)) => push_error(alloc, log, error),
         Poll::Pending => push(log, "pending"),
     }
 }
@@ -62,14 +84,12 @@ fn push_text(
 impl<S: Source> Polled for Bytes<S> {
     fn poll_once(self, alloc: Global, log: &mut String) -> Result<Option<Bytes<S>>, CaseError> {
         let Bytes { mut state } = self;
-        let answer = state.poll(alloc, open_gate(0));
-        push_gathered(alloc, log, &answer)?;
-        match answer {
-            Poll::Pending => Ok(Some(Bytes { state })),
-            Poll::Ready(Ok(_)) => Ok(None),
-            Poll::Ready(Err(_)) => {
-                push_gathered(alloc, log, &state.poll(alloc, open_gate(0)))?;
-                Ok(None)
+        match state.poll(alloc, open_gate(0)) {
+            Poll::Pending => waits(log, Bytes { state }),
+            Poll::Ready(Ok(capped)) => over(push_capped_bytes(alloc, log, capped)),
+            Poll::Ready(Err(error)) => {
+                let again = state.poll(alloc, open_gate(0));
+                over(push_failed(alloc, log, error, again))
             }
         }
     }
@@ -78,14 +98,12 @@ impl<S: Source> Polled for Bytes<S> {
 impl<S: Source> Polled for Text<S> {
     fn poll_once(self, alloc: Global, log: &mut String) -> Result<Option<Text<S>>, CaseError> {
         let Text { mut state } = self;
-        let answer = state.poll(alloc, open_gate(0));
-        push_text(alloc, log, &answer)?;
-        match answer {
-            Poll::Pending => Ok(Some(Text { state })),
-            Poll::Ready(Ok(_)) => Ok(None),
-            Poll::Ready(Err(_)) => {
-                push_text(alloc, log, &state.poll(alloc, open_gate(0)))?;
-                Ok(None)
+        match state.poll(alloc, open_gate(0)) {
+            Poll::Pending => waits(log, Text { state }),
+            Poll::Ready(Ok(capped)) => over(push_capped_text(alloc, log, capped)),
+            Poll::Ready(Err(error)) => {
+                let again = state.poll(alloc, open_gate(0));
+                over(push_failed_text(alloc, log, error, again))
             }
         }
     }

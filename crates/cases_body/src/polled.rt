@@ -1,5 +1,6 @@
 //! States that are polled until they answer a value or an error.
 use crate::error::CaseError;
+use crate::shown::push;
 use std::alloc::Global;
 
 /// How often a state is polled at most.
@@ -20,4 +21,16 @@ pub fn poll_on<P: Polled>(alloc: Global, log: &mut String, state: P) -> Result<(
         left = state.poll_once(alloc, log)?;
     }
     Ok(())
+}
+
+/// The state, which was Pending.
+pub fn waits<P: Drop>(log: &mut String, state: P) -> Result<Option<P>, CaseError> {
+    push(log, "pending")?;
+    Ok(Some(state))
+}
+
+/// No state, as there was another answer than Pending.
+pub fn over<P: Drop>(shown: Result<(), CaseError>) -> Result<Option<P>, CaseError> {
+    shown?;
+    Ok(None)
 }

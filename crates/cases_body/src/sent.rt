@@ -5,12 +5,12 @@ use crate::error::CaseError;
 use crate::gathered::push_n;
 use crate::made::made_sink;
 use crate::objects::Slow;
-use crate::polled::{Polled, poll_on};
-use crate::setting::parse_setting;
+use crate::polled::{Polled, over, poll_on, waits};
+use crate::setting::Setting;
 use crate::shown::{push, push_bytes, push_count, push_error};
 use crate::words::open_gate;
 use rkt_base::Poll;
-use rkt_data::{DataError, DataStream, N, Sink, Source, StreamPrecise, StreamTo};
+use rkt_data::{DataError, DataStream, MemorySink, N, Sink, Source, StreamPrecise, StreamTo};
 use std::alloc::Global;
 
 /// A body that is not sent yet.
@@ -27,26 +27,32 @@ struct Precise<S: Source, K: Sink> {
     ghost goes_on: { (state.done ≡ false) × (state.failed ≡ None) },
 }
 
-fn push_sent(
+/// Adds an error, and what the next poll has answered.
+fn push_failed(
     alloc: Global,
     log: &mut String,
-    answer: &Poll<Result<N, DataError>>,
+    error: DataError,
+    again: Poll<Result<N, DataError>>,
 ) -> Result<(), CaseError> {
-    match answer {
-        Poll::Ready(Ok(n)) => push_n(alloc, log, *n),
-        Poll::Ready(Err(error)) => push_error(alloc, log, *error),
+    push_error(alloc, log, error)?;
+    match again {
+        Poll::Ready(Ok(n)) => push_n(alloc, log, n),
+        Poll::Ready(Err(error)) => push_error(alloc, log, error),
         Poll::Pending => push(log, "pending"),
     }
 }
 
-fn push_written(
+/// The same, where no end is told.
+fn push_failed_precise(
     alloc: Global,
     log: &mut String,
-    answer: &Poll<Result<u64, DataError>>,
+    error: DataError,
+    again: Poll<Result<u64, DataError>>,
 ) -> Result<(), CaseError> {
-    match answer {
-        Poll::Ready(Ok(written)) => push_count(alloc, log, "n", *written),
-        Poll::Ready(Err(error)) => push_error(alloc, log, *error),
+    push_error(alloc, log, error)?;
+    match again {
+        Poll::Ready(Ok(written)) => push_count(alloc, log, "n", written),
+        Poll::Ready(Err(error)) => push_error(alloc, log, error),
         Poll::Pending => push(log, "pending"),
     }
 }
@@ -58,15 +64,17 @@ impl<S: Source, K: Sink> Polled for Sending<S, K> {
         log: &mut String,
     ) -> Result<Option<Sending<S, K>>, CaseError> {
         let Sending { mut state } = self;
-        let answer = state.poll(alloc, open_gate(0));
-        push_sent(alloc, log, &answer)?;
-        match answer {
-            Poll::Pending => return Ok(Some(Sending { state })),
-            Poll::Ready(Ok(_)) => {}
-            Poll::Ready(Err(_)) => push_sent(alloc, log, &state.poll(alloc, open_gate(0)))?,
+        match state.poll(alloc, open_gate(0)) {
+            Poll::Pending => waits(log, Sending { state }),
+            Poll::Ready(Ok(n)) => {
+                let _ = state.into_sink();
+                over(push_n(alloc, log, n))
+            }
+            Poll::Ready(Err(error)) => {
+                let again = state.poll(alloc, open_gate(0));
+                over(push_failed(alloc, log, error, again))
+            }
         }
-        let _ = state.into_sink();
-        Ok(None)
     }
 }
 
@@ -77,49 +85,54 @@ impl<S: Source, K: Sink> Polled for Precise<S, K> {
         log: &mut String,
     ) -> Result<Option<Precise<S, K>>, CaseError> {
         let Precise { mut state } = self;
-        let answer = state.poll(alloc, open_gate(0));
-        push_written(alloc, log, &answer)?;
-        match answer {
-            Poll::Pending => return Ok(Some(Precise { state })),
-            Poll::Ready(Ok(_)) => {}
-            Poll::Ready(Err(_)) => push_written(alloc, log, &state.poll(alloc, open_gate(0)))?,
+        match state.poll(alloc, open_gate(0)) {
+            Poll::Pending => waits(log, Precise { state }),
+            Poll::Ready(Ok(written)) => {
+                let _ = state.into_sink();
+                over(push_count(alloc, log, "n", written))
+            }
+            Poll::Ready(Err(error)) => {
+                let again = state.poll(alloc, open_gate(0));
+                over(push_failed_precise(alloc, log, error, again))
+            }
         }
-        let _ = state.into_sink();
-        Ok(None)
     }
 }
 
-fn send_to<S: Source, K: Sink>(
+/// Sends to a sink that is lent.
+fn send_to<S: Source>(
     alloc: Global,
     log: &mut String,
     stream: DataStream<S>,
-    sink: K,
+    kept: &mut MemorySink,
+    setting: Setting<'_>,
 ) -> Result<(), CaseError> {
+    let sink = Slow::new(kept, setting.chunk, setting.pends);
     let state = stream.stream_to(sink);
     poll_on(alloc, log, Sending { state })
 }
 
-fn send_precise_to<S: Source, K: Sink>(
+fn send_precise_to<S: Source>(
     alloc: Global,
     log: &mut String,
     stream: DataStream<S>,
-    sink: K,
+    kept: &mut MemorySink,
+    setting: Setting<'_>,
 ) -> Result<(), CaseError> {
+    let sink = Slow::new(kept, setting.chunk, setting.pends);
     let state = stream.stream_precise_to(sink);
     poll_on(alloc, log, Precise { state })
 }
 
-/// Sends the bytes that are left to a sink of this setting, which is lent, and adds what it has then.
+/// Sends the bytes that are left to a sink of this setting, and adds what it has then.
 pub fn send<S: Source>(
     alloc: Global,
     log: &mut String,
     stream: DataStream<S>,
-    words: &str,
+    setting: Setting<'_>,
 ) -> Result<(), CaseError> {
-    let setting = parse_setting(words)?;
     let mut kept = made_sink(alloc, setting)?;
-    let sink = Slow::new(&mut kept, setting.chunk, setting.pends);
-    send_to(alloc, log, stream, sink)?;
+    send_to(alloc, log, stream, &mut kept, setting)?;
     push_bytes(alloc, log, kept.bytes())
 }
 
@@ -128,11 +141,9 @@ pub fn send_precise<S: Source>(
     alloc: Global,
     log: &mut String,
     stream: DataStream<S>,
-    words: &str,
+    setting: Setting<'_>,
 ) -> Result<(), CaseError> {
-    let setting = parse_setting(words)?;
     let mut kept = made_sink(alloc, setting)?;
-    let sink = Slow::new(&mut kept, setting.chunk, setting.pends);
-    send_precise_to(alloc, log, stream, sink)?;
+    send_precise_to(alloc, log, stream, &mut kept, setting)?;
     push_bytes(alloc, log, kept.bytes())
 }

@@ -1,65 +1,11 @@
 //! What is asked of a source, step by step.
 use crate::error::CaseError;
-use crate::objects::{Listed, Peer};
+use crate::objects::Peer;
 use crate::shown::{push, push_read};
 use crate::words::{first_word, parse_gate, size};
 use rkt_base::Poll;
-use rkt_data::stream::ReaderStream;
-use rkt_data::{CancellableIo, Chain, MemorySource, One, Shut, Source, StreamReader};
+use rkt_data::{CancellableIo, Chain, Shut, Source};
 use std::alloc::Global;
-
-/// A source that lines can speak of.
-pub trait Stepped: Source {
-    /// A step that this source alone knows.
-    fn special(
-        &mut self,
-        _alloc: Global,
-        _log: &mut String,
-        _word: &str,
-        _rest: &str,
-    ) -> Result<(), CaseError> {
-        Err(CaseError::Line)
-    }
-}
-
-impl<'a> Stepped for Peer<'a> {}
-
-impl<'a> Stepped for ReaderStream<One<Peer<'a>>> {}
-
-impl Stepped for ReaderStream<Listed<MemorySource>> {}
-
-impl Stepped for StreamReader<Listed<Vec<u8>>> {}
-
-impl<'a> Stepped for Chain<CancellableIo<Peer<'a>>, Peer<'a>> {
-    fn special(
-        &mut self,
-        alloc: Global,
-        log: &mut String,
-        word: &str,
-        _rest: &str,
-    ) -> Result<(), CaseError> {
-        match word {
-            "stage" => push_stage(alloc, log, self.get_ref().0),
-            _ => Err(CaseError::Line),
-        }
-    }
-}
-
-impl<'a> Stepped for CancellableIo<Peer<'a>> {
-    fn special(
-        &mut self,
-        alloc: Global,
-        log: &mut String,
-        word: &str,
-        rest: &str,
-    ) -> Result<(), CaseError> {
-        match word {
-            "stage" => push_stage(alloc, log, self),
-            "call" => push_call(alloc, log, self, rest),
-            _ => Err(CaseError::Line),
-        }
-    }
-}
 
 /// Adds what is known of an object that a trip cuts off: when it saw the trip, when its grace was over, whether it is
 /// there, and how many polls are still to be Pending.
@@ -113,7 +59,7 @@ fn shut_step<S: Shut>(log: &mut String, source: &mut S) -> Result<(), CaseError>
     }
 }
 
-fn step<S: Stepped>(
+fn step<S: Source>(
     alloc: Global,
     log: &mut String,
     source: &mut S,
@@ -123,12 +69,12 @@ fn step<S: Stepped>(
     match word {
         "read" => read_step(alloc, log, source, rest),
         "shut" => shut_step(log, source),
-        _ => source.special(alloc, log, word, rest),
+        _ => Err(CaseError::Line),
     }
 }
 
 /// Takes each step of a list.
-pub fn take_steps<S: Stepped>(
+pub fn take_steps<S: Source>(
     alloc: Global,
     log: &mut String,
     mut source: S,
@@ -136,6 +82,58 @@ pub fn take_steps<S: Stepped>(
 ) -> Result<(), CaseError> {
     for text in steps.split(" | ") {
         step(alloc, log, &mut source, text)?;
+    }
+    Ok(())
+}
+
+fn cut_step(
+    alloc: Global,
+    log: &mut String,
+    object: &mut CancellableIo<Peer<'_>>,
+    text: &str,
+) -> Result<(), CaseError> {
+    let (word, rest) = first_word(text);
+    match word {
+        "stage" => push_stage(alloc, log, object),
+        "call" => push_call(alloc, log, object, rest),
+        _ => step(alloc, log, object, text),
+    }
+}
+
+/// The same, of an object that a trip cuts off.
+pub fn take_cut_steps(
+    alloc: Global,
+    log: &mut String,
+    mut object: CancellableIo<Peer<'_>>,
+    steps: &str,
+) -> Result<(), CaseError> {
+    for text in steps.split(" | ") {
+        cut_step(alloc, log, &mut object, text)?;
+    }
+    Ok(())
+}
+
+fn chain_step<'a>(
+    alloc: Global,
+    log: &mut String,
+    chain: &mut Chain<CancellableIo<Peer<'a>>, Peer<'a>>,
+    text: &str,
+) -> Result<(), CaseError> {
+    match text {
+        "stage" => push_stage(alloc, log, chain.get_ref().0),
+        _ => step(alloc, log, chain, text),
+    }
+}
+
+/// The same, of a chain.
+pub fn take_chain_steps<'a>(
+    alloc: Global,
+    log: &mut String,
+    mut chain: Chain<CancellableIo<Peer<'a>>, Peer<'a>>,
+    steps: &str,
+) -> Result<(), CaseError> {
+    for text in steps.split(" | ") {
+        chain_step(alloc, log, &mut chain, text)?;
     }
     Ok(())
 }
