@@ -9,9 +9,13 @@ pub record Page : Type 0 where
   pub reason : List ℕ
   pub description : List ℕ
 
+-- a page that says this
+abbrev pub said : List ℕ → List ℕ → Page
+said reason description = record { reason = reason; description = description }
+
 -- what a page says, as lists
 abbrev pub shown : PageText → Page
-shown text = record { reason = text.reason.now; description = text.description.now }
+shown text = said text.reason.now text.description.now
 
 -- each code that has a page of its own
 unfoldable pub pages : List (ℕ × Page)

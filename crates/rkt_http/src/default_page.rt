@@ -3,7 +3,7 @@
 ghost use Rattle.std.specs.Prelude.{◌≡◌, ◌≤◌, ◌<◌, ◌+◌, ◌*◌, IfOk, length, map, unwrap_or, string_bytes};
 ghost use Rattle.std.specs.Fmt.{decimal};
 ghost use Rattle.rkt_http.specs.Table.{row_at};
-ghost use Rattle.rkt_http.specs.DefaultPage.{shown, page_of, page_reason_of, description_of, html_page, json_page, html_text as html_text_of, json_text as json_text_of};
+ghost use Rattle.rkt_http.specs.DefaultPage.{said, shown, page_of, page_reason_of, description_of, html_page, json_page, html_text as html_text_of, json_text as json_text_of};
 
 use crate::status::Status;
 use rkt_base::{NoMemory, Text};
@@ -22,12 +22,15 @@ const UNKNOWN: PageText = PageText {
 };
 
 /// The text in the first row of this code, or else this other one.
-fn text_in(rows: &[(u16, PageText)], code: u16, other: PageText) -> PageText
-    ensures { shown result ≡ unwrap_or (row_at code (map (λ row. (row.0, shown row.1)) rows.now)) (shown other) }
+fn text_in(rows: &[(u16, &'static str, &'static str)], code: u16, other: PageText) -> PageText
+    ensures { shown result ≡ unwrap_or (row_at code (map (λ row. (row.0, said row.1.now row.2.now)) rows.now)) (shown other) }
 {
     for row in rows {
         if row.0 == code {
-            return row.1;
+            return PageText {
+                reason: row.1,
+                description: row.2,
+            };
         }
     }
     other
@@ -100,222 +103,160 @@ pub fn json(alloc: Global, status: Status) -> Result<Text, NoMemory>
     Ok(Text::from_string(page))
 }
 
-const PAGES: [(u16, PageText); 31] = [
+const PAGES: [(u16, &str, &str); 31] = [
     (
         400,
-        PageText {
-            reason: "Bad Request",
-            description: "The request could not be understood by the server due to malformed syntax.",
-        },
+        "Bad Request",
+        "The request could not be understood by the server due to malformed syntax.",
     ),
     (
         401,
-        PageText {
-            reason: "Unauthorized",
-            description: "The request requires user authentication.",
-        },
+        "Unauthorized",
+        "The request requires user authentication.",
     ),
     (
         402,
-        PageText {
-            reason: "Payment Required",
-            description: "The request could not be processed due to lack of payment.",
-        },
+        "Payment Required",
+        "The request could not be processed due to lack of payment.",
     ),
     (
         403,
-        PageText {
-            reason: "Forbidden",
-            description: "The server refused to authorize the request.",
-        },
+        "Forbidden",
+        "The server refused to authorize the request.",
     ),
     (
         404,
-        PageText {
-            reason: "Not Found",
-            description: "The requested resource could not be found.",
-        },
+        "Not Found",
+        "The requested resource could not be found.",
     ),
     (
         405,
-        PageText {
-            reason: "Method Not Allowed",
-            description: "The request method is not supported for the requested resource.",
-        },
+        "Method Not Allowed",
+        "The request method is not supported for the requested resource.",
     ),
     (
         406,
-        PageText {
-            reason: "Not Acceptable",
-            description: "The requested resource is capable of generating only content not acceptable according to the Accept headers sent in the request.",
-        },
+        "Not Acceptable",
+        "The requested resource is capable of generating only content not acceptable according to the Accept headers sent in the request.",
     ),
     (
         407,
-        PageText {
-            reason: "Proxy Authentication Required",
-            description: "Authentication with the proxy is required.",
-        },
+        "Proxy Authentication Required",
+        "Authentication with the proxy is required.",
     ),
     (
         408,
-        PageText {
-            reason: "Request Timeout",
-            description: "The server timed out waiting for the request.",
-        },
+        "Request Timeout",
+        "The server timed out waiting for the request.",
     ),
     (
         409,
-        PageText {
-            reason: "Conflict",
-            description: "The request could not be processed because of a conflict in the request.",
-        },
+        "Conflict",
+        "The request could not be processed because of a conflict in the request.",
     ),
     (
         410,
-        PageText {
-            reason: "Gone",
-            description: "The resource requested is no longer available and will not be available again.",
-        },
+        "Gone",
+        "The resource requested is no longer available and will not be available again.",
     ),
     (
         411,
-        PageText {
-            reason: "Length Required",
-            description: "The request did not specify the length of its content, which is required by the requested resource.",
-        },
+        "Length Required",
+        "The request did not specify the length of its content, which is required by the requested resource.",
     ),
     (
         412,
-        PageText {
-            reason: "Precondition Failed",
-            description: "The server does not meet one of the preconditions specified in the request.",
-        },
+        "Precondition Failed",
+        "The server does not meet one of the preconditions specified in the request.",
     ),
     (
         413,
-        PageText {
-            reason: "Payload Too Large",
-            description: "The request is larger than the server is willing or able to process.",
-        },
+        "Payload Too Large",
+        "The request is larger than the server is willing or able to process.",
     ),
     (
         414,
-        PageText {
-            reason: "URI Too Long",
-            description: "The URI provided was too long for the server to process.",
-        },
+        "URI Too Long",
+        "The URI provided was too long for the server to process.",
     ),
     (
         415,
-        PageText {
-            reason: "Unsupported Media Type",
-            description: "The request entity has a media type which the server or resource does not support.",
-        },
+        "Unsupported Media Type",
+        "The request entity has a media type which the server or resource does not support.",
     ),
     (
         416,
-        PageText {
-            reason: "Range Not Satisfiable",
-            description: "The portion of the requested file cannot be supplied by the server.",
-        },
+        "Range Not Satisfiable",
+        "The portion of the requested file cannot be supplied by the server.",
     ),
     (
         417,
-        PageText {
-            reason: "Expectation Failed",
-            description: "The server cannot meet the requirements of the Expect request-header field.",
-        },
+        "Expectation Failed",
+        "The server cannot meet the requirements of the Expect request-header field.",
     ),
     (
         418,
-        PageText {
-            reason: "I'm a teapot",
-            description: "I was requested to brew coffee, and I am a teapot.",
-        },
+        "I'm a teapot",
+        "I was requested to brew coffee, and I am a teapot.",
     ),
     (
         421,
-        PageText {
-            reason: "Misdirected Request",
-            description: "The server cannot produce a response for this request.",
-        },
+        "Misdirected Request",
+        "The server cannot produce a response for this request.",
     ),
     (
         422,
-        PageText {
-            reason: "Unprocessable Entity",
-            description: "The request was well-formed but was unable to be followed due to semantic errors.",
-        },
+        "Unprocessable Entity",
+        "The request was well-formed but was unable to be followed due to semantic errors.",
     ),
     (
         426,
-        PageText {
-            reason: "Upgrade Required",
-            description: "Switching to the protocol in the Upgrade header field is required.",
-        },
+        "Upgrade Required",
+        "Switching to the protocol in the Upgrade header field is required.",
     ),
     (
         428,
-        PageText {
-            reason: "Precondition Required",
-            description: "The server requires the request to be conditional.",
-        },
+        "Precondition Required",
+        "The server requires the request to be conditional.",
     ),
     (
         429,
-        PageText {
-            reason: "Too Many Requests",
-            description: "Too many requests have been received recently.",
-        },
+        "Too Many Requests",
+        "Too many requests have been received recently.",
     ),
     (
         431,
-        PageText {
-            reason: "Request Header Fields Too Large",
-            description: "The server is unwilling to process the request because either an individual header field, or all the header fields collectively, are too large.",
-        },
+        "Request Header Fields Too Large",
+        "The server is unwilling to process the request because either an individual header field, or all the header fields collectively, are too large.",
     ),
     (
         451,
-        PageText {
-            reason: "Unavailable For Legal Reasons",
-            description: "The requested resource is unavailable due to a legal demand to deny access to this resource.",
-        },
+        "Unavailable For Legal Reasons",
+        "The requested resource is unavailable due to a legal demand to deny access to this resource.",
     ),
     (
         500,
-        PageText {
-            reason: "Internal Server Error",
-            description: "The server encountered an internal error while processing this request.",
-        },
+        "Internal Server Error",
+        "The server encountered an internal error while processing this request.",
     ),
     (
         501,
-        PageText {
-            reason: "Not Implemented",
-            description: "The server either does not recognize the request method, or it lacks the ability to fulfill the request.",
-        },
+        "Not Implemented",
+        "The server either does not recognize the request method, or it lacks the ability to fulfill the request.",
     ),
     (
         503,
-        PageText {
-            reason: "Service Unavailable",
-            description: "The server is currently unavailable.",
-        },
+        "Service Unavailable",
+        "The server is currently unavailable.",
     ),
     (
         504,
-        PageText {
-            reason: "Gateway Timeout",
-            description: "The server did not receive a timely response from an upstream server.",
-        },
+        "Gateway Timeout",
+        "The server did not receive a timely response from an upstream server.",
     ),
     (
         510,
-        PageText {
-            reason: "Not Extended",
-            description: "Further extensions to the request are required for the server to fulfill it.",
-        },
+        "Not Extended",
+        "Further extensions to the request are required for the server to fulfill it.",
     ),
 ];

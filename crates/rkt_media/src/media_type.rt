@@ -8,7 +8,7 @@ ghost use Rattle.rkt_media.specs.Media.{Media, media_text, parameter_text, is_ki
 use crate::media_place::MediaPlace;
 use crate::media_read::{kind_cut, read_parameters};
 use rkt_base::{NoMemory, Text, Want};
-use rkt_grammar::first_fault;
+use rkt_grammar::{copy_pairs, first_fault};
 use std::alloc::Global;
 use std::marker::Model;
 use thiserror::Error;
@@ -48,19 +48,6 @@ fn read(alloc: Global, text: &str) -> Result<MediaType, NoMemory>
     let (top, sub, behind) = kind_cut(text);
     let parameters = read_parameters(alloc, behind)?;
     MediaType::from_parts(alloc, top, sub, parameters)
-}
-
-fn copy_parameters(
-    alloc: Global,
-    parameters: &[(Text, Text)],
-) -> Result<Vec<(Text, Text)>, NoMemory>
-    ensures { IfOk result (λ v. v.items ≡ parameters.now) }
-{
-    let mut copy = Vec::new(alloc);
-    for (name, value) in parameters {
-        copy.push((name.try_clone(alloc)?, value.try_clone(alloc)?))?;
-    }
-    Ok(copy)
 }
 
 fn same_parameter(one: &(Text, Text), other: &(Text, Text)) -> bool
@@ -109,7 +96,7 @@ impl MediaType {
     pub fn try_clone(&self, alloc: Global) -> Result<MediaType, NoMemory>
         ensures { IfOk result (λ m. m ≡ self.now) }
     {
-        let parameters = copy_parameters(alloc, self.parameters.as_slice())?;
+        let parameters = copy_pairs(alloc, self.parameters.as_slice())?;
         MediaType::from_parts(alloc, self.top(), self.sub(), parameters)
     }
 
