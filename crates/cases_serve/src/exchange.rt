@@ -7,6 +7,7 @@ use crate::words::{first_word, number, push_item};
 use rkt_base::NoMemory;
 use rkt_cookie::{Cookie, CookieJar};
 use rkt_data::{Gate, MemorySource};
+use rkt_http::Key;
 use rkt_life::{EndedOf, Ignite, Rocket, Run, Tables};
 use rkt_message::Response;
 use rkt_request::{Head, Request};
@@ -102,10 +103,12 @@ pub fn exchange(alloc: Global, setting: &Setting, text: &str) -> Result<String, 
     exchanged(alloc, &mut rocket, &head, moment)
 }
 
-/// How many routes a rocket has that was taken apart and put together.
+/// How many routes a rocket has that was taken apart and put together, and whether it has a managed value.
 pub fn parted(alloc: Global, setting: &Setting) -> Result<String, CaseError> {
     let rocket = rocket(alloc, setting.routes.as_slice())?;
     let (tables, handle) = rocket.into_parts();
     let rocket: Rocket<Ignite, Site> = Rocket::from_parts(tables, handle);
-    Ok(rocket.tables().routes.len().to_string(alloc)?)
+    let routes = rocket.tables().routes.len();
+    let managed = rocket.tables().managed.get(Key(0)).is_some();
+    Ok(format!(in alloc; "{routes} routes, managed {managed}")?)
 }

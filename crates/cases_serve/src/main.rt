@@ -6,7 +6,8 @@
 //!     header NAME: VALUE                   from here on every request has this header; without one, it has none
 //!     exchange MOMENT METHOD TARGET        one exchange at this moment: the status, the content type, the size of the
 //!                                          body, the calls, the cookies that came, the cached values and the moment
-//!     parted                               how many routes a rocket has that was taken apart and put together
+//!     parted                               how many routes a rocket has that was taken apart and put together, and
+//!                                          whether it has a managed value
 //!     launch WORKERS MOMENTS POLLS LINK | LINK ..
 //!                                          a launch: the clock tells these moments, these polls of the listener (from
 //!                                          0) are Pending, and each link asks METHOD TARGET. How many events there
