@@ -9,8 +9,6 @@ mod lends;
 mod pass;
 mod reason;
 mod steps;
-#[cfg(test)]
-mod tests;
 mod turn;
 mod turnstile;
 mod wire;

@@ -1,0 +1,78 @@
+//! The cases of the turn lock and the wire. Each line of standard input says one, and is written again with ` -> ` and its
+//! answer; beside this folder, `stdout` is the table of cases with the answers that are wanted, and `stdin` has its lines up
+//! to the arrow. Empty lines and those that begin with `#` are headings, and are written as they are. An answer is the same
+//! under every schedule of the threads.
+//!
+//! | Line | Answer |
+//! |---|---|
+//! | `turns OTHERS TURNS` | a first pass and so many others each write their number in so many turns, the others in threads of their own: how many entries there are, how many of each pass, and whether the first pass has seen a front of them that has all of its own |
+//! | `threads WORD WORD` | one thread waits at a wire, which another trips with the first word and then with the second: what each saw, and what a third handle has seen before and after it notifies with the second |
+//! | `wire STEP \| STEP ..` | the answers of two handles of one wire |
+//!
+//! A step at a wire is `first` or `other` with `seen`, `tripped`, `poll`, or `notify WORD`, which answers nothing; or
+//! `rejoin`: the first takes the other in, and another is split off. A word is a number above 0. Any other line answers
+//! `? line`.
+#![tactic(auto)]
+
+mod crossing;
+mod error;
+mod turns;
+mod wires;
+mod words;
+
+use crate::error::CaseError;
+use crate::turns::turns_answer;
+use crate::wires::{threads_answer, wire_answer};
+use crate::words::first_word;
+use std::alloc::Global;
+use std::io;
+use std::sync::Wait;
+use std::thread::Threads;
+
+/// What a line answers.
+fn answer<R: Threads + Wait + Sync>(
+    rt: &R,
+    alloc: Global,
+    line: &str,
+) -> Result<String, CaseError> {
+    let (command, rest) = first_word(line);
+    match command {
+        "turns" => turns_answer(rt, alloc, rest),
+        "threads" => threads_answer(rt, alloc, rest),
+        "wire" => wire_answer(alloc, rest),
+        _ => Err(CaseError::Line),
+    }
+}
+
+fn print_answer(rt: &impl Print, line: &str, text: &str) -> io::Result<()> {
+    println!(rt; "{line} -> {text}")
+}
+
+/// Empty lines and those that begin with `#` are headings, and are written as they are.
+fn is_heading(line: &str) -> bool {
+    line.is_empty() || line.starts_with('#')
+}
+
+/// Writes the line, and behind an arrow the answer where it is a case.
+fn print_line<R: Print + Threads + Wait + Sync>(
+    rt: &R,
+    alloc: Global,
+    line: &str,
+) -> io::Result<()> {
+    if is_heading(line) {
+        return rt.println(line);
+    }
+    match answer(rt, alloc, line) {
+        Ok(text) => print_answer(rt, line, text.as_str()),
+        Err(error) => print_answer(rt, line, error.text()),
+    }
+}
+
+fn main(rt: HostRuntime) -> io::Result<()> {
+    let alloc = rt.alloc();
+    for line in rt.lines(alloc) {
+        let line = line?;
+        print_line(&rt, alloc, line.as_str())?;
+    }
+    Ok(())
+}

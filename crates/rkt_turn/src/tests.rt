@@ -1,3 +1,0 @@
-mod crossing;
-mod turns;
-mod wires;
