@@ -10,14 +10,10 @@ mod header_groups;
 mod header_iter;
 mod header_map;
 mod key;
-#[cfg(test)]
-mod media_tests;
 mod method;
 pub mod outcome;
 mod reasons;
 mod status;
-#[cfg(test)]
-mod tests;
 mod uncased;
 
 pub use content_type::ContentType;

@@ -4,8 +4,6 @@ ghost use Rattle.rkt_http.specs.Outcome.{MatchOutcome, IsSuccess, IsError, IsFor
 
 mod into_outcome;
 mod laws;
-#[cfg(test)]
-mod tests;
 
 pub use into_outcome::IntoOutcome;
 pub use laws::{and_then_in_turn, map_in_turn, map_nothing, on_success, success_again};

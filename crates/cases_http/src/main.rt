@@ -1,0 +1,106 @@
+//! The cases of HTTP's texts: each line of standard input says one, and standard output has it again with its answer.
+//! `stdout` is the table of cases with the answers that are wanted; `stdin` has its lines up to the arrow.
+//!
+//! TEXT is the rest of the line. Between double quotes it is what stands between them, so that it may be empty or end
+//! in a blank. A header map and a copy of one are kept from line to line; both are empty at first.
+//!
+//! | Line | Answer |
+//! |---|---|
+//! | `method TEXT` | the method of this name in any case, and whether its requests carry a payload |
+//! | `wire TEXT` | the same of the method of exactly this name |
+//! | `status CODE` | its class and its reason |
+//! | `html CODE`, `json CODE` | the size of the default page in bytes, and the page |
+//! | `media TEXT` | the media type as it is printed |
+//! | `parts TEXT` | its type, its subtype and its specificity |
+//! | `kind TEXT` | whether it is JSON, and whether it is a form |
+//! | `again TEXT` | whether what is printed is read as the same media type |
+//! | `content TEXT` | the header of the content type |
+//! | `equal TEXT <=> OTHER` | whether the two content types are the same |
+//! | `known NAME` | the header of the content type with this name of its own |
+//! | `is NAME TEXT` | whether the content type is that one |
+//! | `accept TEXT` | the media type that the list prefers |
+//! | `header NAME: VALUE` | the header |
+//! | `uncased ONE OTHER` | the first word, and whether the two are the same in any case |
+//! | `map ..` | what the header map answers, below |
+//! | `outcome ..` | what an outcome answers, below |
+//! | `option CALL RESULT NUMBER`, `guard ..`, `data ..`, `route ..` | the outcome that an option or a result is read as, below |
+//!
+//! Of the map: `new` makes it empty; `add NAME: VALUE` and `replace NAME: VALUE` take a header, and the second answers
+//! whether the group was there; `add_all NAME: VALUE, ..` and `replace_all NAME: VALUE, ..` take several values, or none;
+//! `remove NAME`, `get NAME`, `one NAME` and `has NAME` take a name; `shown` has the number of groups and each header
+//! behind a bar; `empty` tells whether there is none; `copy` keeps a copy, and `copied` shows it as `shown` does the map.
+//!
+//! An OUTCOME is `success NUMBER`, `error NUMBER` or `forward NUMBER`. Sums begin at 0 again past the last number.
+//!
+//! | Line | Calls |
+//! |---|---|
+//! | `outcome CALL OUTCOME` | `is` (the three predicates), `succeeded`, `failed`, `forwarded`, `as_ref` (its Success), `unwrap` and `expect` (of a Success), `display`, `debug`, `try` (the macro, which goes on with half of the number), and the laws `map_nothing` and `success_again` |
+//! | `outcome CALL NUMBER OUTCOME` | `map`, `map_error`, `map_forward` and `as_mut` (of a Success), which add the number, the law `map_in_turn`, which adds it twice, `success_or` and `success_or_else`, which err with it, and the law `on_success`, which goes on from it with the outcome |
+//! | `outcome CALL OUTCOME OTHER` | `and_then`, `error_then` and `forward_then`, which go on with the other outcome, the number of the first one added to its own; `ok_map_forward` and `ok_map_error`, which go on with that as a result, of which a Success is Ok; `same`, which compares the two; and the law `and_then_in_turn`, which goes on so twice |
+//!
+//! A RESULT is `ok NUMBER` or `err NUMBER`. It is read by the CALL `or_error` or `or_forward`, with the number as what
+//! stands where there is no value: `option` reads its value, if it has one; `guard` and `data` read it as guards do, and
+//! `route` as a route does, with the number as a status. `data` and `route` hand on a body, which is the number 1.
+//!
+//! A refused text answers its fault, with the place where it leaves the grammar; any other line answers `? line`. Each
+//! answer of a text that can be copied is told by a copy. Empty lines and those that begin with `#` are headings, and are
+//! written as they are.
+#![tactic(auto)]
+
+mod answer;
+mod error;
+mod header_map;
+mod headers;
+mod media;
+mod outcome;
+mod reading;
+mod statuses;
+mod words;
+
+use crate::answer::answer;
+use crate::error::CaseError;
+use crate::header_map::Maps;
+use std::alloc::Global;
+use std::io;
+
+fn print_answer(rt: &impl Print, line: &str, text: &str) -> io::Result<()> {
+    println!(rt; "{line} -> {text}")
+}
+
+/// Writes a refused line, with what is wrong with it.
+fn print_fault(rt: &impl Print, line: &str, error: CaseError) -> io::Result<()> {
+    match error {
+        CaseError::Line => print_answer(rt, line, "? line"),
+        CaseError::NoMemory => print_answer(rt, line, "out of memory"),
+        CaseError::Media(fault) => println!(rt; "{line} -> {fault}"),
+    }
+}
+
+fn is_heading(line: &str) -> bool {
+    line.is_empty() || line.starts_with('#')
+}
+
+/// Writes the line, and behind an arrow the answer where it is a case.
+fn print_line(rt: &impl Print, alloc: Global, maps: &mut Maps, line: &str) -> io::Result<()> {
+    if is_heading(line) {
+        return rt.println(line);
+    }
+    match answer(alloc, maps, line) {
+        Ok(text) => print_answer(rt, line, text.as_str()),
+        Err(error) => print_fault(rt, line, error),
+    }
+}
+
+fn print_lines(rt: &HostRuntime, alloc: Global, maps: &mut Maps) -> io::Result<()> {
+    for line in rt.lines(alloc) {
+        let line = line?;
+        print_line(rt, alloc, maps, line.as_str())?;
+    }
+    Ok(())
+}
+
+fn main(rt: HostRuntime) -> io::Result<()> {
+    let alloc = rt.alloc();
+    let mut maps = Maps::new(alloc);
+    print_lines(&rt, alloc, &mut maps)
+}
