@@ -5,8 +5,6 @@ ghost use Rattle.rkt_param.specs.Reads.{UnlessNoMemory, StdReads, TakesText, Kee
 
 mod addresses;
 mod numbers;
-#[cfg(test)]
-mod tests;
 
 use rkt_base::{Text, Want};
 use rkt_uri::{PathBuf, PathError, Segments};

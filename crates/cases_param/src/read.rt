@@ -1,0 +1,67 @@
+//! What a type reads of a text or of segments.
+use crate::error::CaseError;
+use crate::shown::Shown;
+use rkt_base::Want;
+use rkt_uri::Segments;
+use rkt_param::{FromParam, FromSegments};
+use std::alloc::Global;
+use std::fmt::Display;
+
+fn refused<E: Shown>(alloc: Global, error: &E) -> Result<String, CaseError> {
+    let error = error.shown(alloc)?;
+    Ok(format!(in alloc; "refused {error}")?)
+}
+
+/// A value, or the error in its place.
+fn shown<P: Shown + Drop, E: Shown + Drop>(
+    alloc: Global,
+    read: Result<P, Want<E>>,
+) -> Result<String, CaseError> {
+    match read {
+        Ok(value) => value.shown(alloc),
+        Err(Want::Refused(error)) => refused(alloc, &error),
+        Err(Want::NoMemory) => Err(CaseError::NoMemory),
+    }
+}
+
+/// The same of a value that prints.
+fn printed<P: Display + Drop, E: Shown + Drop>(
+    alloc: Global,
+    read: Result<P, Want<E>>,
+) -> Result<String, CaseError> {
+    match read {
+        Ok(value) => Ok(value.to_string(alloc)?),
+        Err(Want::Refused(error)) => refused(alloc, &error),
+        Err(Want::NoMemory) => Err(CaseError::NoMemory),
+    }
+}
+
+/// What a text gives, through the bound, where the value prints.
+pub fn read<P: FromParam<Error = String> + Display + Drop>(
+    alloc: Global,
+    text: &str,
+) -> Result<String, CaseError> {
+    printed(alloc, P::from_param(alloc, text))
+}
+
+/// What a text gives, through the bound.
+pub fn read_shown<P: FromParam + Shown + Drop>(
+    alloc: Global,
+    text: &str,
+) -> Result<String, CaseError>
+where
+    P::Error: Shown,
+{
+    shown(alloc, P::from_param(alloc, text))
+}
+
+/// What segments give, through the bound.
+pub fn read_segments<P: FromSegments + Shown + Drop>(
+    alloc: Global,
+    segments: Segments<'_>,
+) -> Result<String, CaseError>
+where
+    P::Error: Shown,
+{
+    shown(alloc, P::from_segments(alloc, segments))
+}
