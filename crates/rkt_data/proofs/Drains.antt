@@ -58,6 +58,11 @@ Draws-trans {polled = polled} {gate = gate} {o = o} {p = p} {q = q} {old = old} 
   gained = (d.gained.0 ++ e.gained.0, e.gained.1 ∙ ap (λ z. z ++ e.gained.0) d.gained.1 ∙ append_assoc old d.gained.0 e.gained.0, Gained-trans d.follows d.gained.2 e.gained.2);
 }
 
+-- a read into a buffer that was lent and has grown behind what it held
+pub Draws-into : {S : Type 0} {meaning : S → Meaning} {polled : S → Gate → S → Type 0} {gate : Gate} {o p q : Piped S} {old front lent new got : List ℕ} (n now : ℕ) (grown : List ℕ)
+    → lent ≡ grown → take n grown ≡ front → got ≡ new → Draws meaning polled gate o p old front → Draws meaning polled gate p q (take n lent) (take now new) → Draws meaning polled gate o q old (take now got)
+Draws-into n now grown e f h a b = rw h (Draws-trans a (rw (e, f) at b))
+
 -- one read, into a buffer behind its first n bytes
 pub Draws-read : {S : Type 0} {meaning : S → Meaning} {polled : S → Gate → S → Type 0} {gate : Gate} {o p q : Piped S} {old : List ℕ} (n k : ℕ) (room buf post : List ℕ) → Draws meaning polled gate o p old (take n room) → n ≤ length room → k ≤ length buf
     → Follows meaning gate.tripped p.opened q.opened → ByGate polled gate p.opened.tap q.opened.tap → TakesAtMost meaning q.opened q.opened.limit → q.probed ≡ false

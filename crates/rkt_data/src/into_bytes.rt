@@ -70,6 +70,7 @@ impl<S: Source> IntoBytes<S> {
         ensures answer { self.old.failed ≡ None → GathersBytes S.meaning self.old self.new result }
     {
         if let Some(e) = self.failed {
+            // For contracts alone: how much was taken from the source so far.
             let _ = self.pipe.left();
             return Poll::Ready(Err(e));
         }

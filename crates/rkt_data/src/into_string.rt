@@ -74,17 +74,20 @@ impl<S: Source> IntoString<S> {
         ensures answer { self.old.failed ≡ None → AnswersText S.meaning self.old self.new result }
     {
         if let Some(e) = self.failed {
+            // For contracts alone: how much was taken from the source so far.
             let _ = self.pipe.left();
             return Poll::Ready(Err(e));
         }
         let found = resume(&mut self.found, alloc);
         match read_text(&mut self.pipe, gate, found) {
             Texted::Waiting(room, count) => {
+                // For contracts alone: how much was taken from the source so far.
                 let _ = self.pipe.left();
                 self.found = Some(Found::Bytes(room, count));
                 Poll::Pending
             }
             Texted::Failed(e) => {
+                // For contracts alone: how much was taken from the source so far.
                 let _ = self.pipe.left();
                 self.failed = Some(e);
                 Poll::Ready(Err(e))
@@ -138,6 +141,7 @@ fn read_text<S: Source>(pipe: &mut Pipe<S>, gate: Gate, found: Found) -> Texted
 {
     match found {
         Found::Text(text) => {
+            // For contracts alone: how much was taken from the source so far.
             let _ = pipe.left();
             Texted::Text(text)
         }

@@ -67,6 +67,7 @@ impl<S: Source, K: Sink> Sender<S, K> {
         ensures bound { PullsAtMost S.meaning self.now.piped.opened }
         ensures not_probed { self.now.piped.probed ≡ false → TakesAtMost S.meaning self.now.piped.opened self.now.piped.opened.limit }
     {
+        // For contracts alone: how much was taken from the source so far.
         let _ = self.pipe.left();
         self.pipe.given() - self.from - (self.end - self.at) as u64
     }
@@ -83,6 +84,7 @@ impl<S: Source, K: Sink> Sender<S, K> {
         ensures keeps { SinkKeeps (K.meaning self.old.sink.now) (K.meaning self.new.sink.now) }
         ensures stops { PumpStops S.meaning K.meaning self.old.piped.opened self.new.piped.opened self.old.sink.now self.new.sink.now self.new.pending result }
     {
+        // For contracts alone: how much was taken from the source so far.
         let _ = self.pipe.left();
         let mut buf = match resume(&mut self.buf, alloc) {
             Ok(buf) => buf,

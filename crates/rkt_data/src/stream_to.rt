@@ -73,15 +73,18 @@ impl<S: Source, K: Sink> StreamTo<S, K> {
         ensures answer { self.old.failed ≡ None → AnswersSent S.meaning K.meaning self.old self.new result }
     {
         if let Some(e) = self.failed {
+            // For contracts alone: how much was taken from the source and sent so far.
             let _ = self.sender.sent();
             return Poll::Ready(Err(e));
         }
         match self.sender.run(alloc, gate) {
             Pumped::Waiting => {
+                // For contracts alone: how much was taken from the source and sent so far.
                 let _ = self.sender.sent();
                 Poll::Pending
             }
             Pumped::Failed(e) => {
+                // For contracts alone: how much was taken from the source and sent so far.
                 let _ = self.sender.sent();
                 self.failed = Some(e);
                 Poll::Ready(Err(e))
@@ -170,6 +173,7 @@ impl<S: Source, K: Sink> StreamPrecise<S, K> {
         ensures answer { self.old.failed ≡ None → AnswersPrecise S.meaning K.meaning self.old self.new result }
     {
         if let Some(e) = self.failed {
+            // For contracts alone: how much was taken from the source and sent so far.
             let _ = self.sender.sent();
             return Poll::Ready(Err(e));
         }
