@@ -1,5 +1,5 @@
 -- Groups that a map keeps under their names in lower case, as the list of them.
-use Rattle.std.proofs.Common.{◌≡◌, ℕ, zero, suc, ◌+◌, ◌<◌, ◌≤◌, nat_lt, cond, not, Bool, true, false, if◌then◌else◌, List, [], ◌∷◌, ◌++◌, length, set, take, drop, map, refl, sym, ◌∙◌, ap, subst, arith, Option, Some, None, slice_get, Result, Ok, Err, OnOk, OnErr, String, string_bytes}
+use Rattle.std.proofs.Common.{◌≡◌, ℕ, zero, suc, ◌+◌, ◌≤◌, nat_lt, cond, not, Bool, true, false, if◌then◌else◌, List, [], ◌∷◌, ◌++◌, length, take, drop, refl, sym, ◌∙◌, ap, subst, arith, Some, None, slice_get, Result, Ok, Err, OnOk, OnErr, String, string_bytes}
 use Rattle.std.specs.Global.{Global}
 use Rattle.std.specs.Cmp.Lexicographic.{nat_list_eq_equiv}
 use Rattle.std.specs.List.{position, position_or_len, remove, AllZip}

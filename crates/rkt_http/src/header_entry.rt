@@ -1,10 +1,20 @@
-ghost use Rattle.std.specs.Prelude.{◌≡◌, ◌∷◌, ◌++◌, [], OnOk, OnErr};
+ghost use Rattle.std.specs.Prelude.{◌≡◌, ◌∷◌, ◌++◌, [], IfOk, OnOk, OnErr};
 ghost use Rattle.rkt_http.specs.Headers.{Group, is_named};
 
 use crate::uncased::Uncased;
 use rkt_base::{NoMemory, Text};
 use rkt_grammar::copy_texts;
+use std::alloc::Global;
 use std::marker::Model;
+
+/// A list of one value.
+pub(crate) fn one_value(alloc: Global, value: Text) -> Result<Vec<Text>, NoMemory>
+    ensures { IfOk result (λ values. values.items ≡ value ∷ []) }
+{
+    let mut values = Vec::new(alloc);
+    values.push(value)?;
+    Ok(values)
+}
 
 /// The values under one name.
 #[derive(Debug, Drop)]

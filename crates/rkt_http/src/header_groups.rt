@@ -4,7 +4,8 @@ ghost use Rattle.std.specs.Str.{str_to_ascii_lowercase};
 ghost use Rattle.rkt_http.specs.HeaderGroups.{changed_at, IsSpot};
 ghost use Rattle.rkt_http.specs.Headers.{Group, is_named};
 
-use crate::header_entry::Entry;
+use crate::header_entry::{Entry, one_value};
+use crate::uncased::Uncased;
 use indexmap::IndexMap;
 use rkt_base::{NoMemory, Text};
 use std::alloc::Global;
@@ -134,6 +135,42 @@ impl Groups {
     }
 
     /// Takes the group out, and closes up.
+    /// Puts a group of one value behind the others.
+    pub(crate) fn insert_one(
+        &mut self,
+        alloc: Global,
+        key: String,
+        name: Uncased,
+        value: Text,
+    ) -> Result<(), NoMemory>
+        requires keyed { string_bytes key ≡ str_to_ascii_lowercase name }
+        requires fresh { position (is_named name) self.old ≡ None }
+        ensures ok { OnOk result (self.new ≡ self.old ++ record { name = name; values = value ∷ [] } ∷ []) }
+        ensures err { OnErr result (self.new ≡ self.old) }
+    {
+        let values = one_value(alloc, value)?;
+        self.insert(key, Entry::new(name, values))?;
+        Ok(())
+    }
+
+    /// Puts a group of these values behind the others.
+    pub(crate) fn insert_all(
+        &mut self,
+        alloc: Global,
+        key: String,
+        name: &str,
+        values: Vec<Text>,
+    ) -> Result<(), NoMemory>
+        requires keyed { string_bytes key ≡ str_to_ascii_lowercase name.now }
+        requires fresh { position (is_named name.now) self.old ≡ None }
+        ensures ok { OnOk result (self.new ≡ self.old ++ record { name = name.now; values = values.items } ∷ []) }
+        ensures err { OnErr result (self.new ≡ self.old) }
+    {
+        let name = Uncased::new(alloc, name)?;
+        self.insert(key, Entry::new(name, values))?;
+        Ok(())
+    }
+
     pub(crate) fn remove(&mut self, at: usize)
         requires { at < length self.old }
         ensures { self.new ≡ remove self.old at }

@@ -2,21 +2,12 @@ ghost use Rattle.std.specs.Prelude.{◌≡◌, ◌∷◌, ◌++◌, [], ◌↔�
 ghost use Rattle.rkt_http.specs.Headers.{Field, Group, is_named, group_of, values_of, fields_of, added, replaced, added_all, replaced_all, removed};
 
 use crate::header::Header;
-use crate::header_entry::Entry;
+use crate::header_entry::one_value;
 use crate::header_groups::{Groups, Spot};
 use crate::header_iter::{HeaderIter, HeaderValues};
-use crate::uncased::Uncased;
 use rkt_base::{NoMemory, Text};
 use std::alloc::Global;
 use std::marker::Model;
-
-fn one_value(alloc: Global, value: Text) -> Result<Vec<Text>, NoMemory>
-    ensures { IfOk result (λ values. values.items ≡ value ∷ []) }
-{
-    let mut values = Vec::new(alloc);
-    values.push(value)?;
-    Ok(values)
-}
 
 fn texts(alloc: Global, values: Vec<String>) -> Result<Vec<Text>, NoMemory>
     ensures { IfOk result (λ texts. texts.items ≡ map string_bytes values.items) }
@@ -119,8 +110,7 @@ impl HeaderMap {
         match self.groups.locate(self.alloc, name.as_str())? {
             Spot::At(at) => self.groups.push(at, value)?,
             Spot::Free(key) => {
-                let values = one_value(self.alloc, value)?;
-                self.groups.insert(key, Entry::new(name, values))?;
+                self.groups.insert_one(self.alloc, key, name, value)?;
             }
         }
         Ok(())
@@ -134,10 +124,7 @@ impl HeaderMap {
         let mut values = texts(self.alloc, values)?;
         match self.groups.locate(self.alloc, name)? {
             Spot::At(at) => self.groups.append(at, &mut values)?,
-            Spot::Free(key) => {
-                let name = Uncased::new(self.alloc, name)?;
-                self.groups.insert(key, Entry::new(name, values))?;
-            }
+            Spot::Free(key) => self.groups.insert_all(self.alloc, key, name, values)?,
         }
         Ok(())
     }
@@ -150,14 +137,14 @@ impl HeaderMap {
         ensures err { OnErr result (self.new ≡ self.old) }
     {
         let (name, value) = header.into_parts();
-        let values = one_value(self.alloc, value)?;
         match self.groups.locate(self.alloc, name.as_str())? {
             Spot::At(at) => {
+                let values = one_value(self.alloc, value)?;
                 self.groups.set(at, values);
                 Ok(true)
             }
             Spot::Free(key) => {
-                self.groups.insert(key, Entry::new(name, values))?;
+                self.groups.insert_one(self.alloc, key, name, value)?;
                 Ok(false)
             }
         }
@@ -171,10 +158,7 @@ impl HeaderMap {
         let values = texts(self.alloc, values)?;
         match self.groups.locate(self.alloc, name)? {
             Spot::At(at) => self.groups.set(at, values),
-            Spot::Free(key) => {
-                let name = Uncased::new(self.alloc, name)?;
-                self.groups.insert(key, Entry::new(name, values))?;
-            }
+            Spot::Free(key) => self.groups.insert_all(self.alloc, key, name, values)?,
         }
         Ok(())
     }

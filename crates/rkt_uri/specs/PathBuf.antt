@@ -23,6 +23,11 @@ abbrev pub step_on : Option PathError → List (List ℕ) → List ℕ → Resul
 step_on (Some e) kept name = Err e
 step_on None kept name = Ok (kept ++ name ∷ [])
 
+-- these names, unless something is wrong
+abbrev pub unless : Option PathError → List (List ℕ) → Result (List (List ℕ)) PathError
+unless (Some e) kept = Err e
+unless None kept = Ok kept
+
 -- one more segment behind those that are kept
 abbrev pub step : Bool → List (List ℕ) → List ℕ → Result (List (List ℕ)) PathError
 step dots kept name =

@@ -1,7 +1,7 @@
 ghost use Rattle.std.specs.Prelude.{◌≡◌, ◌∷◌, ◌++◌, List, ℕ, [], map, IfOk};
 ghost use Rattle.std.specs.List.{join_with_byte};
 ghost use Rattle.rkt_base.specs.Want.{Gives};
-ghost use Rattle.rkt_uri.specs.PathBuf.{fault_of, walked, path_of_names};
+ghost use Rattle.rkt_uri.specs.PathBuf.{fault_of, step, unless, walked, path_of_names};
 
 use rkt_base::{NoMemory, Text, Want};
 use std::alloc::Global;
@@ -64,24 +64,37 @@ fn fault(dots: bool, name: &str) -> Option<PathError>
     }
 }
 
+/// Takes one more segment behind the names that are kept, or tells what is wrong with it.
+fn take<'a>(
+    dots: bool,
+    kept: &mut Vec<&'a str>,
+    segment: &'a str,
+) -> Result<Option<PathError>, NoMemory>
+    ensures { IfOk result (λ wrong. step dots (map (λ name. name.now) kept.old.items) segment.now ≡ unless wrong (map (λ name. name.now) kept.new.items)) }
+{
+    if segment == "." {
+        return Ok(None);
+    }
+    if segment == ".." {
+        kept.pop();
+        return Ok(None);
+    }
+    let wrong = fault(dots, segment);
+    if wrong.is_none() {
+        kept.push(segment)?;
+    }
+    Ok(wrong)
+}
+
 /// The names that are left, in order, or the first fault.
 fn walk(alloc: Global, dots: bool, segments: &[Text]) -> Result<Vec<&str>, Want<PathError>>
     ensures { Gives (λ v. map (λ name. name.now) v.items) result (walked dots segments.now []) }
 {
     let mut kept: Vec<&str> = Vec::new(alloc);
     for segment in segments {
-        let name = segment.as_str();
-        if name == "." {
-            continue;
-        }
-        if name == ".." {
-            kept.pop();
-            continue;
-        }
-        if let Some(error) = fault(dots, name) {
+        if let Some(error) = take(dots, &mut kept, segment.as_str())? {
             return Err(Want::Refused(error));
         }
-        kept.push(name)?;
     }
     Ok(kept)
 }

@@ -1,5 +1,4 @@
-use Rattle.std.proofs.Common.{◌++◌, ◌∷◌, [], refl}
-use Rattle.rkt_http.specs.Headers.{Group}
+use Rattle.std.proofs.Common.{◌++◌, refl}
 use Rattle.rkt_http.proofs.Kept.{kept-set, name_kept, set_on_ok, same_on_err}
 use Rattle.rkt_http.proofs.header_groups.Groups.append.Goals as goal
 

@@ -1,4 +1,4 @@
-use Rattle.std.proofs.Common.{ap, ◌∙◌, sym, subst, length, IfSome, ◌<◌, ◌≡◌, Option, ℕ}
+use Rattle.std.proofs.Common.{ap, ◌∙◌, sym, subst, length, ◌<◌, ℕ}
 use Rattle.std.specs.List.{position}
 use Rattle.rkt_http.specs.Headers.{is_named}
 use Rattle.rkt_http.proofs.Kept.{position-key, length-kept}

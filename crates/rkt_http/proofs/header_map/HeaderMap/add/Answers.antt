@@ -1,4 +1,4 @@
-use Rattle.std.proofs.Common.{◌∙◌, ◌∷◌, ◌++◌, [], ap, List, ℕ}
+use Rattle.std.proofs.Common.{◌∙◌, ◌∷◌, ◌++◌, [], refl, List, ℕ}
 use Rattle.rkt_http.specs.Headers.{Group, added}
 use Rattle.rkt_http.proofs.Groups.{changed_there, put_last}
 use Rattle.rkt_http.proofs.header_map.HeaderMap.add.Goals as goal
@@ -16,10 +16,9 @@ returns-in_ok-push-in-At-clause-ok c =
     changed_there (grown header.1) (alone header.0 (header.1 ∷ [])) _ _ _ _ _ _ c.in_ok-at.ensures c.as_str.ensures c.self.view_is c.in-At.is c.in_ok-push-in-At.ensures.ok
     ∙ (λ i. added c.args.self.now (record { name = c.into_parts-name.ensures.name i; value = c.into_parts-name.ensures.value i }))
 
-pub returns-in_ok-insert-in-Free-clause-ok : goal.returns-in_ok-insert-in-Free-clause-ok
+pub returns-in_ok-insert_one-in-Free-clause-ok : goal.returns-in_ok-insert_one-in-Free-clause-ok
 unfolding grown alone
-returns-in_ok-insert-in-Free-clause-ok c =
+returns-in_ok-insert_one-in-Free-clause-ok c =
     let header = c.into_parts-name.result in
-    put_last (grown header.1) (alone header.0 (header.1 ∷ [])) _ _ _ _ _ _ _ c.in_ok-at.ensures c.as_str.ensures c.self.view_is c.in-Free.is
-    (c.new.ensures ∙ ap (alone header.0) c.in_ok-values-in-Free.ensures) c.in_ok-insert-in-Free.ensures.ok
+    put_last (grown header.1) (alone header.0 (header.1 ∷ [])) _ _ _ _ _ _ _ c.in_ok-at.ensures c.as_str.ensures c.self.view_is c.in-Free.is refl c.in_ok-insert_one-in-Free.ensures.ok
     ∙ (λ i. added c.args.self.now (record { name = c.into_parts-name.ensures.name i; value = c.into_parts-name.ensures.value i }))

@@ -16,10 +16,9 @@ returns-in_ok-append-in-At-clause-ok c =
     changed_there (grown values) (group_of c.args.name.now values) _ _ _ _ _ _ c.in_ok-at.ensures refl c.self.view_is c.in-At.is c.in_ok-append-in-At.ensures.ok
     ∙ ap (added_all c.args.self.now c.args.name.now) c.in_ok-values.ensures
 
-pub returns-in_ok-insert-in-Free-clause-ok : goal.returns-in_ok-insert-in-Free-clause-ok
+pub returns-in_ok-insert_all-in-Free-clause-ok : goal.returns-in_ok-insert_all-in-Free-clause-ok
 unfolding grown group_of
-returns-in_ok-insert-in-Free-clause-ok c =
+returns-in_ok-insert_all-in-Free-clause-ok c =
     let values = c.in_ok-values.values.items in
-    put_last (grown values) (group_of c.args.name.now values) _ _ _ _ _ _ _ c.in_ok-at.ensures refl c.self.view_is c.in-Free.is
-    (c.new-in-Free.ensures ∙ ap (λ name. group_of name values) c.in_ok-name-in-Free.ensures) c.in_ok-insert-in-Free.ensures.ok
+    put_last (grown values) (group_of c.args.name.now values) _ _ _ _ _ _ _ c.in_ok-at.ensures refl c.self.view_is c.in-Free.is refl c.in_ok-insert_all-in-Free.ensures.ok
     ∙ ap (added_all c.args.self.now c.args.name.now) c.in_ok-values.ensures
