@@ -122,8 +122,7 @@ impl<H: Drop, S: Drop> Route<H, S> {
         // A refusal names the place where the mapper's text leaves the grammar, so that a base is never refused.
         ensures refused { IfRefused result (λ e. (text : _) × FnOnceReturnsAt F.FnOnce mapper self.uri.base (Ok text) × LeavesAt (IsOrigin Profile.Request) (string_bytes text) e.at) }
     {
-        let base = mapper(self.uri.base_origin())?;
-        self.uri = self.uri.at_base(alloc, base.as_str())?;
+        self.uri = self.uri.at_mapped(alloc, mapper)?;
         Ok(self)
     }
 }

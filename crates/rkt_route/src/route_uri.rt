@@ -1,9 +1,10 @@
-ghost use Rattle.std.specs.Prelude.{◌≡◌, ◌++◌, ◌<◌, IfOk, Some, codes, filter, map, not, option_copied};
+ghost use Rattle.std.specs.Fn.{FnOnceTakesAt, FnOnceReturnsAt};
+ghost use Rattle.std.specs.Prelude.{◌≡◌, ◌++◌, ◌<◌, IfOk, Ok, Some, codes, filter, map, not, option_copied, string_bytes};
 ghost use Rattle.rkt_base.specs.Want.{IfRefused, GivesUnlessNoMemory};
 ghost use Rattle.rkt_grammar.specs.Grammar.{LeavesAt};
-ghost use Rattle.rkt_uri.specs.Origin.{IsOrigin, IsTarget, pieces, spelling};
+ghost use Rattle.rkt_uri.specs.Origin.{IsOrigin, IsTarget, normalized, pieces, spelling};
 ghost use Rattle.rkt_route.specs.Segment.{segment_of};
-ghost use Rattle.rkt_route.specs.RouteUri.{MountedUri, SpellsMounted, LeavesMountedAt, IsRebased, default_rank, path_segments, raw_field, static_fields};
+ghost use Rattle.rkt_route.specs.RouteUri.{MountedUri, SpellsMounted, LeavesMountedAt, IsRebased, default_rank, mounted_at, path_segments, raw_field, static_fields};
 
 use crate::Segment;
 use crate::color::rank;
@@ -68,6 +69,29 @@ fn read_fields(alloc: Global, segments: &[Segment]) -> Result<Seq<(Text, Text)>,
     Ok(fields)
 }
 
+/// What is read from the whole URI.
+#[derive(Drop)]
+struct Parts {
+    segments: Seq<Segment>,
+    fields: Seq<(Text, Text)>,
+    rank: i64,
+}
+
+fn read_parts(alloc: Global, origin: &Origin) -> Result<Parts, NoMemory>
+    ensures segments { IfOk result (λ p. p.segments ≡ path_segments origin.now) }
+    ensures fields { IfOk result (λ p. p.fields ≡ static_fields origin.now) }
+    ensures rank { IfOk result (λ p. p.rank ≡ default_rank origin.now) }
+{
+    let query = read_segments(alloc, origin.query().unwrap_or(""), '&')?;
+    let segments = read_segments(alloc, origin.path(), '/')?;
+    let rank = rank(segments.as_slice(), query.as_slice());
+    Ok(Parts {
+        segments,
+        fields: read_fields(alloc, query.as_slice())?,
+        rank,
+    })
+}
+
 /// A base's path, and behind it what is mounted there.
 fn joined(alloc: Global, base: &Origin, uri: &Origin) -> Result<Origin, Want<InvalidUri>>
     requires base_fits { IsTarget Profile.Request base.now }
@@ -91,16 +115,40 @@ impl RouteUri {
     {
         // So the two texts spell one URI at most, and it is this one.
         says_what_it_spells();
-        let mut base = Origin::parse(alloc, base)?;
+        let base = Origin::parse(alloc, base)?;
         let unmounted = Origin::parse_route(alloc, uri)?;
+        RouteUri::mounted(alloc, base, unmounted)
+    }
+
+    // What is mounted at a base, whose own query is dropped.
+    fn mounted(
+        alloc: Global,
+        mut base: Origin,
+        unmounted: Origin,
+    ) -> Result<RouteUri, Want<InvalidUri>>
+        requires base_fits { IsTarget Profile.Request base }
+        requires uri_fits { IsTarget Profile.Route unmounted }
+        ensures { GivesUnlessNoMemory result (mounted_at base unmounted) }
+    {
         let origin = joined(alloc, &base, &unmounted)?;
         base.clear_query();
-        Ok(RouteUri::of_parts(
-            alloc,
-            base.into_normalized(alloc)?,
-            unmounted.into_normalized(alloc)?,
-            origin.into_normalized(alloc)?,
-        )?)
+        Ok(RouteUri::normalized(alloc, base, unmounted, origin)?)
+    }
+
+    // The URI of the normal forms of these parts.
+    fn normalized(
+        alloc: Global,
+        base: Origin,
+        unmounted: Origin,
+        origin: Origin,
+    ) -> Result<RouteUri, NoMemory>
+        requires { IsTarget Profile.Route unmounted }
+        ensures { IfOk result (λ u. u ≡ record { base = normalized base; unmounted = normalized unmounted; origin = normalized origin }) }
+    {
+        let base = base.into_normalized(alloc)?;
+        let unmounted = unmounted.into_normalized(alloc)?;
+        let origin = origin.into_normalized(alloc)?;
+        RouteUri::of_parts(alloc, base, unmounted, origin)
     }
 
     /// A path mounted at the base `/`.
@@ -123,6 +171,20 @@ impl RouteUri {
         RouteUri::try_new(alloc, base, self.unmounted.as_str())
     }
 
+    /// The same path, mounted at the base that a closure spells of its own.
+    pub(crate) fn at_mapped<F: FnOnce(&Origin) -> Result<String, NoMemory>>(
+        &self,
+        alloc: Global,
+        mapper: F,
+    ) -> Result<RouteUri, Want<InvalidUri>>
+        requires { FnOnceTakesAt F.FnOnce mapper self.now.base }
+        ensures accepted { IfOk result (λ u. (text : _) × FnOnceReturnsAt F.FnOnce mapper self.now.base (Ok text) × IsRebased self.now (string_bytes text) u) }
+        ensures refused { IfRefused result (λ e. (text : _) × FnOnceReturnsAt F.FnOnce mapper self.now.base (Ok text) × LeavesAt (IsOrigin Profile.Request) (string_bytes text) e.at) }
+    {
+        let base = mapper(self.base_origin())?;
+        self.at_base(alloc, base.as_str())
+    }
+
     // The URI of these parts, with what is read from them.
     fn of_parts(
         alloc: Global,
@@ -133,17 +195,14 @@ impl RouteUri {
         requires { IsTarget Profile.Route unmounted }
         ensures { IfOk result (λ u. u ≡ record { base = base; unmounted = unmounted; origin = origin }) }
     {
-        let segments = read_segments(alloc, origin.path(), '/')?;
-        let query = read_segments(alloc, origin.query().unwrap_or(""), '&')?;
-        let fields = read_fields(alloc, query.as_slice())?;
-        let rank = rank(segments.as_slice(), query.as_slice());
+        let parts = read_parts(alloc, &origin)?;
         Ok(RouteUri {
             base,
             unmounted,
             origin,
-            segments,
-            fields,
-            rank,
+            segments: parts.segments,
+            fields: parts.fields,
+            rank: parts.rank,
         })
     }
 
