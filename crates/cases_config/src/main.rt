@@ -52,12 +52,17 @@ fn print_line(rt: &impl Print, alloc: Global, kept: &mut Kept, line: &str) -> io
     }
 }
 
+/// Answers each line of standard input.
+fn print_lines<R: Print + Input>(rt: &R, alloc: Global, kept: &mut Kept) -> io::Result<()> {
+    for line in rt.lines(alloc) {
+        let line = line?;
+        print_line(rt, alloc, kept, line.as_str())?;
+    }
+    Ok(())
+}
+
 fn main(rt: HostRuntime) -> io::Result<()> {
     let alloc = rt.alloc();
     let mut kept = Kept::new(alloc);
-    for line in rt.lines(alloc) {
-        let line = line?;
-        print_line(&rt, alloc, &mut kept, line.as_str())?;
-    }
-    Ok(())
+    print_lines(&rt, alloc, &mut kept)
 }

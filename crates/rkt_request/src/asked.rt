@@ -8,6 +8,7 @@ ghost use Rattle.rkt_request.specs.Incoming.{AddsCookies, IsJar, SpellsHost, coo
 ghost use Rattle.rkt_request.specs.Seen.{MaybeReadAs, ReadAs, first_value};
 
 use crate::bad::Bad;
+use crate::request_headers::RequestHeaders;
 use rkt_base::{Bytes, NoMemory, Seq, Text, Want};
 use rkt_cookie::{Cookie, CookieJar};
 use rkt_http::{Header, HeaderMap, Host, Method, Origin};
@@ -63,7 +64,7 @@ fn as_text(bytes: &[u8]) -> Option<&str>
 }
 
 /// The headers whose values are texts.
-pub(crate) fn read_headers(alloc: Global, headers: &[(Text, Bytes)]) -> Result<HeaderMap, NoMemory>
+fn read_headers(alloc: Global, headers: &[(Text, Bytes)]) -> Result<HeaderMap, NoMemory>
     ensures { IfOk result (λ map. map ≡ headers_of headers.now) }
 {
     let mut map = HeaderMap::new(alloc);
@@ -76,7 +77,7 @@ pub(crate) fn read_headers(alloc: Global, headers: &[(Text, Bytes)]) -> Result<H
 }
 
 /// The host that the first Host header spells.
-pub(crate) fn read_host(alloc: Global, headers: &HeaderMap) -> Result<Option<Host>, NoMemory>
+fn read_host(alloc: Global, headers: &HeaderMap) -> Result<Option<Host>, NoMemory>
     ensures { IfOk result (MaybeReadAs SpellsHost (first_value headers.now (codes "Host"))) }
 {
     let Some(text) = headers.get_one("Host") else {
@@ -90,7 +91,7 @@ pub(crate) fn read_host(alloc: Global, headers: &HeaderMap) -> Result<Option<Hos
 }
 
 /// The jar of the Cookie headers.
-pub(crate) fn read_jar(alloc: Global, headers: &HeaderMap) -> Result<CookieJar, NoMemory>
+fn read_jar(alloc: Global, headers: &HeaderMap) -> Result<CookieJar, NoMemory>
     ensures { IfOk result (IsJar (values_of headers.now (codes "Cookie"))) }
 {
     let mut jar = CookieJar::new(alloc);
@@ -127,4 +128,20 @@ fn read_cookie(alloc: Global, piece: &str) -> Result<Option<Cookie>, NoMemory>
         Err(Want::Refused(_)) => Ok(None),
         Err(Want::NoMemory) => Err(AllocError),
     }
+}
+
+/// What the headers of a head say: those whose values are texts, the host, and the cookies.
+pub(crate) fn read_fields(
+    alloc: Global,
+    headers: &[(Text, Bytes)],
+) -> Result<(RequestHeaders, Option<Host>, CookieJar), NoMemory>
+    ensures headers { IfOk result (λ said. said.0 ≡ headers_of headers.now) }
+    ensures host { IfOk result (λ said. MaybeReadAs SpellsHost (first_value (headers_of headers.now) (codes "Host")) said.1) }
+    ensures cookies { IfOk result (λ said. IsJar (values_of (headers_of headers.now) (codes "Cookie")) said.2) }
+{
+    let map = read_headers(alloc, headers)?;
+    let host = read_host(alloc, &map)?;
+    let jar = read_jar(alloc, &map)?;
+    let headers = RequestHeaders::new(alloc, map)?;
+    Ok((headers, host, jar))
 }

@@ -2,11 +2,10 @@
 ghost use Rattle.std.specs.Prelude.{IfOk};
 ghost use Rattle.rkt_request.specs.Incoming.{IsIncoming};
 
-use crate::asked::{faults_of, or_root, read_headers, read_host, read_jar, read_target};
+use crate::asked::{faults_of, or_root, read_fields, read_target};
 use crate::bad::Bad;
 use crate::head::Head;
 use crate::request::Request;
-use crate::request_headers::RequestHeaders;
 use crate::types::Types;
 use rkt_base::{NoMemory, Seq};
 use rkt_config::{Config, Managed};
@@ -36,11 +35,8 @@ impl<'a, T: Types> Request<'a, T> {
         let method = Method::from_wire(head.method.as_str());
         let target = read_target(alloc, head.target.as_str())?;
         let faults = faults_of(alloc, method, &target)?;
-        let map = read_headers(alloc, head.headers.as_slice())?;
-        let host = read_host(alloc, &map)?;
-        let jar = read_jar(alloc, &map)?;
         let uri = or_root(alloc, target)?;
-        let headers = RequestHeaders::new(alloc, map)?;
+        let (headers, host, jar) = read_fields(alloc, head.headers.as_slice())?;
         let method = method.unwrap_or(Method::Get);
         let request = Request::of_parts(config, managed, method, uri, host, head.remote, headers);
         Ok(Incoming {

@@ -28,6 +28,3 @@ pub use request::Request;
 pub use rkt_config::{BadConfig, Config, ConfigTable, DuplicateState, Limits, Managed, State};
 pub use rkt_param::{FromParam, FromSegments};
 pub use types::{Body0, HasBody, Types};
-
-#[cfg(test)]
-mod tests;

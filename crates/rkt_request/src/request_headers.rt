@@ -138,18 +138,38 @@ impl RequestHeaders {
         ensures err { OnErr result (self.new ≡ self.old) }
     {
         if is_first(&self.map, &header, "Content-Type") {
-            let content_type = read_content_type(self.alloc, header.value())?;
-            self.map.add(header)?;
-            self.content_type = content_type;
-            return Ok(());
+            return self.add_content_type(header);
         }
         if is_first(&self.map, &header, "Accept") {
-            let accept = read_accept(self.alloc, header.value())?;
-            self.map.add(header)?;
-            self.accept = accept;
-            return Ok(());
+            return self.add_accept(header);
         }
         self.map.add(header)?;
+        Ok(())
+    }
+
+    /// Adds a header that becomes the first Content-Type.
+    fn add_content_type(&mut self, header: Header) -> Result<(), NoMemory>
+        requires first { first_value (added self.old header) (codes "Content-Type") ≡ Some header.value }
+        requires others { first_value (added self.old header) (codes "Accept") ≡ first_value self.old (codes "Accept") }
+        ensures ok { OnOk result (self.new ≡ added self.old header) }
+        ensures err { OnErr result (self.new ≡ self.old) }
+    {
+        let content_type = read_content_type(self.alloc, header.value())?;
+        self.map.add(header)?;
+        self.content_type = content_type;
+        Ok(())
+    }
+
+    /// Adds a header that becomes the first Accept.
+    fn add_accept(&mut self, header: Header) -> Result<(), NoMemory>
+        requires first { first_value (added self.old header) (codes "Accept") ≡ Some header.value }
+        requires others { first_value (added self.old header) (codes "Content-Type") ≡ first_value self.old (codes "Content-Type") }
+        ensures ok { OnOk result (self.new ≡ added self.old header) }
+        ensures err { OnErr result (self.new ≡ self.old) }
+    {
+        let accept = read_accept(self.alloc, header.value())?;
+        self.map.add(header)?;
+        self.accept = accept;
         Ok(())
     }
 
@@ -159,18 +179,36 @@ impl RequestHeaders {
         ensures err { OnErr result (self.new ≡ self.old) }
     {
         if is_named(&header, "Content-Type") {
-            let content_type = read_content_type(self.alloc, header.value())?;
-            self.map.replace(header)?;
-            self.content_type = content_type;
-            return Ok(());
+            return self.replace_content_type(header);
         }
         if is_named(&header, "Accept") {
-            let accept = read_accept(self.alloc, header.value())?;
-            self.map.replace(header)?;
-            self.accept = accept;
-            return Ok(());
+            return self.replace_accept(header);
         }
         self.map.replace(header)?;
+        Ok(())
+    }
+
+    /// Puts a header in place of those that are called Content-Type, as it is.
+    fn replace_content_type(&mut self, header: Header) -> Result<(), NoMemory>
+        requires { IsTrue (str_eq_ignore_ascii_case header.name (codes "Content-Type")) }
+        ensures ok { OnOk result (self.new ≡ replaced self.old header) }
+        ensures err { OnErr result (self.new ≡ self.old) }
+    {
+        let content_type = read_content_type(self.alloc, header.value())?;
+        self.map.replace(header)?;
+        self.content_type = content_type;
+        Ok(())
+    }
+
+    /// Puts a header in place of those that are called Accept, as it is.
+    fn replace_accept(&mut self, header: Header) -> Result<(), NoMemory>
+        requires { IsTrue (str_eq_ignore_ascii_case header.name (codes "Accept")) }
+        ensures ok { OnOk result (self.new ≡ replaced self.old header) }
+        ensures err { OnErr result (self.new ≡ self.old) }
+    {
+        let accept = read_accept(self.alloc, header.value())?;
+        self.map.replace(header)?;
+        self.accept = accept;
         Ok(())
     }
 }

@@ -11,6 +11,7 @@ use Rattle.rkt_request.proofs.request.Request.from_incoming.Goals as goal
 pub returns : goal.returns
 returns g c =
     let method = c.from_wire-method.ensures ∙ ap method_of c.as_str.ensures in
+    let headers = c.in_ok-headers.ensures.headers ∙ ap headers_of c.as_slice.ensures in
     rw c.of_parts-request.ensures
     (record {
       method = c.unwrap_or-method.ensures ∙ ap (λ found. unwrap_or found Get) method;
@@ -18,11 +19,11 @@ returns g c =
       target_read = subst (λ text. ReadAs (Spells OfRequest) text c.in_ok-target.target) c.as_str-2.ensures c.in_ok-target.ensures;
       uri = c.in_ok-uri.ensures;
       faults_are = c.in_ok-faults.ensures ∙ ap (λ found. faults_of found c.in_ok-target.target) method;
-      headers = c.in_ok-headers.ensures ∙ c.in_ok-map.ensures ∙ ap headers_of c.as_slice.ensures;
-      host = subst (λ headers. MaybeReadAs SpellsHost (first_value headers (codes "Host")) c.in_ok-host.host) (sym c.in_ok-headers.ensures) c.in_ok-host.ensures;
+      headers = headers;
+      host = subst (λ headers. MaybeReadAs SpellsHost (first_value headers (codes "Host")) c.in_ok-headers.host) (sym c.in_ok-headers.ensures.headers) c.in_ok-headers.ensures.host;
       remote = refl;
       route = refl;
       config_lent = refl;
       managed_lent = refl;
-      cookies = subst (λ headers. IsJar (values_of headers (codes "Cookie")) c.in_ok-jar.jar) (sym c.in_ok-headers.ensures) c.in_ok-jar.ensures;
+      cookies = subst (λ headers. IsJar (values_of headers (codes "Cookie")) c.in_ok-headers.jar) (sym c.in_ok-headers.ensures.headers) c.in_ok-headers.ensures.cookies;
     })

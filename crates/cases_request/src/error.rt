@@ -1,0 +1,42 @@
+use rkt_base::Want;
+use std::alloc::{AllocError, AllocFailed};
+
+/// Why a case has no other answer.
+#[derive(Drop)]
+pub enum CaseError {
+    /// The line is not of the line language.
+    Line,
+    NoMemory,
+}
+
+impl CaseError {
+    /// What is answered in place of an answer.
+    pub fn text(&self) -> &'static str {
+        match self {
+            CaseError::Line => "? line",
+            CaseError::NoMemory => "out of memory",
+        }
+    }
+}
+
+impl From<AllocError> for CaseError {
+    fn from(_error: AllocError) -> CaseError {
+        CaseError::NoMemory
+    }
+}
+
+impl<T: Drop> From<AllocFailed<T>> for CaseError {
+    fn from(_failed: AllocFailed<T>) -> CaseError {
+        CaseError::NoMemory
+    }
+}
+
+/// A part of a line that does not read makes it no case.
+impl<E: Drop> From<Want<E>> for CaseError {
+    fn from(want: Want<E>) -> CaseError {
+        match want {
+            Want::Refused(_) => CaseError::Line,
+            Want::NoMemory => CaseError::NoMemory,
+        }
+    }
+}
