@@ -24,6 +24,3 @@ pub use pieces::Pieces;
 pub use response::Response;
 pub use to_bytes::ToBytes;
 pub use to_string::ToString;
-
-#[cfg(test)]
-mod tests;

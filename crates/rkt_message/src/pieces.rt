@@ -46,7 +46,7 @@ impl<S: Source> Pieces<S> {
         // What it has to give is what the response is sent as.
         ensures owes { (pieces : List Piece) → Owes S.meaning result pieces ↔ Sent S.meaning response pieces }
     {
-        // Chunks are not empty.
+        // This call tells the prover that a chunk has a byte, which the invariant of `Pieces` asks.
         let _ = response.body().max_chunk_size();
         Pieces {
             begun: Snapshot::of(&response),
@@ -144,6 +144,3 @@ impl<S: Source> Pieces<S> {
         }
     }
 }
-
-#[cfg(test)]
-mod tests;

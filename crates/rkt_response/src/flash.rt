@@ -135,6 +135,3 @@ impl<T: Types, R: Responder<T> + Drop> Responder<T> for Flash<R> {
         self.into_inner().respond_to(alloc, request, ctx)
     }
 }
-
-#[cfg(test)]
-mod tests;

@@ -125,6 +125,3 @@ impl<'a, T: Types> FromRequest<Request<'a, T>, Ctx<T>> for FlashMessage {
         }
     }
 }
-
-#[cfg(test)]
-mod tests;

@@ -9,6 +9,3 @@ pub use flash::Flash;
 pub use flash_message::FlashMessage;
 pub use responder::{Debug, Redirect, Responder};
 pub use rkt_message::{Body, Builder, Piece, PieceError, Pieces, Response, ToBytes, ToString};
-
-#[cfg(test)]
-mod tests;

@@ -11,8 +11,6 @@ mod outcome;
 pub mod route;
 mod router;
 mod step;
-#[cfg(test)]
-mod tests;
 mod tries;
 
 pub use dummy::Dummy;

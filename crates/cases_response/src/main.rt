@@ -1,0 +1,76 @@
+//! The cases of responders and of flash messages: each line of standard input says one, and standard output has it again
+//! behind an arrow, with its answer. `stdout` is the table of cases with the answers that are wanted; `stdin` has its lines
+//! up to the arrow. Empty lines and those that begin with `#` are headings. A line that is none of the language answers
+//! `? line`.
+//!
+//! A responder answers to `GET /` with its status, the size of its body, its headers in brackets and the body's text, or
+//! with `err` and the status that it errs with. INNER is a responder in another: a number is that status, `-` the empty
+//! response, and any other text is a text.
+//!
+//! | Line | The responder |
+//! |---|---|
+//! | `INNER` behind `plain` | that one alone |
+//! | `text KIND TEXT` | a text that is lent (`str`), a `string`, `boxed`, shared (`arc`), or `cow` |
+//! | `bytes KIND TEXT` | the same of bytes: `slice`, `vec`, `boxed`, `arc`, `cow` |
+//! | `some INNER`, `none`, `ok INNER`, `error INNER`, `left INNER`, `right INNER`, `box INNER`, `capped INNER` | std's types, and a body that was cut |
+//! | `debug NUMBER`, `fault`, `gone`, `timed_out` | what only tells of an error |
+//! | `custom CODE INNER`, `pair CODE INNER` | with a status |
+//! | `accepted INNER`, `bad_request`, `unauthorized`, `forbidden`, `not_found`, `conflict`, and `no_content` alone | with its status |
+//! | `json INNER`, `xml`, `msgpack`, `html`, `plain_text`, `css`, `javascript`, `typed TYPE INNER` | with a content type |
+//! | `html_accepted INNER` | both |
+//! | `created PLACE`, `created_with PLACE INNER` | at a place |
+//! | `to URI`, `temporary`, `permanent`, `found`, `moved` | redirects |
+//! | `byte_stream TEXT`, `text_stream TEXT` | a source that gives two bytes at a time |
+//! | `same NUMBER NUMBER` | whether two `Accepted` of these are equal |
+//! | `flash KIND MESSAGE` | what the cookie says, and what a jar sends of it; KIND `success`, `warning` and `error` are made by their own calls |
+//! | `flashing KIND MESSAGE` | the response of `-` with it, and what the jar of the request sends |
+//! | `guard VALUE`, `no_cookie` | what the guard of messages gives where the cookie says this: kind, message and how many changes the jar has then, or the status with which it errs |
+//! | `message VALUE` | kind and message one after another, how many changes, and what the jar sends at the moment 31536001 |
+#![tactic(auto)]
+
+mod answer;
+mod content;
+mod error;
+mod flash;
+mod held;
+mod inner;
+mod message;
+mod redirect;
+mod sample;
+mod shown;
+mod status;
+mod texts;
+mod words;
+
+use crate::answer::answer;
+use std::alloc::Global;
+use std::io;
+
+fn print_answer(rt: &impl Print, line: &str, text: &str) -> io::Result<()> {
+    println!(rt; "{line} -> {text}")
+}
+
+/// Empty lines and those that begin with `#` are headings, and are written as they are.
+fn is_heading(line: &str) -> bool {
+    line.is_empty() || line.starts_with('#')
+}
+
+/// Writes the line, and behind an arrow the answer where it is a case.
+fn print_line(rt: &impl Print, alloc: Global, line: &str) -> io::Result<()> {
+    if is_heading(line) {
+        return rt.println(line);
+    }
+    match answer(alloc, line) {
+        Ok(text) => print_answer(rt, line, text.as_str()),
+        Err(error) => print_answer(rt, line, error.text()),
+    }
+}
+
+fn main(rt: HostRuntime) -> io::Result<()> {
+    let alloc = rt.alloc();
+    for line in rt.lines(alloc) {
+        let line = line?;
+        print_line(&rt, alloc, line.as_str())?;
+    }
+    Ok(())
+}

@@ -1,0 +1,78 @@
+//! Callbacks of the application.
+use crate::sample::Sample;
+use rkt_data::MemorySource;
+use rkt_http::{Outcome, Status};
+use rkt_request::{Body0, Ctx, Request};
+use rkt_response::Response;
+use rkt_router::{CatchHandler, Handler, Step};
+use std::alloc::Global;
+
+/// Leaves each request to another route.
+pub struct Passes;
+
+impl Handler<Sample> for Passes {
+    ghost use Rattle.std.specs.Prelude.{◌≡◌, Some, refl};
+    ghost use Rattle.rkt_http.specs.declared.outcome.Outcome.TheVariants.{Forward};
+    ghost use Rattle.rkt_router.specs.CallbackLaws.{at_once_keeps, grows_same};
+    ghost use Rattle.rkt_router.specs.Callbacks.{at_once};
+
+    type Task = Option<Body0<Sample>>;
+
+    ghost calling = { at_once (λ _ handed task. task ≡ Some handed.body)
+        (λ _ handed before reply after. (reply ≡ Forward (handed.body, record { code = 422 })) × (after ≡ before)) };
+
+    fn start(&self, _request: &Request<'_, Sample>, body: Body0<Sample>) -> Option<Body0<Sample>> {
+        Some(body)
+    }
+
+    fn poll(
+        &self,
+        _alloc: Global,
+        task: &mut Option<Body0<Sample>>,
+        _request: &Request<'_, Sample>,
+        _ctx: &mut Ctx<Sample>,
+    ) -> Step<Outcome<Response<MemorySource>, Status, (Body0<Sample>, Status)>> {
+        match task.take() {
+            Some(body) => Step::Done(Outcome::Forward((body, Status::UnprocessableEntity))),
+            None => unreachable!(),
+        }
+    }
+
+    ghost keeps = { record {
+      keeps = at_once_keeps _ _ (λ _ _ before after _ is. grows_same before after is.1);
+      forwards = λ _ _ _ _ _ _ is. rw is.0 refl;
+    } };
+}
+
+/// Answers each status with itself.
+pub struct Bare;
+
+impl CatchHandler<Sample> for Bare {
+    ghost use Rattle.std.specs.Prelude.{◌≡◌, Ok, ⊤};
+    ghost use Rattle.rkt_response.specs.Responder.{status_alone};
+    ghost use Rattle.rkt_router.specs.CallbackLaws.{at_once_keeps, grows_same};
+    ghost use Rattle.rkt_router.specs.Callbacks.{at_once};
+
+    type Task = Status;
+
+    ghost calling = { at_once (λ _ refused task. task ≡ refused.status)
+        (λ _ refused before answer after. (answer ≡ Ok (status_alone refused.status.code)) × (after ≡ before)) };
+
+    fn start(&self, status: Status, _request: &Request<'_, Sample>) -> Status {
+        status
+    }
+
+    fn poll(
+        &self,
+        alloc: Global,
+        task: &mut Status,
+        _request: &Request<'_, Sample>,
+        _ctx: &mut Ctx<Sample>,
+    ) -> Step<Result<Response<MemorySource>, Status>> {
+        let mut response = Response::new(alloc);
+        response.set_status(*task);
+        Step::Done(Ok(response))
+    }
+
+    ghost keeps = { at_once_keeps _ _ (λ _ _ before after _ is. grows_same before after is.1) };
+}

@@ -1,0 +1,100 @@
+//! The cases of routes, catchers and routers: each line of standard input says one, and standard output has it again behind
+//! an arrow, with its answer. `stdout` is the table of cases with the answers that are wanted; `stdin` has its lines up to
+//! the arrow. Empty lines and those that begin with `#` are headings. A line that is none of the language answers `? line`.
+//!
+//! One router is kept from line to line. A URI or a base that is refused answers `refused at` and the place, a code
+//! `bad code` and the code. A METHOD is a word as `GET`, and a CODE a number or `any`.
+//!
+//! | Line | What it answers |
+//! |---|---|
+//! | `segment TEXT` | the value of a segment, whether it is dynamic, and whether it is trailing |
+//! | `uri BASE PATH` | the whole URI of a route, its base, its path as it was written, and then path, query and default rank |
+//! | `new` | begins with an empty router |
+//! | `route METHOD PATH`, `ranked RANK METHOD PATH` | makes a route with a handler 7, shows it, and mounts it |
+//! | `static RANK METHOD` | the same of static information: named `static`, at `/hello/<name>`, with a handler 9; RANK may be `any` |
+//! | `below FRONT METHOD PATH` | the same of a route of rank 3 that is moved to the base with FRONT before its own |
+//! | `format TYPE METHOD PATH` | the same of a route that asks for a format |
+//! | `numbered COUNT` | mounts `GET /r0`, `GET /r1` and so on, so many |
+//! | `catcher CODE`, `static_catcher CODE`, `default_catcher` | makes a catcher, shows it, and registers it |
+//! | `default_below FRONT` | the same of the default catcher, moved as above |
+//! | `catcher_at BASE CODE` | the same of a catcher of this base |
+//! | `tries METHOD URI` | the positions of the routes that a request is tried on, by the walk, and one after another |
+//! | `catch STATUS URI` | the position of the catcher that is chosen |
+//! | `finalize` | whether the router is taken, or all that collides |
+//! | `media TYPE TYPE` | whether two media types collide |
+//! | `dummy BODY`, `passes BODY` | what a handler answers: `Dummy`, and one that leaves each request to another route |
+//! | `bare STATUS` | what a catcher answers that answers each status with itself |
+//! | `from INNER`, `try_from INNER`, `try_from` | an answer made of a responder: a number is that status, else a text; no responder |
+//! | `error STATUS`, `forward STATUS BODY` | an answer that is made so |
+#![tactic(auto)]
+
+mod answer;
+mod asked;
+mod callbacks;
+mod catchers;
+mod error;
+mod handlers;
+mod replies;
+mod routes;
+mod sample;
+mod uris;
+mod words;
+
+use crate::answer::answer;
+use crate::error::CaseError;
+use crate::routes::SampleRouter;
+use std::alloc::Global;
+use std::io;
+
+fn print_answer(rt: &impl Print, line: &str, text: &str) -> io::Result<()> {
+    println!(rt; "{line} -> {text}")
+}
+
+fn print_error(rt: &impl Print, line: &str, error: CaseError) -> io::Result<()> {
+    match error {
+        CaseError::Place(at) => println!(rt; "{line} -> refused at {at}"),
+        CaseError::Code(code) => println!(rt; "{line} -> bad code {code}"),
+        CaseError::Line => print_answer(rt, line, "? line"),
+        CaseError::NoMemory => print_answer(rt, line, "out of memory"),
+    }
+}
+
+/// Empty lines and those that begin with `#` are headings, and are written as they are.
+fn is_heading(line: &str) -> bool {
+    line.is_empty() || line.starts_with('#')
+}
+
+/// Writes the line, and behind an arrow the answer where it is a case.
+fn print_line(
+    rt: &impl Print,
+    alloc: Global,
+    router: &mut SampleRouter,
+    line: &str,
+) -> io::Result<()> {
+    if is_heading(line) {
+        return rt.println(line);
+    }
+    match answer(alloc, router, line) {
+        Ok(text) => print_answer(rt, line, text.as_str()),
+        Err(error) => print_error(rt, line, error),
+    }
+}
+
+/// Writes each line and its answer.
+fn print_lines<R: Print + Input>(
+    rt: &R,
+    alloc: Global,
+    router: &mut SampleRouter,
+) -> io::Result<()> {
+    for line in rt.lines(alloc) {
+        let line = line?;
+        print_line(rt, alloc, router, line.as_str())?;
+    }
+    Ok(())
+}
+
+fn main(rt: HostRuntime) -> io::Result<()> {
+    let alloc = rt.alloc();
+    let mut router = SampleRouter::new(alloc);
+    print_lines(&rt, alloc, &mut router)
+}
