@@ -2,8 +2,8 @@
 use crate::error::CaseError;
 use crate::shown::Shown;
 use rkt_base::Want;
-use rkt_uri::Segments;
 use rkt_param::{FromParam, FromSegments};
+use rkt_uri::Segments;
 use std::alloc::Global;
 use std::fmt::Display;
 

@@ -50,7 +50,7 @@ fn named(word: &str, count: &str) -> Result<Measure, Error> {
 fn asked(words: &[String]) -> Result<Measure, Error> {
     match words {
         [] => Ok(Measure::Each),
-        [word, count] => measure(word.as_str(), count.as_str()),
+        [word, count] => named(word.as_str(), count.as_str()),
         _ => named("", ""),
     }
 }

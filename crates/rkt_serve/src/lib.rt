@@ -10,7 +10,7 @@ mod list_clock;
 mod list_listener;
 mod listener;
 mod memory_link;
-mod send;
+mod sending;
 mod system_clock;
 mod working;
 
@@ -23,5 +23,5 @@ pub use list_clock::ListClock;
 pub use list_listener::ListListener;
 pub use listener::{Accepted, Listener};
 pub use memory_link::MemoryLink;
-pub use send::send;
+pub use sending::send;
 pub use system_clock::SystemClock;

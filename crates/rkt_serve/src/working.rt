@@ -12,7 +12,7 @@ ghost use Rattle.rkt_serve.specs.Headline.{Balanced};
 ghost use Rattle.rkt_serve.specs.Link.{IsFreshLink};
 ghost use Rattle.rkt_serve.specs.Listener.{GivesMore};
 
-use crate::send::send;
+use crate::sending::send;
 use crate::{Accepted, Clock, End, Entry, EntryOf, Event, EventOf, Link, Listener};
 use rkt_base::{NoMemory, Poll};
 use rkt_data::Gate;

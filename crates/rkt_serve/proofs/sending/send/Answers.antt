@@ -3,7 +3,7 @@ use Rattle.rkt_message.specs.Reading.{ReadsOn}
 use Rattle.rkt_message.specs.Response.{ResponseOf}
 use Rattle.rkt_message.specs.Sending.{ReadOn, Sending}
 use Rattle.rkt_serve.proofs.Pieces.{ended_as}
-use Rattle.rkt_serve.proofs.send.send.Goals as goal
+use Rattle.rkt_serve.proofs.sending.send.Goals as goal
 
 pub returns-clause-read_on : goal.returns-clause-read_on
 returns-clause-read_on g c =

@@ -1,5 +1,5 @@
 use Rattle.std.proofs.Common.{◌≡◌}
-use Rattle.rkt_serve.proofs.send.put.Given as goal
+use Rattle.rkt_serve.proofs.sending.put.Given as goal
 
 -- nothing was taken yet
 abbrev pub invariant-loop : goal.invariant-loop

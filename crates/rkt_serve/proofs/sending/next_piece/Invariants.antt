@@ -1,6 +1,6 @@
 use Rattle.rkt_message.specs.Reading.{ReadsOn}
 use Rattle.rkt_serve.proofs.Sendings.{Waited}
-use Rattle.rkt_serve.proofs.send.next_piece.Given as goal
+use Rattle.rkt_serve.proofs.sending.next_piece.Given as goal
 
 -- it was only Pending
 abbrev pub invariant-loop : goal.invariant-loop

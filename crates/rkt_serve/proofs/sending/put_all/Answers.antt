@@ -3,7 +3,7 @@ use Rattle.rkt_serve.specs.Link.{LinkMeaning, with_taken}
 use Rattle.rkt_serve.proofs.Pieces.{with_taken-nil, with_taken-with_taken}
 use Rattle.rkt_serve.proofs.BodyReads.{reads_none, reads_more}
 use Rattle.rkt_serve.proofs.Sendings.{sent_nothing, sent_more, sent_all}
-use Rattle.rkt_serve.proofs.send.put_all.Goals as goal
+use Rattle.rkt_serve.proofs.sending.put_all.Goals as goal
 
 pub loop-init : goal.loop-init
 loop-init g c = (tt, tt, ([], sent_nothing g.S.Source.meaning c.args.pieces.now c.requires.begins c.requires.first, sym (with_taken-nil _)), reads_none g.S.Source.meaning c.args.gate.tripped c.args.pieces.now.response.body.content)

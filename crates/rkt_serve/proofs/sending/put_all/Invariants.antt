@@ -3,7 +3,7 @@ use Rattle.rkt_message.specs.Reading.{ReadsOn}
 use Rattle.rkt_message.specs.declared.piece.Piece.{Piece}
 use Rattle.rkt_serve.specs.Link.{with_taken}
 use Rattle.rkt_serve.specs.Progress.{PartlySent}
-use Rattle.rkt_serve.proofs.send.put_all.Given as goal
+use Rattle.rkt_serve.proofs.sending.put_all.Given as goal
 
 -- the pieces that were sent so far
 abbrev pub invariant-loop : goal.invariant-loop

@@ -2,7 +2,7 @@ use Rattle.std.proofs.Common.{◌∙◌, ap, sym, refl}
 use Rattle.rkt_base.specs.declared.poll.Poll.TheVariants.{Ready}
 use Rattle.rkt_serve.proofs.BodyReads.{reads_none, reads_more}
 use Rattle.rkt_serve.proofs.Sendings.{waited_none, waited_more, waited_fails, ready_gives, no_head}
-use Rattle.rkt_serve.proofs.send.next_piece.Goals as goal
+use Rattle.rkt_serve.proofs.sending.next_piece.Goals as goal
 
 pub loop-init : goal.loop-init
 loop-init g c = (tt, tt, waited_none g.S.Source.meaning c.args.pieces.now c.requires.read_on, reads_none g.S.Source.meaning c.args.gate.tripped c.args.pieces.now.response.body.content)
