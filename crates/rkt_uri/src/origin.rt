@@ -1,4 +1,4 @@
-ghost use Rattle.std.specs.Prelude.{◌≡◌, ◌<◌, ◌∷◌, [], IfOk, map, None, option_copied, string_bytes};
+ghost use Rattle.std.specs.Prelude.{◌≡◌, ◌<◌, ◌∷◌, ◌++◌, [], IfOk, OnOk, map, None, option_copied, string_bytes};
 ghost use Rattle.std.specs.List.{before_first, join_with_byte};
 ghost use Rattle.rkt_base.specs.Want.{IfRefused, GivesUnlessNoMemory};
 ghost use Rattle.rkt_grammar.specs.Grammar.{LeavesAt, behind_first};
@@ -76,16 +76,32 @@ fn read_field(alloc: Global, piece: &str) -> Result<(Text, Text), NoMemory>
     ))
 }
 
+/// Adds the segment that a piece of a path says.
+fn push_segment(alloc: Global, segments: &mut Seq<Text>, piece: &str) -> Result<(), NoMemory>
+    ensures { OnOk result (segments.new ≡ segments.old ++ decoded piece.now ∷ []) }
+{
+    segments.push(decode(alloc, piece.as_bytes())?)?;
+    Ok(())
+}
+
 fn read_segments(alloc: Global, path: &str) -> Result<Seq<Text>, NoMemory>
     ensures { IfOk result (λ v. v ≡ map decoded (pieces 47 path.now)) }
 {
     let mut segments = Seq::new(alloc);
     for piece in path.split('/') {
         if !piece.is_empty() {
-            segments.push(decode(alloc, piece.as_bytes())?)?;
+            push_segment(alloc, &mut segments, piece)?;
         }
     }
     Ok(segments)
+}
+
+/// Adds the field that a piece of a query says.
+fn push_field(alloc: Global, fields: &mut Vec<(Text, Text)>, piece: &str) -> Result<(), NoMemory>
+    ensures { OnOk result (fields.new.items ≡ fields.old.items ++ field_of piece.now ∷ []) }
+{
+    fields.push(read_field(alloc, piece)?)?;
+    Ok(())
 }
 
 fn read_fields(alloc: Global, query: &str) -> Result<Vec<(Text, Text)>, NoMemory>
@@ -94,7 +110,7 @@ fn read_fields(alloc: Global, query: &str) -> Result<Vec<(Text, Text)>, NoMemory
     let mut fields = Vec::new(alloc);
     for piece in query.split('&') {
         if !piece.is_empty() {
-            fields.push(read_field(alloc, piece)?)?;
+            push_field(alloc, &mut fields, piece)?;
         }
     }
     Ok(fields)
