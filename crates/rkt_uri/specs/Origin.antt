@@ -1,5 +1,5 @@
 -- The grammar of an origin: a path that begins with a slash, and maybe a query.
-use Rattle.std.specs.Prelude.{ℕ, ◌≡◌, List, [], ◌∷◌, ◌++◌, Bool, false, ◌==◌, ◌||◌, ◌&&◌, nat_le, codes, Option, Some, None, IfSome, if◌then◌else◌, length, filter, map, not, unwrap_or}
+use Rattle.std.specs.Prelude.{ℕ, ◌≡◌, List, [], ◌∷◌, ◌++◌, Bool, false, ◌==◌, ◌||◌, codes, Option, Some, None, IfSome, if◌then◌else◌, length, filter, map, not, unwrap_or}
 use Rattle.std.specs.List.{list_any, before_first, after_first, slice_split, join_with_byte}
 use Rattle.std.specs.Str.Lossy.{utf8_lossy}
 use Rattle.percent_encoding.specs.Percent.{percent_decode}

@@ -1,8 +1,8 @@
-ghost use Rattle.std.specs.Prelude.{◌≡◌, ◌<◌, ◌∷◌, [], IfOk, map, None, option_copied, string_bytes};
+ghost use Rattle.std.specs.Prelude.{◌≡◌, ◌<◌, ◌∷◌, ◌++◌, [], IfOk, OnOk, map, None, option_copied, string_bytes};
 ghost use Rattle.std.specs.List.{before_first, join_with_byte};
 ghost use Rattle.rkt_base.specs.Want.{IfRefused, GivesUnlessNoMemory};
 ghost use Rattle.rkt_grammar.specs.Grammar.{LeavesAt, behind_first};
-ghost use Rattle.rkt_uri.specs.Origin.{Target, Spells, IsOrigin, IsTarget, spelling, decoded, decoded_field_part, unplus, field_of, pieces, raw_segments_of, segments_of, fields_of, target_of, is_question, query_in, led, normal_form, normalized, is_ampersand};
+ghost use Rattle.rkt_uri.specs.Origin.{Target, Spells, IsOrigin, IsTarget, spelling, decoded, decoded_field_part, unplus, field_of, pieces, raw_segments_of, segments_of, fields_of, target_of, is_question, query_in, query_text, led, normal_form, normalized, is_ampersand};
 
 use crate::origin_iter::{QueryFields, RawSegments};
 use crate::origin_place::{OriginPlace, Profile};
@@ -76,16 +76,32 @@ fn read_field(alloc: Global, piece: &str) -> Result<(Text, Text), NoMemory>
     ))
 }
 
+/// Adds the segment that a piece of a path says.
+fn push_segment(alloc: Global, segments: &mut Seq<Text>, piece: &str) -> Result<(), NoMemory>
+    ensures { OnOk result (segments.new ≡ segments.old ++ decoded piece.now ∷ []) }
+{
+    segments.push(decode(alloc, piece.as_bytes())?)?;
+    Ok(())
+}
+
 fn read_segments(alloc: Global, path: &str) -> Result<Seq<Text>, NoMemory>
     ensures { IfOk result (λ v. v ≡ map decoded (pieces 47 path.now)) }
 {
     let mut segments = Seq::new(alloc);
     for piece in path.split('/') {
         if !piece.is_empty() {
-            segments.push(decode(alloc, piece.as_bytes())?)?;
+            push_segment(alloc, &mut segments, piece)?;
         }
     }
     Ok(segments)
+}
+
+/// Adds the field that a piece of a query says.
+fn push_field(alloc: Global, fields: &mut Vec<(Text, Text)>, piece: &str) -> Result<(), NoMemory>
+    ensures { OnOk result (fields.new.items ≡ fields.old.items ++ field_of piece.now ∷ []) }
+{
+    fields.push(read_field(alloc, piece)?)?;
+    Ok(())
 }
 
 fn read_fields(alloc: Global, query: &str) -> Result<Vec<(Text, Text)>, NoMemory>
@@ -94,7 +110,7 @@ fn read_fields(alloc: Global, query: &str) -> Result<Vec<(Text, Text)>, NoMemory
     let mut fields = Vec::new(alloc);
     for piece in query.split('&') {
         if !piece.is_empty() {
-            fields.push(read_field(alloc, piece)?)?;
+            push_field(alloc, &mut fields, piece)?;
         }
     }
     Ok(fields)
@@ -177,19 +193,25 @@ fn behind_ampersand(text: &str) -> Option<&str>
     }
 }
 
+/// Adds a query behind its question mark, if there is one.
+fn push_query(text: &mut String, query: Option<&str>) -> Result<(), NoMemory>
+    ensures { OnOk result (string_bytes text.new ≡ string_bytes text.old ++ query_text (option_copied query.entry)) }
+{
+    if let Some(query) = query {
+        text.push_str("?")?;
+        text.push_str(query)?;
+    }
+    Ok(())
+}
+
 /// The text of an origin's normal form.
 fn normal_text(alloc: Global, path: &str, query: &str) -> Result<Text, NoMemory>
     ensures { IfOk result (λ t. t ≡ spelling (normal_form path.now query.now)) }
 {
+    let fields = led_pieces(alloc, query, '&')?;
     let mut text = normal_path(alloc, path)?;
-    match behind_ampersand(led_pieces(alloc, query, '&')?.as_str()) {
-        Some(query) => {
-            text.push_str("?")?;
-            text.push_str(query)?;
-            Ok(Text::from_string(text))
-        }
-        None => Ok(Text::from_string(text)),
-    }
+    push_query(&mut text, behind_ampersand(fields.as_str()))?;
+    Ok(Text::from_string(text))
 }
 
 impl Origin {
