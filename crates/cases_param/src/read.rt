@@ -1,19 +1,19 @@
 //! What a type reads of a text or of segments.
 use crate::error::CaseError;
-use crate::shown::Shown;
+use crate::shown::{Shown, ShownError};
 use rkt_base::Want;
 use rkt_param::{FromParam, FromSegments};
 use rkt_uri::Segments;
 use std::alloc::Global;
 use std::fmt::Display;
 
-fn refused<E: Shown>(alloc: Global, error: &E) -> Result<String, CaseError> {
-    let error = error.shown(alloc)?;
+fn refused<E: ShownError>(alloc: Global, error: &E) -> Result<String, CaseError> {
+    let error = E::shown_error(alloc, Some(error))?;
     Ok(format!(in alloc; "refused {error}")?)
 }
 
 /// A value, or the error in its place.
-fn shown<P: Shown + Drop, E: Shown + Drop>(
+fn shown<P: Shown + Drop, E: ShownError + Drop>(
     alloc: Global,
     read: Result<P, Want<E>>,
 ) -> Result<String, CaseError> {
@@ -25,7 +25,7 @@ fn shown<P: Shown + Drop, E: Shown + Drop>(
 }
 
 /// The same of a value that prints.
-fn printed<P: Display + Drop, E: Shown + Drop>(
+fn printed<P: Display + Drop, E: ShownError + Drop>(
     alloc: Global,
     read: Result<P, Want<E>>,
 ) -> Result<String, CaseError> {
@@ -50,7 +50,7 @@ pub fn read_shown<P: FromParam + Shown + Drop>(
     text: &str,
 ) -> Result<String, CaseError>
 where
-    P::Error: Shown,
+    P::Error: ShownError,
 {
     shown(alloc, P::from_param(alloc, text))
 }
@@ -61,7 +61,7 @@ pub fn read_segments<P: FromSegments + Shown + Drop>(
     segments: Segments<'_>,
 ) -> Result<String, CaseError>
 where
-    P::Error: Shown,
+    P::Error: ShownError,
 {
     shown(alloc, P::from_segments(alloc, segments))
 }

@@ -39,12 +39,6 @@ impl Shown for PathError {
     }
 }
 
-impl Shown for Infallible {
-    fn shown(&self, _alloc: Global) -> Result<String, CaseError> {
-        match *self {}
-    }
-}
-
 /// A value between brackets, behind the name of its variant.
 fn named<V: Shown>(alloc: Global, name: &str, value: &V) -> Result<String, CaseError> {
     let inner = value.shown(alloc)?;
@@ -60,11 +54,47 @@ impl<V: Shown> Shown for Option<V> {
     }
 }
 
-impl<V: Shown, E: Shown> Shown for Result<V, E> {
+/// An error between brackets.
+fn named_error<E: ShownError>(alloc: Global, error: &E) -> Result<String, CaseError> {
+    let inner = E::shown_error(alloc, Some(error))?;
+    Ok(format!(in alloc; "Err({inner})")?)
+}
+
+impl<V: Shown, E: ShownError> Shown for Result<V, E> {
     fn shown(&self, alloc: Global) -> Result<String, CaseError> {
         match self {
             Ok(value) => named(alloc, "Ok", value),
-            Err(error) => named(alloc, "Err", error),
+            Err(error) => named_error(alloc, error),
         }
+    }
+}
+
+/// An error with a text for the answer. It is handed in as an option, since a type of errors may have no value.
+pub trait ShownError: Sized {
+    fn shown_error(alloc: Global, error: Option<&Self>) -> Result<String, CaseError>;
+}
+
+fn shown_or_empty<E: Shown>(alloc: Global, error: Option<&E>) -> Result<String, CaseError> {
+    match error {
+        Some(error) => error.shown(alloc),
+        None => Ok(String::new(alloc)),
+    }
+}
+
+impl ShownError for String {
+    fn shown_error(alloc: Global, error: Option<&String>) -> Result<String, CaseError> {
+        shown_or_empty(alloc, error)
+    }
+}
+
+impl ShownError for PathError {
+    fn shown_error(alloc: Global, error: Option<&PathError>) -> Result<String, CaseError> {
+        shown_or_empty(alloc, error)
+    }
+}
+
+impl ShownError for Infallible {
+    fn shown_error(alloc: Global, _error: Option<&Infallible>) -> Result<String, CaseError> {
+        Ok(String::new(alloc))
     }
 }

@@ -3,7 +3,7 @@ use crate::app::Sample;
 use crate::error::CaseError;
 use crate::kept::{Server, gate_at};
 use crate::requests::made_request;
-use crate::shown::Shown;
+use crate::shown::{Shown, ShownError};
 use crate::words::{first_word, long, number, unescaped};
 use rkt_base::{NoMemory, Poll};
 use rkt_data::{CancellableIo, Capped, Data, MemorySource};
@@ -34,7 +34,7 @@ fn guarded<G: FromData<Sample> + Shown + Drop>(
     body: Body0<Sample>,
 ) -> Result<String, CaseError>
 where
-    G::Error: Shown,
+    G::Error: ShownError,
 {
     let outcome = polled::<G>(alloc, request, body)?;
     outcome.shown(alloc)

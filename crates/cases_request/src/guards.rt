@@ -1,7 +1,7 @@
 //! Guards of requests, by the names of their types.
 use crate::app::Sample;
 use crate::error::CaseError;
-use crate::shown::Shown;
+use crate::shown::{Shown, ShownError};
 use rkt_http::{Accept, ContentType, Host, Method, Origin, Outcome, Status};
 use rkt_request::{Ctx, FromRequest, Limits, Mounted, Request, State};
 use std::alloc::Global;
@@ -18,7 +18,7 @@ fn asked<'a, G: FromRequest<Request<'a, Sample>, Ctx<Sample>> + Shown + Drop>(
     ctx: &mut Ctx<Sample>,
 ) -> Result<String, CaseError>
 where
-    G::Error: Shown,
+    G::Error: ShownError,
 {
     let outcome = request.guard::<G>(alloc, ctx)?;
     outcome.shown(alloc)

@@ -1,7 +1,7 @@
 //! Parameters of requests, by the names of their types.
 use crate::app::Sample;
 use crate::error::CaseError;
-use crate::shown::Shown;
+use crate::shown::{Shown, ShownError};
 use rkt_base::Want;
 use rkt_http::{PathBuf, PathError, Segments};
 use rkt_request::{FromParam, FromSegments, Request};
@@ -11,13 +11,13 @@ fn none(alloc: Global) -> Result<String, CaseError> {
     Ok(String::from_str(alloc, "none")?)
 }
 
-fn refused<E: Shown>(alloc: Global, error: &E) -> Result<String, CaseError> {
-    let error = error.shown(alloc)?;
+fn refused<E: ShownError>(alloc: Global, error: &E) -> Result<String, CaseError> {
+    let error = E::shown_error(alloc, Some(error))?;
     Ok(format!(in alloc; "refused {error}")?)
 }
 
 /// A value, or the error in its place.
-fn value_or_error<P: Shown + Drop, E: Shown + Drop>(
+fn value_or_error<P: Shown + Drop, E: ShownError + Drop>(
     alloc: Global,
     read: Result<P, Want<E>>,
 ) -> Result<String, CaseError> {
@@ -35,7 +35,7 @@ fn read<P: FromParam + Shown + Drop>(
     n: usize,
 ) -> Result<String, CaseError>
 where
-    P::Error: Shown,
+    P::Error: ShownError,
 {
     match request.param::<P>(alloc, n) {
         Some(read) => value_or_error(alloc, read),
@@ -66,7 +66,7 @@ fn read_from<P: FromSegments + Shown + Drop>(
     n: usize,
 ) -> Result<String, CaseError>
 where
-    P::Error: Shown,
+    P::Error: ShownError,
 {
     value_or_error(alloc, request.segments::<P>(alloc, n..))
 }

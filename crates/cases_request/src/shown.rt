@@ -74,12 +74,6 @@ impl Shown for GuardError {
     }
 }
 
-impl Shown for Infallible {
-    fn shown(&self, _alloc: Global) -> Result<String, CaseError> {
-        match *self {}
-    }
-}
-
 impl Shown for () {
     fn shown(&self, alloc: Global) -> Result<String, CaseError> {
         copied(alloc, "()")
@@ -164,11 +158,17 @@ impl<V: Shown> Shown for Option<V> {
     }
 }
 
-impl<V: Shown, E: Shown> Shown for Result<V, E> {
+/// An error between brackets.
+fn named_error<E: ShownError>(alloc: Global, error: &E) -> Result<String, CaseError> {
+    let inner = E::shown_error(alloc, Some(error))?;
+    Ok(format!(in alloc; "Err({inner})")?)
+}
+
+impl<V: Shown, E: ShownError> Shown for Result<V, E> {
     fn shown(&self, alloc: Global) -> Result<String, CaseError> {
         match self {
             Ok(value) => named(alloc, "Ok", value),
-            Err(error) => named(alloc, "Err", error),
+            Err(error) => named_error(alloc, error),
         }
     }
 }
@@ -196,9 +196,9 @@ impl<V: Shown> Shown for Capped<V> {
 }
 
 /// An error with its status.
-impl<E: Shown> Shown for (Status, E) {
+impl<E: ShownError> Shown for (Status, E) {
     fn shown(&self, alloc: Global) -> Result<String, CaseError> {
-        let inner = self.1.shown(alloc)?;
+        let inner = E::shown_error(alloc, Some(&self.1))?;
         Ok(format!(in alloc; "{}, {inner}", self.0.code)?)
     }
 }
@@ -207,5 +207,47 @@ impl<E: Shown> Shown for (Status, E) {
 impl Shown for (Body0<Sample>, Status) {
     fn shown(&self, alloc: Global) -> Result<String, CaseError> {
         self.1.shown(alloc)
+    }
+}
+
+/// An error with a text for the answer. It is handed in as an option, since a type of errors may have no value.
+pub trait ShownError: Sized {
+    fn shown_error(alloc: Global, error: Option<&Self>) -> Result<String, CaseError>;
+}
+
+fn shown_or_empty<E: Shown>(alloc: Global, error: Option<&E>) -> Result<String, CaseError> {
+    match error {
+        Some(error) => error.shown(alloc),
+        None => Ok(String::new(alloc)),
+    }
+}
+
+impl ShownError for String {
+    fn shown_error(alloc: Global, error: Option<&String>) -> Result<String, CaseError> {
+        shown_or_empty(alloc, error)
+    }
+}
+
+impl ShownError for PathError {
+    fn shown_error(alloc: Global, error: Option<&PathError>) -> Result<String, CaseError> {
+        shown_or_empty(alloc, error)
+    }
+}
+
+impl ShownError for GuardError {
+    fn shown_error(alloc: Global, error: Option<&GuardError>) -> Result<String, CaseError> {
+        shown_or_empty(alloc, error)
+    }
+}
+
+impl ShownError for () {
+    fn shown_error(alloc: Global, error: Option<&()>) -> Result<String, CaseError> {
+        shown_or_empty(alloc, error)
+    }
+}
+
+impl ShownError for Infallible {
+    fn shown_error(alloc: Global, _error: Option<&Infallible>) -> Result<String, CaseError> {
+        Ok(String::new(alloc))
     }
 }

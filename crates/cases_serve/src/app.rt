@@ -1,4 +1,6 @@
 //! The application that lines speak of.
+ghost use Rattle.std.specs.Prelude.{◌≡◌};
+
 use crate::error::CaseError;
 use crate::setting::Pair;
 use rkt_base::NoMemory;
