@@ -5,7 +5,7 @@
 //!
 //! | Line | Answer |
 //! |---|---|
-//! | `turns OTHERS TURNS` | a first pass and so many others each write their number in so many turns, the others in threads of their own: how many entries there are, how many of each pass, and whether the first pass has seen a front of them that has all of its own |
+//! | `turns OTHERS TURNS` | a first pass and so many others each write in so many turns that they begin something, and then that they have ended it, the others in threads of their own: how many entries there are, how many of each pass, and whether the first pass has seen a front of them that has all of its own |
 //! | `threads WORD WORD` | one thread waits at a wire, which another trips with the first word and then with the second: what each saw, and what a third handle has seen before and after it notifies with the second |
 //! | `wire STEP \| STEP ..` | the answers of two handles of one wire |
 //!
@@ -15,6 +15,7 @@
 #![tactic(auto)]
 
 mod crossing;
+mod diary;
 mod error;
 mod turns;
 mod wires;

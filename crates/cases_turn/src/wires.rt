@@ -18,9 +18,11 @@ struct Why {
 }
 
 impl Reason for Why {
-    ghost use Rattle.std.specs.Prelude.{◌<◌};
+    ghost use Rattle.std.specs.Prelude.{◌≡◌, ◌<◌};
 
     ghost allowed = { λ word. 0 < word };
+
+    ghost says = { λ why word. word ≡ why.word };
 
     fn word(self) -> u64 {
         self.word

@@ -26,43 +26,6 @@ fn add_all<R: Wait>(rt: &R, lock: &Turnstile<Tally>, pass: &mut Pass<Tally>, cou
     }
 }
 
-// Splits off so many passes.
-fn split_all(
-    lock: &Turnstile<Tally>,
-    alloc: Global,
-    first: &mut Pass<Tally>,
-    count: usize,
-) -> Vec<Pass<Tally>>
-    requires own { IsPassOf lock.now first.old × IsFirst first.old × IsIdle first.old }
-    requires alone { (known first.old).out ≡ [] }
-    ensures own { IsPassOf lock.now first.new × IsFirst first.new × IsIdle first.new }
-    ensures out { length (known first.new).out ≡ vec_len result }
-    ensures ready { All (λ p. IsPassOf lock.now p × IsIdle p) result.items }
-{
-    let mut passes = Vec::new(alloc);
-    for _ in 0..count {
-        if passes.reserve(1).is_err() {
-            break;
-        }
-        let pass = first.split(lock);
-        passes.push_reserved(pass);
-    }
-    passes
-}
-
-// Takes every pass back.
-fn join_all(lock: &Turnstile<Tally>, first: &mut Pass<Tally>, mut passes: Vec<Pass<Tally>>)
-    requires own { IsPassOf lock.now first.old × IsFirst first.old × IsIdle first.old }
-    requires out { length (known first.old).out ≡ vec_len passes }
-    requires ready { All (λ p. IsPassOf lock.now p × IsIdle p) passes.items }
-    ensures own { IsPassOf lock.now first.new × IsFirst first.new × IsIdle first.new }
-    ensures out { (known first.new).out ≡ [] }
-{
-    while let Some(pass) = passes.pop() {
-        first.join(lock, pass);
-    }
-}
-
 // As many threads, each of which takes so many turns. Answers the tally.
 fn taken<R: Threads + Wait + Sync>(
     rt: &R,
@@ -70,21 +33,19 @@ fn taken<R: Threads + Wait + Sync>(
     threads: usize,
     count: u32,
 ) -> Result<u64, AllocError> {
-    match Turnstile::new(alloc, (), Tally { turns: 0 }) {
-        Err(Tally { turns: _ }) => Err(AllocError),
-        Ok((lock, mut first)) => {
-            let mut passes = split_all(&lock, alloc, &mut first, threads);
-            let shared = &lock;
-            thread::for_each_mut(
-                rt,
-                passes.as_mut_slice(),
-                8,
-                &|_, pass| { add_all(rt, shared, pass, count) },
-            );
-            join_all(&lock, &mut first, passes);
-            Ok(lock.close(first).turns)
-        }
-    }
+    let Ok((lock, mut first)) = Turnstile::new(alloc, (), Tally { turns: 0 }) else {
+        return Err(AllocError);
+    };
+    let mut passes = first.split_all(alloc, &lock, threads)?;
+    let shared = &lock;
+    thread::for_each_mut(
+        rt,
+        passes.as_mut_slice(),
+        8,
+        &|_, pass| { add_all(rt, shared, pass, count) },
+    );
+    first.join_all(&lock, passes);
+    Ok(lock.close(first).turns)
 }
 
 // How many in a second.

@@ -1,7 +1,8 @@
 -- The entries of one pass, beginnings of one list, and how often a number stands in a list or among the passes.
-use Rattle.std.proofs.Common.{◌≡◌, ◌≢◌, ℕ, zero, suc, ◌+◌, ◌-◌, ◌<◌, ◌≤◌, Bool, length-append, eqb, true, false, cond, ltb, List, [], ◌∷◌, ◌++◌, length, set, sym, refl, ap, ◌∙◌, subst, inl, inr, ⊎_elim, arith, eq-eqb, ne_eqb, append_assoc}
+use Rattle.std.proofs.Common.{◌≡◌, ◌≢◌, ℕ, zero, suc, ◌+◌, ◌-◌, ◌<◌, ◌≤◌, Bool, length-append, eqb, true, false, cond, ltb, List, [], ◌∷◌, ◌++◌, drop, length, set, sym, refl, ap, ◌∙◌, subst, inl, inr, ⊎_elim, arith, eq-eqb, ne_eqb, append_assoc}
 use Rattle.std.proofs.lemmas.List.Elements.{filter-append}
 use Rattle.std.proofs.lemmas.List.{append-nil, nil_from_length}
+use Rattle.std.proofs.Math.Seq.{drop-append_seam, drop-length}
 use Rattle.std.proofs.lemmas.Bool.{ltb-true, ltb-false}
 use mathlib.Core.Logic.{dite}
 use mathlib.Core.Option.{some, some-injective, some-ne-none}
@@ -9,8 +10,8 @@ use native.Mathlib.Decide.{ℕ_discrete}
 use lib.ListN.{get_elem?}
 use Rattle.atomic_table.proofs.Lists.{at_set}
 use Rattle.rkt_turn.specs.declared.known.Known.{Known}
-use Rattle.rkt_turn.specs.Booked.{StartsWith, InOneOrder, longer, of, AreOf}
-use Rattle.rkt_turn.specs.Known.{one, times, without, has, count}
+use Rattle.rkt_turn.specs.Booked.{StartsWith, InOneOrder, longer, of, AreOf, Adds}
+use Rattle.rkt_turn.specs.Known.{one, times, without, has, count, joined, joined_all, HaveSeen}
 
 pub one_same : (n : ℕ) → one n n ≡ 1
 one_same n = ap (λ b. cond b 1 0) (eq-eqb n n refl)
@@ -31,12 +32,22 @@ module _ {E : Type 0} (number : E → ℕ) where
   pub of_added_other : (n k : ℕ) (base added : List E) → AreOf number n added → n ≢ k → of number k (base ++ added) ≡ of number k base
   of_added_other n k base added a ne = filter-append (λ e. eqb (number e) k) base added ∙ (ap (λ l. of number k base ++ l) (of_other n k added a ne) ∙ append-nil (of number k base))
 
+  -- what a turn adds to the list, it adds to the pass's own entries
+  pub adds_after : (n : ℕ) (base list mine : List E) → Adds number n base list → Adds number n mine (mine ++ drop (length base) list)
+  adds_after n base list mine a = ⊎_elim
+      (λ (e : list ≡ base). inl (ap (λ l. mine ++ drop (length base) l) e ∙ (ap (λ l. mine ++ l) (drop-length base) ∙ append-nil mine)))
+      (λ (t : (e : E) × (number e ≡ n) × (list ≡ base ++ e ∷ [])). inr (t.0, t.1, ap (λ l. mine ++ drop (length base) l) t.2 ∙ ap (λ l. mine ++ l) (drop-append_seam base (t.0 ∷ []))))
+      a
+
   pub of_added_same : (n : ℕ) (base added : List E) → AreOf number n added → of number n (base ++ added) ≡ of number n base ++ added
   of_added_same n base added a = filter-append (λ e. eqb (number e) n) base added ∙ ap (λ l. of number n base ++ l) (of_same n added a)
 
 module _ {E : Type 0} where
   pub starts_whole : (list : List E) → StartsWith list list
   starts_whole list = ([], sym (append-nil list))
+
+  pub starts_again : (a b c : List E) → StartsWith a b → StartsWith b c → StartsWith a c
+  starts_again a b c s t = (t.0 ++ s.0, s.1 ∙ (ap (λ l. l ++ s.0) t.1 ∙ append_assoc c t.0 s.0))
 
   pub starts_longer : (list seen added : List E) → StartsWith list seen → StartsWith (list ++ added) seen
   starts_longer list seen added s = (s.0 ++ added, ap (λ l. l ++ added) s.1 ∙ append_assoc seen s.0 added)
@@ -94,6 +105,15 @@ length_without n (k ∷ j ∷ ks) = dite (ℕ_discrete n k)
     ap (λ q. length (cond q (j ∷ ks) (k ∷ without n (j ∷ ks)))) (ne_eqb n k ne) ∙ omega arith)
 
 module _ {N E : Type 0} where
+  -- the last pass is joined first
+  pub joined_all_last : (v w : Known N E) (ws : List (Known N E)) → joined_all v (ws ++ w ∷ []) ≡ joined_all (joined v w) ws
+  joined_all_last v w [] = refl
+  joined_all_last v w (u ∷ us) = ap (λ x. joined x u) (joined_all_last v w us)
+
+  pub seen_last : (list : List E) (w : Known N E) (ws : List (Known N E)) → HaveSeen list ws → StartsWith list w.seen → HaveSeen list (ws ++ w ∷ [])
+  seen_last list w [] h s = (s, tt)
+  seen_last list w (u ∷ us) h s = (h.0, seen_last list w us h.1 s)
+
   pub count_set : (n : ℕ) (vs : List (Known N E)) (i : ℕ) (v w : Known N E) → get_elem? vs i ≡ some v → count n (set vs i w) + has n v ≡ count n vs + has n w
   count_set n [] i v w e = absurd (some-ne-none v (sym e))
   count_set n (x ∷ xs) zero v w e = let same : has n x ≡ has n v = ap (has n) (some-injective x v e) in let a : ℕ = has n x in let b : ℕ = has n v in let c : ℕ = has n w in let d : ℕ = count n xs in

@@ -1,9 +1,9 @@
 -- What a pass knows, and how a call changes it.
-use Rattle.std.specs.Prelude.{◌≡◌, ℕ, ◌+◌, ◌<◌, ◌==◌, false, true, if◌then◌else◌, List, [], ◌∷◌, ◌++◌, drop, length, Some, None}
+use Rattle.std.specs.Prelude.{◌≡◌, ℕ, zero, suc, ◌+◌, ◌<◌, ◌==◌, false, true, if◌then◌else◌, List, [], ◌∷◌, ◌++◌, drop, length, Some, None, ⊤}
 use Rattle.atomic_table.specs.declared.shared.Seat.{Seat}
 use Rattle.rkt_turn.specs.declared.known.Known.{Known}
 use Rattle.rkt_turn.specs.declared.known.Returned.{Returned}
-use Rattle.rkt_turn.specs.Booked.{longer, of, AreOf, Adds}
+use Rattle.rkt_turn.specs.Booked.{StartsWith, longer, of, AreOf, Adds}
 
 -- 2 ^ 64 - 2, the last number, which is given again and again
 abbrev pub last_number : ℕ
@@ -43,6 +43,10 @@ module _ {N E : Type 0} where
   abbrev pub gave : Known N E → List E → Known N E
   gave v list = record v { turn = false; opened = true; base = []; seen = list; mine = v.mine ++ drop (length v.base) list }
 
+  -- what a turn added to the list stands behind the pass's own entries
+  abbrev pub OwnsAdded : Known N E → List E → Known N E → Type 0
+  OwnsAdded v list w = (added : List E) → list ≡ v.base ++ added → w.mine ≡ v.mine ++ added
+
   -- what a turn leaves alone: the name, the number and which passes are out or came back
   abbrev pub SamePlace : Known N E → Known N E → Type 0
   SamePlace v w = (w.name ≡ v.name) × (w.number ≡ v.number) × (w.next ≡ v.next) × (w.out ≡ v.out) × (w.back ≡ v.back)
@@ -54,6 +58,16 @@ module _ {N E : Type 0} where
   -- the pass that gets the number, which has seen as much
   abbrev pub another : Known N E → Known N E
   another v = record { name = v.name; number = v.next; next = 0; turn = false; opened = v.opened; spent = false; base = []; seen = v.seen; other = []; mine = []; out = []; back = [] }
+
+  -- the first pass, after it gave so many numbers away
+  abbrev pub drawn : ℕ → Known N E → Known N E
+  drawn zero v = v
+  drawn (suc n) v = drew (drawn n v)
+
+  -- the passes that get these numbers, in order
+  abbrev pub split_off : ℕ → Known N E → List (Known N E)
+  split_off zero v = []
+  split_off (suc n) v = split_off n v ++ another (drawn n v) ∷ []
 
   -- what a pass gives back when it is joined
   abbrev pub given_back : Known N E → Returned E
@@ -70,6 +84,16 @@ module _ {N E : Type 0} where
   -- the first pass, after it took another one in: it has seen the longer list
   abbrev pub joined : Known N E → Known N E → Known N E
   joined v w = compared (took_in v w)
+
+  -- the first pass, after it took all of these in, the last one first
+  abbrev pub joined_all : Known N E → List (Known N E) → Known N E
+  joined_all v [] = v
+  joined_all v (w ∷ ws) = joined (joined_all v ws) w
+
+  -- the list begins with what each of these passes has seen
+  abbrev pub HaveSeen : List E → List (Known N E) → Type 0
+  HaveSeen list [] = ⊤
+  HaveSeen list (w ∷ ws) = StartsWith list w.seen × HaveSeen list ws
 
   -- a pass that was joined to the first
   abbrev pub gone : Known N E

@@ -1,5 +1,5 @@
 -- What a pass knows, and whose pass it is.
-use Rattle.std.specs.Prelude.{◌≡◌, true, false}
+use Rattle.std.specs.Prelude.{◌≡◌, true, false, []}
 use Rattle.rkt_turn.specs.declared.known.Known.{Known}
 use Rattle.rkt_turn.specs.declared.pass.PassOf.{PassOf}
 use Rattle.rkt_turn.specs.declared.turnstile.Turnstile.{Turnstile}
@@ -19,6 +19,10 @@ module _ {S N E : Type 0} where
   -- it has no turn, and the lock has its state
   abbrev pub IsIdle : PassOf S N E → Type 0
   IsIdle pass = ((known pass).turn ≡ false) × ((known pass).opened ≡ true)
+
+  -- a pass of the turnstile that has entered nothing
+  abbrev pub IsNew : Turnstile S N E → PassOf S N E → Type 0
+  IsNew lock pass = IsPassOf lock pass × IsIdle pass × ((known pass).mine ≡ [])
 
   -- it is the pass that the turnstile was made with
   abbrev pub IsFirst : PassOf S N E → Type 0

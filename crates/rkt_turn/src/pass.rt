@@ -1,7 +1,7 @@
 //! What a thread enters with.
-ghost use Rattle.std.specs.Prelude.{◌≡◌, ◌-◌, ◌≤◌, true, false, [], ◌∷◌, if◌then◌else◌, None, length};
+ghost use Rattle.std.specs.Prelude.{◌≡◌, ◌+◌, ◌-◌, ◌≤◌, ◌<◌, true, false, [], ◌∷◌, if◌then◌else◌, None, length, map, All, vec_len, IfOk, IfErr};
 ghost use Rattle.rkt_turn.specs.Booked.{InOneOrder, StartsWith};
-ghost use Rattle.rkt_turn.specs.Known.{last_number, view, drew, another, joined};
+ghost use Rattle.rkt_turn.specs.Known.{last_number, view, drew, drawn, another, split_off, joined, joined_all, HaveSeen};
 ghost use Rattle.rkt_turn.specs.TurnRule.{Tied};
 
 use crate::booked::Booked;
@@ -9,6 +9,8 @@ use crate::known::Known;
 use crate::steps;
 use crate::turnstile::Turnstile;
 use atomic_table::Seat;
+use rkt_base::NoMemory;
+use std::alloc::Global;
 
 /// A pass of a turnstile.
 pub type Pass<S> = PassOf<S, <S as Booked>::Name, <S as Booked>::Entry>;
@@ -60,7 +62,7 @@ impl<S, N, E> PassOf<S, N, E> {
 }
 
 impl<S: Booked> PassOf<S, S::Name, S::Entry> {
-    ghost use Rattle.rkt_turn.specs.Pass.{known, IsPassOf, IsSameLock, IsIdle, IsFirst};
+    ghost use Rattle.rkt_turn.specs.Pass.{known, IsPassOf, IsSameLock, IsIdle, IsFirst, IsNew};
 
     /// A pass with the next number. At the last one, 2^64 - 2, that is given each time.
     pub fn split(&mut self, turnstile: &Turnstile<S>) -> Pass<S>
@@ -70,6 +72,7 @@ impl<S: Booked> PassOf<S, S::Name, S::Entry> {
         ensures own { IsSameLock self.old self.new × IsSameLock self.old result }
         ensures view { known self.new ≡ drew (known self.old) }
         ensures another { known result ≡ another (known self.old) }
+        ensures next { (known self.old).next < last_number → (known self.new).next ≡ (known self.old).next + 1 }
     {
         let number = self.next;
         let seat = steps::draw(&turnstile.table.shared, &mut self.seat);
@@ -95,6 +98,53 @@ impl<S: Booked> PassOf<S, S::Name, S::Entry> {
         ensures other_seen { StartsWith (known self.new).seen (known other).seen }
     {
         steps::rejoin(&turnstile.table.shared, &mut self.seat, other.into_seat());
+    }
+
+    /// So many passes, with the next numbers in order. For want of memory none is split off.
+    pub fn split_all(
+        &mut self,
+        alloc: Global,
+        turnstile: &Turnstile<S>,
+        count: usize,
+    ) -> Result<Vec<Pass<S>>, NoMemory>
+        requires own { IsPassOf turnstile.now self.old }
+        requires first { IsFirst self.old }
+        requires idle { IsIdle self.old }
+        ensures own { IsSameLock self.old self.new }
+        ensures first { IsFirst self.new × IsIdle self.new }
+        ensures view { IfOk result (λ _. known self.new ≡ drawn count (known self.old)) }
+        ensures mine { (known self.new).mine ≡ (known self.old).mine }
+        ensures others { IfOk result (λ ps. map known ps.items ≡ split_off count (known self.old)) }
+        ensures new { IfOk result (λ ps. All (λ p. IsNew turnstile.now p) ps.items) }
+        ensures len { IfOk result (λ ps. vec_len ps ≡ count) }
+        ensures out { IfOk result (λ _. length (known self.new).out ≡ length (known self.old).out + count) }
+        ensures err { IfErr result (λ _. self.new ≡ self.old) }
+    {
+        let mut passes = Vec::with_capacity(alloc, count)?;
+        while passes.len() < count {
+            passes.push_reserved(self.split(turnstile));
+        }
+        Ok(passes)
+    }
+
+    /// Takes such passes back, the last one first.
+    pub fn join_all(&mut self, turnstile: &Turnstile<S>, mut passes: Vec<Pass<S>>)
+        requires own { IsPassOf turnstile.now self.old }
+        requires first { IsFirst self.old }
+        requires idle { IsIdle self.old }
+        requires ready { All (λ p. IsPassOf turnstile.now p × IsIdle p) passes.items }
+        ensures own { IsSameLock self.old self.new }
+        ensures first { IsFirst self.new × IsIdle self.new }
+        ensures view { known self.new ≡ joined_all (known self.old) (map known passes.items) }
+        ensures out { length (known self.new).out ≡ length (known self.old).out - vec_len passes }
+        ensures none_out { length (known self.old).out ≡ vec_len passes → (known self.new).out ≡ [] }
+        // This pass has then seen all that each of them has.
+        ensures seen { StartsWith (known self.new).seen (known self.old).seen }
+        ensures others_seen { HaveSeen (known self.new).seen (map known passes.items) }
+    {
+        while let Some(pass) = passes.pop() {
+            self.join(turnstile, pass);
+        }
     }
 }
 

@@ -1,7 +1,7 @@
 //! The lock.
 ghost use Rattle.std.specs.Prelude.{◌≡◌, true, [], Some, IfOk, IfErr};
-ghost use Rattle.rkt_turn.specs.Booked.{StartsWith, AreOf};
-ghost use Rattle.rkt_turn.specs.Known.{newcomer, entered, gave, HasMine, AddsOne, HasAll, all_passes};
+ghost use Rattle.rkt_turn.specs.Booked.{StartsWith, AreOf, Adds};
+ghost use Rattle.rkt_turn.specs.Known.{newcomer, entered, gave, OwnsAdded, SamePlace, HasMine, AddsOne, HasAll, all_passes};
 
 use crate::booked::Booked;
 use crate::known::{Begin, Known, TurnRule};
@@ -96,6 +96,9 @@ impl<S: Booked> Turnstile<S> {
         requires adds { AddsOne S.number (known pass.old) (S.entries (state_of turn)) }
         ensures own { IsSameLock pass.old pass.new }
         ensures view { known pass.new ≡ gave (known pass.old) (S.entries (state_of turn)) }
+        ensures place { SamePlace (known pass.old) (known pass.new) }
+        ensures mine { Adds S.number (known pass.old).number (known pass.old).mine (known pass.new).mine }
+        ensures added { OwnsAdded (known pass.old) (S.entries (state_of turn)) (known pass.new) }
     {
         let Turn { state } = turn;
         steps::give(&self.table.shared, &self.waited, &mut pass.seat, state);
@@ -116,5 +119,12 @@ impl<S: Booked> Turnstile<S> {
         ensures all { HasAll S.number (all_passes (known pass)) (S.entries result) }
     {
         steps::finish(self.into_table(), pass.into_seat())
+    }
+}
+
+// A turnstile may be let go where its state may, and its passes are of no use then.
+impl<S: Booked + Drop> Drop for Turnstile<S> {
+    fn drop(self) {
+        drop(self.into_table());
     }
 }

@@ -72,7 +72,7 @@ impl<R: Reason> TripWire<R> {
 }
 
 impl<R: Reason> Shutdown<R> {
-    ghost use Rattle.rkt_turn.specs.Shutdown.{polled};
+    ghost use Rattle.rkt_turn.specs.Shutdown.{polled, Stands};
 
     /// The word that this handle has seen, or 0. It makes no load.
     pub fn seen(&self) -> u64
@@ -126,6 +126,7 @@ impl<R: Reason> Shutdown<R> {
 
         ensures seen { 0 < self.new.seen }
         ensures allowed { R.allowed self.new.seen }
+        ensures stands { self.old.seen ≡ 0 → Stands R.allowed (R.says reason) self.new.seen }
     {
         if self.seen != 0 {
             return;
