@@ -1,41 +1,59 @@
-use crate::error::CaseError;
-use crate::jar::jar_answer;
+use crate::jar::push_jar;
 use crate::made::made_cookie;
-use crate::shown::{fields, text_of};
-use crate::words::first_word;
+use crate::shown::{push_copy, push_fields, push_text};
+use cases::{Answers, CaseError, first_word};
+use rkt_base::NoMemory;
 use rkt_cookie::{Cookie, CookieJar};
 use std::alloc::Global;
+use std::sync::Wait;
 
-/// The text of the cookie that a line says.
-fn text_answer(alloc: Global, line: &str) -> Result<String, CaseError> {
-    let cookie = made_cookie(alloc, line)?;
-    text_of(alloc, &cookie)
+/// The jar that is kept from line to line.
+#[derive(Drop)]
+pub struct Kept<'a, R> {
+    rt: &'a R,
+    jar: CookieJar,
 }
 
-/// The fields of the cookie that a line says.
-fn fields_answer(alloc: Global, line: &str) -> Result<String, CaseError> {
-    let cookie = made_cookie(alloc, line)?;
-    fields(alloc, &cookie)
+impl<'a, R> Kept<'a, R> {
+    pub fn new(rt: &'a R, alloc: Global) -> Kept<'a, R> {
+        Kept {
+            rt,
+            jar: CookieJar::new(alloc),
+        }
+    }
 }
 
-fn text_of_copy(alloc: Global, cookie: &Cookie) -> Result<String, CaseError> {
-    let copy = cookie.try_clone(alloc)?;
-    text_of(alloc, &copy)
-}
-
-/// The text of a copy of the cookie that a line says.
-fn copy_answer(alloc: Global, line: &str) -> Result<String, CaseError> {
-    let cookie = made_cookie(alloc, line)?;
-    text_of_copy(alloc, &cookie)
-}
-
-/// What a case answers.
-pub fn answer(alloc: Global, jar: &mut CookieJar, line: &str) -> Result<String, CaseError> {
-    let (command, rest) = first_word(line);
+fn push_cookie(
+    alloc: Global,
+    command: &str,
+    cookie: &Cookie,
+    out: &mut String,
+) -> Result<(), NoMemory> {
     match command {
-        "jar" => jar_answer(alloc, jar, rest),
-        "copy" => copy_answer(alloc, rest),
-        "fields" => fields_answer(alloc, rest),
-        _ => text_answer(alloc, line),
+        "copy" => push_copy(alloc, cookie, out),
+        "fields" => push_fields(cookie, out),
+        _ => push_text(alloc, cookie, out),
+    }
+}
+
+/// Answers by the cookie that a line says.
+fn answer_cookie(
+    alloc: Global,
+    command: &str,
+    line: &str,
+    out: &mut String,
+) -> Result<(), CaseError> {
+    let cookie = made_cookie(alloc, line)?;
+    Ok(push_cookie(alloc, command, &cookie, out)?)
+}
+
+impl<R: Wait> Answers for Kept<'_, R> {
+    fn answer(&mut self, alloc: Global, line: &str, out: &mut String) -> Result<(), CaseError> {
+        let (command, rest) = first_word(line);
+        match command {
+            "jar" => push_jar(self.rt, alloc, &mut self.jar, rest, out),
+            "copy" | "fields" => answer_cookie(alloc, command, rest, out),
+            _ => answer_cookie(alloc, command, line, out),
+        }
     }
 }

@@ -1,5 +1,4 @@
-use crate::error::CaseError;
-use crate::words::{pair, seconds};
+use cases::{CaseError, pair, parsed};
 use rkt_cookie::SameSite;
 
 /// What a piece `NAME=VALUE` behind the first one asks of a cookie.
@@ -65,11 +64,11 @@ pub fn parse_attribute(piece: &str) -> Result<Attribute<'_>, CaseError> {
     if piece.is_empty() {
         return Ok(Attribute::Nothing);
     }
-    let (name, value) = pair(piece)?;
+    let (name, value) = pair(piece, "=")?;
     match name {
         "path" | "domain" => Ok(texted(name, value)),
         "secure" | "http_only" => Ok(flagged(name, flag(value)?)),
         "same_site" => Ok(Attribute::SameSite(same_site(value)?)),
-        _ => numbered(name, seconds(value)?),
+        _ => numbered(name, parsed::<u64>(value)?),
     }
 }

@@ -1,110 +1,171 @@
 //! Cases of a jar, which is kept from line to line.
-use crate::error::CaseError;
 use crate::made::made_cookie;
-use crate::shown::text_of;
-use crate::words::{first_word, seconds};
+use crate::shown::push_text;
+use cases::{CaseError, first_word, parsed};
 use rkt_base::NoMemory;
-use rkt_cookie::{Cookie, CookieJar};
+use rkt_cookie::{Cookie, CookieJar, SharedJar};
 use std::alloc::Global;
+use std::mem;
+use std::sync::Wait;
 
-fn text_or_none(alloc: Global, cookie: Option<&Cookie>) -> Result<String, CaseError> {
+fn push_found(alloc: Global, cookie: Option<&Cookie>, out: &mut String) -> Result<(), NoMemory> {
     match cookie {
-        Some(cookie) => text_of(alloc, cookie),
-        None => Ok(String::from_str(alloc, "none")?),
+        Some(cookie) => push_text(alloc, cookie, out),
+        None => out.push_str("none"),
     }
 }
 
-/// Adds a cookie's text to a list, behind its mark.
-fn push_cookie(
+/// Adds a cookie's text behind its mark.
+fn push_marked(
     alloc: Global,
-    list: &mut String,
     mark: &str,
     cookie: &Cookie,
-) -> Result<(), CaseError> {
-    let text = text_of(alloc, cookie)?;
-    list.push_str(mark)?;
-    Ok(list.push_str(text.as_str())?)
+    out: &mut String,
+) -> Result<(), NoMemory> {
+    out.push_str(mark)?;
+    push_text(alloc, cookie, out)
 }
 
-/// How many originals there are, and each behind a bar.
-fn originals(alloc: Global, jar: &CookieJar) -> Result<String, CaseError> {
-    let mut list = jar.iter().count().to_string(alloc)?;
+/// Adds how many originals there are, and each behind a bar.
+fn push_originals(alloc: Global, jar: &CookieJar, out: &mut String) -> Result<(), NoMemory> {
+    write!(out, "{}", jar.iter().count())?;
     for cookie in jar.iter() {
-        push_cookie(alloc, &mut list, "|", cookie)?;
+        push_marked(alloc, "|", cookie, out)?;
     }
-    Ok(list)
+    Ok(())
 }
 
-/// How many changes there are, and each behind a bar and its sign.
-fn changes(alloc: Global, jar: &CookieJar) -> Result<String, CaseError> {
-    let mut list = jar.log().len().to_string(alloc)?;
+/// Adds how many changes there are, and each behind a bar and its sign.
+fn push_changes(alloc: Global, jar: &CookieJar, out: &mut String) -> Result<(), NoMemory> {
+    write!(out, "{}", jar.log().len())?;
     for change in jar.log() {
         let mark = if change.removal { "|- " } else { "|+ " };
-        push_cookie(alloc, &mut list, mark, &change.cookie)?;
+        push_marked(alloc, mark, &change.cookie, out)?;
     }
-    Ok(list)
+    Ok(())
 }
 
-/// How many cookies there are, and each behind a bar.
-fn listed(alloc: Global, cookies: &[Cookie]) -> Result<String, CaseError> {
-    let mut list = cookies.len().to_string(alloc)?;
+/// Adds how many cookies there are, and each behind a bar.
+fn push_list(alloc: Global, cookies: &[Cookie], out: &mut String) -> Result<(), NoMemory> {
+    write!(out, "{}", cookies.len())?;
     for cookie in cookies {
-        push_cookie(alloc, &mut list, "|", cookie)?;
+        push_marked(alloc, "|", cookie, out)?;
     }
-    Ok(list)
+    Ok(())
 }
 
-/// The cookies that are sent at a moment.
-fn delta(alloc: Global, jar: &mut CookieJar, moment: &str) -> Result<String, CaseError> {
-    let cookies = jar.take_delta(alloc, seconds(moment)?)?;
-    listed(alloc, cookies.as_slice())
+/// Adds the cookies that are sent at a moment.
+fn push_delta(
+    alloc: Global,
+    jar: &mut CookieJar,
+    moment: u64,
+    out: &mut String,
+) -> Result<(), NoMemory> {
+    let cookies = jar.take_delta(moment)?;
+    push_list(alloc, cookies.as_slice(), out)
 }
 
 /// Changes the jar by a cookie.
-fn take_cookie(
-    alloc: Global,
-    jar: &mut CookieJar,
-    command: &str,
-    cookie: Cookie,
-) -> Result<(), NoMemory> {
+fn take_cookie(jar: &mut CookieJar, command: &str, cookie: Cookie) -> Result<(), NoMemory> {
     match command {
-        "original" => jar.add_original(alloc, cookie),
-        "add" => jar.add(alloc, cookie),
-        _ => jar.remove(alloc, cookie),
+        "original" => jar.add_original(cookie),
+        "add" => jar.add(cookie),
+        _ => jar.remove(cookie),
     }
 }
 
 /// Changes the jar by the cookie that the rest of the line says.
 fn change(alloc: Global, jar: &mut CookieJar, command: &str, rest: &str) -> Result<(), CaseError> {
     let cookie = made_cookie(alloc, rest)?;
-    Ok(take_cookie(alloc, jar, command, cookie)?)
+    Ok(take_cookie(jar, command, cookie)?)
 }
 
-/// What a jar tells that is only asked.
-fn told(
+/// Adds what a jar tells that is only asked.
+fn push_told(
     alloc: Global,
     jar: &mut CookieJar,
     command: &str,
     rest: &str,
-) -> Result<String, CaseError> {
+    out: &mut String,
+) -> Result<(), CaseError> {
     match command {
-        "get" => text_or_none(alloc, jar.get(rest)),
-        "pending" => text_or_none(alloc, jar.get_pending(rest)),
-        "originals" => originals(alloc, jar),
-        "changes" => changes(alloc, jar),
-        "delta" => delta(alloc, jar, rest),
+        "get" => Ok(push_found(alloc, jar.get(rest), out)?),
+        "pending" => Ok(push_found(alloc, jar.get_pending(rest), out)?),
+        "originals" => Ok(push_originals(alloc, jar, out)?),
+        "changes" => Ok(push_changes(alloc, jar, out)?),
+        "delta" => Ok(push_delta(alloc, jar, parsed::<u64>(rest)?, out)?),
         _ => Err(CaseError::Line),
     }
 }
 
-/// What a jar answers to a command.
-pub fn jar_answer(alloc: Global, jar: &mut CookieJar, line: &str) -> Result<String, CaseError> {
+/// Whatever threads share may cross between them.
+fn crosses<T: Send + Sync>(_value: &T) {}
+
+/// Changes a shared jar by the cookie that a step says.
+fn share_step<R: Wait>(
+    rt: &R,
+    alloc: Global,
+    shared: &SharedJar,
+    step: &str,
+) -> Result<(), CaseError> {
+    let (command, rest) = first_word(step);
+    let cookie = made_cookie(alloc, rest)?;
+    match command {
+        "add" => Ok(shared.add(rt, cookie)?),
+        "remove" => Ok(shared.remove(rt, cookie)?),
+        _ => Err(CaseError::Line),
+    }
+}
+
+fn share_steps<R: Wait>(
+    rt: &R,
+    alloc: Global,
+    shared: &SharedJar,
+    steps: &str,
+) -> Result<(), CaseError> {
+    for step in steps.split(" | ") {
+        share_step(rt, alloc, shared, step)?;
+    }
+    Ok(())
+}
+
+fn closed(shared: SharedJar) -> CookieJar {
+    match shared.close() {
+        Ok(jar) => jar,
+        Err(jar) => jar,
+    }
+}
+
+/// Opens the jar to be shared, takes the steps, and closes it.
+fn share<R: Wait>(
+    rt: &R,
+    alloc: Global,
+    jar: &mut CookieJar,
+    steps: &str,
+) -> Result<(), CaseError> {
+    let shared = SharedJar::open(mem::replace(jar, CookieJar::new(alloc)));
+    crosses(&shared);
+    let taken = share_steps(rt, alloc, &shared, steps);
+    *jar = closed(shared);
+    taken
+}
+
+/// Adds what a jar answers to a command.
+pub fn push_jar<R: Wait>(
+    rt: &R,
+    alloc: Global,
+    jar: &mut CookieJar,
+    line: &str,
+    out: &mut String,
+) -> Result<(), CaseError> {
     let (command, rest) = first_word(line);
     match command {
         "new" => *jar = CookieJar::new(alloc),
         "reset" => jar.reset_delta(),
+        "copy" => *jar = jar.try_clone()?,
+        "share" => share(rt, alloc, jar, rest)?,
         "original" | "add" | "remove" => change(alloc, jar, command, rest)?,
-        _ => return told(alloc, jar, command, rest),
+        _ => return push_told(alloc, jar, command, rest, out),
     }
-    Ok(String::from_str(alloc, "done")?)
+    Ok(out.push_str("done")?)
 }

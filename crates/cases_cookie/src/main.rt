@@ -19,6 +19,8 @@
 //! | `fields` and a cookie | what it tells of itself |
 //! | `jar new` | `done`; from then on the jar is an empty one |
 //! | `jar original`, `jar add` or `jar remove`, and a cookie | `done` |
+//! | `jar copy` | `done`; from then on the jar is its copy |
+//! | `jar share STEP \| STEP ..` | `done`: each step is `add` or `remove` and a cookie, by a jar that threads may share, which is closed then |
 //! | `jar reset` | `done`: what was pending is forgotten |
 //! | `jar get NAME`, `jar pending NAME` | the original's text, what is pending, or `none` |
 //! | `jar originals` | how many there are, and each behind a bar |
@@ -30,43 +32,16 @@
 
 mod answer;
 mod attribute;
-mod error;
 mod jar;
 mod made;
 mod shown;
 mod words;
 
-use crate::answer::answer;
-use rkt_cookie::CookieJar;
-use std::alloc::Global;
+use crate::answer::Kept;
+use cases::answer_lines;
 use std::io;
-
-fn print_answer(rt: &impl Print, line: &str, text: &str) -> io::Result<()> {
-    println!(rt; "{line} -> {text}")
-}
-
-/// Empty lines and those that begin with `#` are headings, and are written as they are.
-fn is_heading(line: &str) -> bool {
-    line.is_empty() || line.starts_with('#')
-}
-
-/// Writes the line, and behind an arrow the answer where it is a case.
-fn print_line(rt: &impl Print, alloc: Global, jar: &mut CookieJar, line: &str) -> io::Result<()> {
-    if is_heading(line) {
-        return rt.println(line);
-    }
-    match answer(alloc, jar, line) {
-        Ok(text) => print_answer(rt, line, text.as_str()),
-        Err(error) => print_answer(rt, line, error.text()),
-    }
-}
 
 fn main(rt: HostRuntime) -> io::Result<()> {
     let alloc = rt.alloc();
-    let mut jar = CookieJar::new(alloc);
-    for line in rt.lines(alloc) {
-        let line = line?;
-        print_line(&rt, alloc, &mut jar, line.as_str())?;
-    }
-    Ok(())
+    answer_lines(&rt, alloc, Kept::new(&rt, alloc))
 }

@@ -1,5 +1,5 @@
 -- A jar's originals, kept by name in a map, as a list of cookies.
-use Rattle.std.proofs.Common.{◌≡◌, ℕ, cond, List, [], ◌∷◌, Some, String, string_bytes, map, refl, sym, ap, ◌∙◌}
+use Rattle.std.proofs.Common.{◌≡◌, ℕ, cond, List, [], ◌∷◌, ◌++◌, Some, String, string_bytes, map, fold, refl, sym, ap, ◌∙◌, subst, append_assoc, append-nil}
 use Rattle.std.specs.declared.cmp.Ordering.{Ordering}
 use Rattle.std.specs.declared.cmp.Ordering.TheVariants.{Less, Equal, Greater}
 use Rattle.std.specs.Global.{Global}
@@ -8,11 +8,12 @@ use Rattle.std.specs.Cmp.Lexicographic.{slice_cmp}
 use Rattle.std.specs.List.{AllByRecursion}
 use Rattle.std.specs.List.Sorted.{IsStrictlySortedBy}
 use Rattle.std.specs.Map.{lookup, keys_of}
-use Rattle.std.specs.Ordering.{match_ordering, nat_cmp, is_eq}
+use Rattle.std.specs.Ordering.{match_ordering, ordering_reverse, nat_cmp, is_eq}
 use Rattle.std.specs.Str.{bytes_eq}
 use Rattle.std.specs.String.{string_cmp}
 use Rattle.std.proofs.lemmas.List.Elements.{All-nil, All-cons, All-head, All-tail}
 use Rattle.std.proofs.lemmas.Slice.Eq.{bytes_eq-Decides}
+use Rattle.std.proofs.lemmas.Cmp.{nat_list_cmp_total}
 use Rattle.std.proofs.lemmas.Map.Text.{is_eq-slice_cmp}
 use Rattle.rkt_cookie.specs.Cookie.{Parts}
 use Rattle.rkt_cookie.specs.Jar.{NamesAscend, is_named, cookie_of, with_cookie}
@@ -78,3 +79,23 @@ names_ascend (e ∷ es) h order = (
   names_above e.0 e.1.name es (All-head ByName e es h) (All-tail ByName e es h) order.0,
   names_ascend es (All-tail ByName e es h) order.1,
 )
+
+name_of_middle : (P : List ℕ → Type 0) (xs : List Parts) (c : Parts) (rest : List Parts) → AllByRecursion P (map (λ cookie. cookie.name) (xs ++ c ∷ rest)) → P c.name
+name_of_middle P [] c rest h = h.0
+name_of_middle P (x ∷ xs) c rest h = name_of_middle P xs c rest h.1
+
+-- a cookie whose name is behind all others stands last
+pub with_last : (xs : List Parts) (c : Parts) (rest : List Parts) → NamesAscend (xs ++ c ∷ rest) → with_cookie xs c ≡ xs ++ c ∷ []
+unfolding IsStrictlySortedBy
+with_last [] c rest h = refl
+with_last (x ∷ xs) c rest h =
+    let below : slice_cmp nat_cmp x.name c.name ≡ Less = name_of_middle (λ name. slice_cmp nat_cmp x.name name ≡ Less) xs c rest h.0 in
+    let above : slice_cmp nat_cmp c.name x.name ≡ Greater = nat_list_cmp_total.antisymm c.name x.name ∙ ap ordering_reverse below in
+    ap (λ o. match_ordering o (c ∷ x ∷ xs) (c ∷ xs) (x ∷ with_cookie xs c)) above ∙ ap (λ l. x ∷ l) (with_last xs c rest h.1)
+
+-- cookies that are put in one after another, names ascending
+pub put_in_order : (front rest : List Parts) → NamesAscend (front ++ rest) → fold with_cookie front rest ≡ front ++ rest
+put_in_order front [] h = sym (append-nil front)
+put_in_order front (c ∷ cs) h =
+    ap (λ cookies. fold with_cookie cookies cs) (with_last front c cs h)
+    ∙ (put_in_order (front ++ c ∷ []) cs (subst NamesAscend (sym (append_assoc front (c ∷ []) cs)) h) ∙ append_assoc front (c ∷ []) cs)

@@ -1,5 +1,5 @@
 -- A text is read as one cookie, and its first piece as the same name and value.
-use Rattle.std.proofs.Common.{◌≡◌, ℕ, ◌+◌, ◌<◌, ◌≤◌, List, [], ◌∷◌, length, take, fold, Option, Some, None, refl, sym, ap, ◌∙◌, subst, arith, length-take-le, get_or-take, not}
+use Rattle.std.proofs.Common.{◌≡◌, ℕ, ◌+◌, List, [], ◌∷◌, length, take, fold, Option, Some, None, refl, sym, ap, ◌∙◌, subst, arith, length-take-le, get_or-take, not}
 use Rattle.std.proofs.lemmas.List.{take_all, drop_all}
 use Rattle.std.proofs.lemmas.List.Sums.{fails_before_first, position_or_len_is, prefix_len-le-length}
 use Rattle.std.specs.List.{position_or_len, slice_split}

@@ -1,5 +1,5 @@
 -- What a cookie jar stands for: the cookies that came with a request, the changes since, and a floor in their log.
-use Rattle.std.specs.Prelude.{ℕ, List, [], ◌∷◌, Bool, true, false, Option, Some, None, codes, is_some, drop, find, map, reverse, unwrap_or, if◌then◌else◌}
+use Rattle.std.specs.Prelude.{◌≡◌, ℕ, List, [], ◌∷◌, ◌++◌, All, Bool, true, false, Option, Some, None, codes, is_some, drop, find, map, reverse, unwrap_or, if◌then◌else◌}
 use Rattle.std.specs.Cmp.Lexicographic.{slice_cmp}
 use Rattle.std.specs.List.{flat_map, list_any}
 use Rattle.std.specs.List.Sorted.{IsStrictlySortedBy}
@@ -45,6 +45,14 @@ addition cookie = record { cookie = with_defaults site.Strict cookie; removal = 
 -- the change by which one is removed
 abbrev pub removal_of : Parts → Change
 removal_of cookie = record { cookie = with_defaults site.Lax cookie; removal = true }
+
+-- the cookie of a change has the defaults of its kind: to fill them in once more changes nothing
+abbrev pub HasDefaults : Change → Type 0
+HasDefaults change = with_defaults (if change.removal then site.Lax else site.Strict) change.cookie ≡ change.cookie
+
+-- the jar with further changes behind those of its log
+abbrev pub HasFurther : JarParts → JarParts → Type 0
+HasFurther old new = (further : List Change) × All HasDefaults further × (new ≡ record old { log = old.log ++ further })
 
 -- the changes at or above the floor
 abbrev pub pending_changes : JarParts → List Change

@@ -49,6 +49,39 @@ fn default_cookie(
     Ok(cookie)
 }
 
+/// The change by which a cookie is added.
+pub(crate) fn added(alloc: Global, cookie: Cookie) -> Result<Change, NoMemory>
+    ensures { IfOk result (λ change. change ≡ addition cookie) }
+{
+    Ok(Change {
+        cookie: default_cookie(alloc, cookie, SameSite::Strict)?,
+        removal: false,
+    })
+}
+
+/// The change by which a cookie is removed.
+pub(crate) fn removed(alloc: Global, cookie: Cookie) -> Result<Change, NoMemory>
+    ensures { IfOk result (λ change. change ≡ removal_of cookie) }
+{
+    Ok(Change {
+        cookie: default_cookie(alloc, cookie, SameSite::Lax)?,
+        removal: true,
+    })
+}
+
+fn copied_log(alloc: Global, log: &[Change]) -> Result<Vec<Change>, NoMemory>
+    ensures { IfOk result (λ copy. copy.items ≡ log.now) }
+{
+    let mut copy = Vec::with_capacity(alloc, log.len())?;
+    for change in log {
+        copy.push(Change {
+            cookie: change.cookie.try_clone(alloc)?,
+            removal: change.removal,
+        })?;
+    }
+    Ok(copy)
+}
+
 fn push_any(cookies: &mut Vec<Cookie>, cookie: Option<Cookie>) -> Result<(), NoMemory>
     ensures { OnOk result (cookies.new.items ≡ cookies.old.items ++ option_to_list cookie) }
 {
@@ -68,6 +101,45 @@ impl CookieJar {
             log: Vec::new(alloc),
             floor: 0,
         }
+    }
+
+    fn copied_originals(&self) -> Result<CookieJar, NoMemory>
+        ensures { IfOk result (λ jar. jar ≡ record { originals = self.now.originals; log = []; floor = 0 }) }
+    {
+        let alloc = *self.log.allocator();
+        let mut copy = CookieJar::new(alloc);
+        for cookie in self.iter() {
+            copy.add_original(cookie.try_clone(alloc)?)?;
+        }
+        Ok(copy)
+    }
+
+    /// A copy, by the allocator of this jar.
+    pub fn try_clone(&self) -> Result<CookieJar, NoMemory>
+        ensures { IfOk result (λ jar. jar ≡ self.now) }
+    {
+        let CookieJar {
+            originals,
+            log: _,
+            floor: _,
+        } = self.copied_originals()?;
+        Ok(CookieJar {
+            originals,
+            log: copied_log(*self.log.allocator(), self.log.as_slice())?,
+            floor: self.floor,
+        })
+    }
+
+    pub(crate) fn allocator(&self) -> Global {
+        *self.log.allocator()
+    }
+
+    /// Logs further changes, which are taken where there is room for all.
+    pub(crate) fn append(&mut self, changes: &mut Vec<Change>) -> Result<(), NoMemory>
+        ensures ok { OnOk result (self.new ≡ record self.old { log = self.old.log ++ changes.old.items }) }
+        ensures err { OnErr result (self.new ≡ self.old) }
+    {
+        self.log.append(changes)
     }
 
     /// The original of a name.
@@ -110,39 +182,31 @@ impl CookieJar {
     }
 
     /// Keeps a cookie that came with the request, in place of an earlier one of its name.
-    pub fn add_original(&mut self, alloc: Global, cookie: Cookie) -> Result<(), NoMemory>
+    pub fn add_original(&mut self, cookie: Cookie) -> Result<(), NoMemory>
         ensures ok { OnOk result (self.new ≡ record self.old { originals = with_cookie self.old.originals cookie }) }
         ensures err { OnErr result (self.new ≡ self.old) }
     {
-        let name = String::from_str(alloc, cookie.name())?;
+        let name = String::from_str(*self.log.allocator(), cookie.name())?;
         self.originals.insert(name, cookie)?;
         Ok(())
     }
 
     /// Logs that a cookie is added.
-    pub fn add(&mut self, alloc: Global, cookie: Cookie) -> Result<(), NoMemory>
+    pub fn add(&mut self, cookie: Cookie) -> Result<(), NoMemory>
         ensures ok { OnOk result (self.new ≡ record self.old { log = self.old.log ++ addition cookie ∷ [] }) }
         ensures err { OnErr result (self.new ≡ self.old) }
     {
-        let cookie = default_cookie(alloc, cookie, SameSite::Strict)?;
-        self.log.push(Change {
-            cookie,
-            removal: false,
-        })?;
-        Ok(())
+        let change = added(*self.log.allocator(), cookie)?;
+        Ok(self.log.push(change)?)
     }
 
     /// Logs that the cookie of this name, path and domain is removed.
-    pub fn remove(&mut self, alloc: Global, cookie: Cookie) -> Result<(), NoMemory>
+    pub fn remove(&mut self, cookie: Cookie) -> Result<(), NoMemory>
         ensures ok { OnOk result (self.new ≡ record self.old { log = self.old.log ++ removal_of cookie ∷ [] }) }
         ensures err { OnErr result (self.new ≡ self.old) }
     {
-        let cookie = default_cookie(alloc, cookie, SameSite::Lax)?;
-        self.log.push(Change {
-            cookie,
-            removal: true,
-        })?;
-        Ok(())
+        let change = removed(*self.log.allocator(), cookie)?;
+        Ok(self.log.push(change)?)
     }
 
     /// The originals, names ascending.
@@ -163,29 +227,30 @@ impl CookieJar {
     }
 
     /// What is sent of a change: a removal only where there is an original to remove.
-    fn sent(&self, alloc: Global, change: &Change, moment: u64) -> Result<Option<Cookie>, NoMemory>
+    fn sent(&self, change: &Change, moment: u64) -> Result<Option<Cookie>, NoMemory>
         ensures { IfOk result (λ cookie. option_to_list cookie ≡ sent self.now.originals moment change.now) }
     {
         if change.removal && self.get(change.cookie.name()).is_none() {
             return Ok(None);
         }
-        let mut cookie = change.cookie.try_clone(alloc)?;
+        let mut cookie = change.cookie.try_clone(*self.log.allocator())?;
         if change.removal {
             cookie.make_removal(moment);
         }
         Ok(Some(cookie))
     }
 
-    fn delta(&self, alloc: Global, moment: u64) -> Result<Vec<Cookie>, NoMemory>
+    fn delta(&self, moment: u64) -> Result<Vec<Cookie>, NoMemory>
         ensures { IfOk result (λ cookies. cookies.items ≡ delta self.now.originals self.now.log self.now.floor moment) }
     {
+        let alloc = *self.log.allocator();
         let mut seen = BTreeSet::new(alloc);
         let mut cookies = Vec::new(alloc);
         for change in self.pending().iter().rev() {
             if !seen.insert(change.cookie.name())? {
                 continue;
             }
-            let cookie = self.sent(alloc, change, moment)?;
+            let cookie = self.sent(change, moment)?;
             push_any(&mut cookies, cookie)?;
         }
         cookies.reverse();
@@ -194,13 +259,13 @@ impl CookieJar {
 
     /// The cookies to send: of each name that changed since the last time, its last change. The floor rises to the end of
     /// the log.
-    pub fn take_delta(&mut self, alloc: Global, moment: u64) -> Result<Vec<Cookie>, NoMemory>
+    pub fn take_delta(&mut self, moment: u64) -> Result<Vec<Cookie>, NoMemory>
         ensures delta { IfOk result
             (λ cookies. cookies.items ≡ delta self.old.originals self.old.log self.old.floor moment) }
         ensures ok { OnOk result (self.new ≡ record self.old { floor = length self.old.log }) }
         ensures err { OnErr result (self.new ≡ self.old) }
     {
-        let cookies = self.delta(alloc, moment)?;
+        let cookies = self.delta(moment)?;
         self.reset_delta();
         Ok(cookies)
     }

@@ -9,6 +9,7 @@ mod encode;
 mod jar;
 mod parse;
 mod same_site;
+mod shared_jar;
 
 pub use builder::CookieBuilder;
 pub use change::Change;
@@ -16,3 +17,4 @@ pub use cookie::Cookie;
 pub use jar::{CookieIter, CookieJar};
 pub use parse::InvalidCookie;
 pub use same_site::SameSite;
+pub use shared_jar::SharedJar;
