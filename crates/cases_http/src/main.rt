@@ -34,9 +34,9 @@
 //!
 //! | Line | Calls |
 //! |---|---|
-//! | `outcome CALL OUTCOME` | `is` (the three predicates), `succeeded`, `failed`, `forwarded`, `as_ref` (its Success), `unwrap` and `expect` (of a Success), `display`, `debug`, `try` (the macro, which goes on with half of the number), and the laws `map_nothing` and `success_again` |
-//! | `outcome CALL NUMBER OUTCOME` | `map`, `map_error`, `map_forward` and `as_mut` (of a Success), which add the number, the law `map_in_turn`, which adds it twice, `success_or` and `success_or_else`, which err with it, and the law `on_success`, which goes on from it with the outcome |
-//! | `outcome CALL OUTCOME OTHER` | `and_then`, `error_then` and `forward_then`, which go on with the other outcome, the number of the first one added to its own; `ok_map_forward` and `ok_map_error`, which go on with that as a result, of which a Success is Ok; `same`, which compares the two; and the law `and_then_in_turn`, which goes on so twice |
+//! | `outcome CALL OUTCOME` | `is` (the three predicates), `succeeded`, `failed`, `forwarded`, `as_ref` (its Success), `unwrap` and `expect` (of a Success), `display`, `debug`, and `try` (the macro, which goes on with half of the number) |
+//! | `outcome CALL NUMBER OUTCOME` | `map`, `map_error`, `map_forward` and `as_mut` (of a Success), which add the number, and `success_or` and `success_or_else`, which err with it |
+//! | `outcome CALL OUTCOME OTHER` | `and_then`, `error_then` and `forward_then`, which go on with the other outcome, the number of the first one added to its own; `ok_map_forward` and `ok_map_error`, which go on with that as a result, of which a Success is Ok; and `same`, which compares the two |
 //!
 //! A RESULT is `ok NUMBER` or `err NUMBER`. It is read by the CALL `or_error` or `or_forward`, with the number as what
 //! stands where there is no value: `option` reads its value, if it has one; `guard` and `data` read it as guards do, and

@@ -95,8 +95,8 @@ fn known(text: &str) -> Result<Known, CaseError> {
 }
 
 fn known_answer(alloc: Global, name: &str) -> Result<String, CaseError> {
-    let content = ContentType::known(alloc, known(name)?)?;
-    shown_content(alloc, &content)
+    let header = ContentType::known_header(alloc, known(name)?)?;
+    shown_header(alloc, &header)
 }
 
 /// Whether a text is a content type that is the same as this one.

@@ -1,9 +1,7 @@
 //! Cases of outcomes.
 use crate::error::CaseError;
 use crate::words::{first_word, number_cut, truth};
-use rkt_http::outcome::{
-    Outcome, and_then_in_turn, map_in_turn, map_nothing, on_success, success_again,
-};
+use rkt_http::outcome::Outcome;
 use rkt_http::try_outcome;
 use std::alloc::Global;
 
@@ -108,23 +106,14 @@ fn viewed(alloc: Global, call: &str, outcome: Small) -> Result<String, CaseError
     }
 }
 
-/// What a call answers that makes an outcome of one.
-fn made_alone(alloc: Global, call: &str, outcome: Small) -> Result<String, CaseError> {
-    match call {
-        "try" => shown(alloc, halved(narrowed(outcome))),
-        "map_nothing" => shown(alloc, map_nothing(outcome)),
-        "success_again" => shown(alloc, success_again(outcome)),
-        _ => viewed(alloc, call, outcome),
-    }
-}
-
 /// What a call of one outcome answers.
 fn alone(alloc: Global, call: &str, outcome: Small) -> Result<String, CaseError> {
     match call {
         "is" => predicates(alloc, outcome),
         "display" => displayed(alloc, outcome),
         "debug" => debugged(alloc, outcome),
-        _ => made_alone(alloc, call, outcome),
+        "try" => shown(alloc, halved(narrowed(outcome))),
+        _ => viewed(alloc, call, outcome),
     }
 }
 
@@ -156,25 +145,12 @@ fn mapped(call: &str, number: u32, outcome: Small) -> Result<Small, CaseError> {
     }
 }
 
-/// What the laws with a number make of it.
-fn lawful(call: &str, number: u32, outcome: Small) -> Result<Small, CaseError> {
-    match call {
-        "map_in_turn" => Ok(map_in_turn(
-            outcome,
-            |value: u32| value.wrapping_add(number),
-            |value: u32| value.wrapping_add(number),
-        )),
-        "on_success" => Ok(on_success(number, |value| joined(value, outcome))),
-        _ => mapped(call, number, outcome),
-    }
-}
-
 /// What a call of a number and an outcome answers.
 fn numbered(alloc: Global, call: &str, number: u32, outcome: Small) -> Result<String, CaseError> {
     match call {
         "success_or" => shown_result(alloc, outcome.success_or(number)),
         "success_or_else" => shown_result(alloc, outcome.success_or_else(|| number)),
-        _ => shown(alloc, lawful(call, number, outcome)?),
+        _ => shown(alloc, mapped(call, number, outcome)?),
     }
 }
 
@@ -191,11 +167,6 @@ fn gone_on(call: &str, outcome: Small, other: Small) -> Result<Small, CaseError>
         "and_then" => Ok(outcome.and_then(|value| joined(value, other))),
         "error_then" => Ok(outcome.error_then(|error| joined(error, other))),
         "forward_then" => Ok(outcome.forward_then(|forward| joined(forward, other))),
-        "and_then_in_turn" => Ok(and_then_in_turn(
-            outcome,
-            |value| joined(value, other),
-            |value| joined(value, other),
-        )),
         _ => Err(CaseError::Line),
     }
 }

@@ -1,6 +1,6 @@
 use crate::error::CaseError;
 use crate::origin::origin_answer;
-use crate::path::{compared_answer, numbered_answer};
+use crate::path::{compared_answer, names_answer, numbered_answer};
 use crate::words::{first_word, plain};
 use rkt_uri::{Absolute, Host, Reference};
 use std::alloc::Global;
@@ -59,13 +59,14 @@ fn reference_answer(alloc: Global, text: &str) -> Result<String, CaseError> {
     reference_text(alloc, &reference)
 }
 
-/// What a command answers that is about one URI of another kind than an origin.
+/// What a command answers that is about no origin.
 fn other_answer(alloc: Global, command: &str, text: &str) -> Result<String, CaseError> {
     match command {
         "host" => host_answer(alloc, text),
         "absolute" => absolute_answer(alloc, text),
         "whole" => whole_answer(alloc, text),
         "reference" => reference_answer(alloc, text),
+        "names" => names_answer(alloc, text),
         _ => Err(CaseError::Line),
     }
 }

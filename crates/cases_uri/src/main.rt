@@ -18,6 +18,7 @@
 //! | `behind NUMBER TEXT` | the segments behind the first so many |
 //! | `path NUMBER TEXT` | the path of the file system that those walk to |
 //! | `dotted NUMBER TEXT` | the same, where a name may begin with a dot |
+//! | `names TEXT` | the path that segments walk to which the commas of the text part, and which may be empty |
 //! | `front TEXT OTHER` | whether the segments are the first of the other's |
 //! | `same TEXT OTHER` | whether the segments are the other's |
 //! | `host TEXT` | its domain and its port |

@@ -2,6 +2,7 @@
 use crate::error::CaseError;
 use crate::shown::{listed, segment_or_none};
 use crate::words::{first_word, numbered};
+use rkt_base::{NoMemory, Seq, Text};
 use rkt_uri::{Origin, Segments};
 use std::alloc::Global;
 
@@ -31,6 +32,26 @@ pub fn numbered_answer(alloc: Global, command: &str, rest: &str) -> Result<Strin
     let (number, text) = numbered(rest)?;
     let origin = Origin::parse(alloc, text)?;
     from_number(alloc, command, number, origin.segments())
+}
+
+fn push_name(alloc: Global, names: &mut Seq<Text>, name: &str) -> Result<(), NoMemory> {
+    let name = Text::new(alloc, name)?;
+    names.push(name)
+}
+
+/// What the commas part, with what is empty between them.
+fn names_of(alloc: Global, text: &str) -> Result<Seq<Text>, NoMemory> {
+    let mut names = Seq::new(alloc);
+    for name in text.split(',') {
+        push_name(alloc, &mut names, name)?;
+    }
+    Ok(names)
+}
+
+/// The path of the file system that segments walk to which are listed one by one.
+pub fn names_answer(alloc: Global, text: &str) -> Result<String, CaseError> {
+    let names = names_of(alloc, text)?;
+    path_of(alloc, false, Segments::new(names.as_slice()))
 }
 
 /// What a command asks of two lists of segments.

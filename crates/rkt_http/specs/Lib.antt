@@ -4,5 +4,6 @@ pub mod Headers
 pub mod IntoOutcome
 pub mod Method
 pub mod Outcome
+pub mod OutcomeLaws
 pub mod Status
 pub mod Table

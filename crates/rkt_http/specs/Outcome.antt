@@ -44,6 +44,30 @@ map_outcome f g h (Success s) = Success (f s)
 map_outcome f g h (Error e) = Error (g e)
 map_outcome f g h (Forward v) = Forward (h v)
 
+-- the second outcome has the value of a Success changed as P says, and is the first otherwise
+abbrev pub Maps : {S T E F : Type 0} → (S → T → Type 0) → Outcome S E F → Outcome T E F → Type 0
+Maps P before after = MatchOutcome before (λ s. IsSuccessAnd after (P s)) (λ e. after ≡ Error e) (λ v. after ≡ Forward v)
+
+-- likewise of what an Error carries
+abbrev pub MapsError : {S E T F : Type 0} → (E → T → Type 0) → Outcome S E F → Outcome S T F → Type 0
+MapsError P before after = MatchOutcome before (λ s. after ≡ Success s) (λ e. IsErrorAnd after (P e)) (λ v. after ≡ Forward v)
+
+-- likewise of what a Forward hands on
+abbrev pub MapsForward : {S E F T : Type 0} → (F → T → Type 0) → Outcome S E F → Outcome S E T → Type 0
+MapsForward P before after = MatchOutcome before (λ s. after ≡ Success s) (λ e. after ≡ Error e) (λ v. IsForwardAnd after (P v))
+
+-- the second outcome goes on from the value of a Success as P says, and is the first otherwise
+abbrev pub GoesOn : {S T E F : Type 0} → (S → Outcome T E F → Type 0) → Outcome S E F → Outcome T E F → Type 0
+GoesOn P before after = MatchOutcome before (λ s. P s after) (λ e. after ≡ Error e) (λ v. after ≡ Forward v)
+
+-- likewise from what an Error carries
+abbrev pub GoesOnFromError : {S E T F : Type 0} → (E → Outcome S T F → Type 0) → Outcome S E F → Outcome S T F → Type 0
+GoesOnFromError P before after = MatchOutcome before (λ s. after ≡ Success s) (λ e. P e after) (λ v. after ≡ Forward v)
+
+-- likewise from what a Forward hands on
+abbrev pub GoesOnFromForward : {S E F T : Type 0} → (F → Outcome S E T → Type 0) → Outcome S E F → Outcome S E T → Type 0
+GoesOnFromForward P before after = MatchOutcome before (λ s. after ≡ Success s) (λ e. after ≡ Error e) (λ v. P v after)
+
 abbrev pub succeeded : {S E F : Type 0} → Outcome S E F → Option S
 succeeded (Success s) = Some s
 succeeded (Error e) = None

@@ -67,6 +67,14 @@ impl ContentType {
             .is_kind("application", "x-www-form-urlencoded")
     }
 
+    /// The header of the content type of this name, from a text of the program's own: what `header` gives of `known`.
+    pub fn known_header(alloc: Global, known: Known) -> Result<Header, NoMemory>
+        ensures header { IfOk result (λ h. h ≡ record { name = codes "Content-Type"; value = known_text known }) }
+        ensures same { IfOk result (λ h. h ≡ record { name = codes "Content-Type"; value = media_text (known_media known) }) }
+    {
+        Header::new(alloc, "Content-Type", known.as_str())
+    }
+
     /// The header of this content type.
     pub fn header(&self, alloc: Global) -> Result<Header, NoMemory>
         ensures header { IfOk result (λ h. h ≡ record { name = codes "Content-Type"; value = media_text self.now }) }

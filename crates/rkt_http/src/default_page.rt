@@ -1,11 +1,12 @@
 //! The pages that a server sends by itself.
 
-ghost use Rattle.std.specs.Prelude.{◌≡◌, ◌≤◌, ◌<◌, ◌+◌, ◌*◌, IfOk, length, map, unwrap_or, string_bytes};
+ghost use Rattle.std.specs.Prelude.{◌≡◌, ◌≤◌, ◌<◌, ◌+◌, ◌*◌, IfOk, length, option_copied, string_bytes};
 ghost use Rattle.std.specs.Fmt.{decimal};
 ghost use Rattle.rkt_http.specs.Table.{row_at};
-ghost use Rattle.rkt_http.specs.DefaultPage.{said, shown, page_of, page_reason_of, description_of, html_page, json_page, html_text as html_text_of, json_text as json_text_of};
+ghost use Rattle.rkt_http.specs.DefaultPage.{shown, descriptions, page_of, page_reason_of, description_of, html_page, json_page, html_text as html_text_of, json_text as json_text_of};
 
 use crate::status::Status;
+use crate::table::text_at;
 use rkt_base::{NoMemory, Text};
 use std::alloc::Global;
 
@@ -21,25 +22,27 @@ const UNKNOWN: PageText = PageText {
     description: "An unknown error has occurred.",
 };
 
-/// The text in the first row of this code, or else this other one.
-fn text_in(rows: &[(u16, &'static str, &'static str)], code: u16, other: PageText) -> PageText
-    ensures { shown result ≡ unwrap_or (row_at code (map (λ row. (row.0, said row.1.now row.2.now)) rows.now)) (shown other) }
+/// What the page of a code of its own describes.
+fn own_description(code: u16) -> Option<&'static str>
+    ensures { option_copied result ≡ row_at code descriptions }
 {
-    for row in rows {
-        if row.0 == code {
-            return PageText {
-                reason: row.1,
-                description: row.2,
-            };
-        }
-    }
-    other
+    text_at(&DESCRIPTIONS, code)
 }
 
-fn text_of(code: u16) -> PageText
-    ensures { shown result ≡ page_of code }
+#[tactic(auto, using(crate::proofs::Pages::page_of_both, crate::proofs::Pages::page_undescribed, crate::proofs::Pages::page_without_reason))]
+fn text_of(status: Status) -> PageText
+    ensures { shown result ≡ page_of status.code }
 {
-    text_in(&PAGES, code, UNKNOWN)
+    let Some(description) = own_description(status.code) else {
+        return UNKNOWN;
+    };
+    let Some(reason) = status.reason() else {
+        return UNKNOWN;
+    };
+    PageText {
+        reason,
+        description,
+    }
 }
 
 fn html_text(alloc: Global, code: u16, reason: &str, description: &str) -> Result<String, NoMemory>
@@ -87,7 +90,7 @@ pub fn html(alloc: Global, status: Status) -> Result<Text, NoMemory>
     ensures size { IfOk result (λ page. 100 ≤ status.code → status.code < 1000 →
         length page ≡ 375 + 2 * length (page_reason_of status.code) + length (description_of status.code)) }
 {
-    let text = text_of(status.code);
+    let text = text_of(status);
     let page = html_text(alloc, status.code, text.reason, text.description)?;
     Ok(Text::from_string(page))
 }
@@ -98,165 +101,135 @@ pub fn json(alloc: Global, status: Status) -> Result<Text, NoMemory>
     ensures size { IfOk result (λ page. 100 ≤ status.code → status.code < 1000 →
         length page ≡ 77 + length (page_reason_of status.code) + length (description_of status.code)) }
 {
-    let text = text_of(status.code);
+    let text = text_of(status);
     let page = json_text(alloc, status.code, text.reason, text.description)?;
     Ok(Text::from_string(page))
 }
 
-const PAGES: [(u16, &str, &str); 31] = [
+/// The descriptions of the pages of their own.
+const DESCRIPTIONS: [(Status, &str); 31] = [
     (
-        400,
-        "Bad Request",
+        Status::BadRequest,
         "The request could not be understood by the server due to malformed syntax.",
     ),
     (
-        401,
-        "Unauthorized",
+        Status::Unauthorized,
         "The request requires user authentication.",
     ),
     (
-        402,
-        "Payment Required",
+        Status::PaymentRequired,
         "The request could not be processed due to lack of payment.",
     ),
     (
-        403,
-        "Forbidden",
+        Status::Forbidden,
         "The server refused to authorize the request.",
     ),
     (
-        404,
-        "Not Found",
+        Status::NotFound,
         "The requested resource could not be found.",
     ),
     (
-        405,
-        "Method Not Allowed",
+        Status::MethodNotAllowed,
         "The request method is not supported for the requested resource.",
     ),
     (
-        406,
-        "Not Acceptable",
+        Status::NotAcceptable,
         "The requested resource is capable of generating only content not acceptable according to the Accept headers sent in the request.",
     ),
     (
-        407,
-        "Proxy Authentication Required",
+        Status::ProxyAuthenticationRequired,
         "Authentication with the proxy is required.",
     ),
     (
-        408,
-        "Request Timeout",
+        Status::RequestTimeout,
         "The server timed out waiting for the request.",
     ),
     (
-        409,
-        "Conflict",
+        Status::Conflict,
         "The request could not be processed because of a conflict in the request.",
     ),
     (
-        410,
-        "Gone",
+        Status::Gone,
         "The resource requested is no longer available and will not be available again.",
     ),
     (
-        411,
-        "Length Required",
+        Status::LengthRequired,
         "The request did not specify the length of its content, which is required by the requested resource.",
     ),
     (
-        412,
-        "Precondition Failed",
+        Status::PreconditionFailed,
         "The server does not meet one of the preconditions specified in the request.",
     ),
     (
-        413,
-        "Payload Too Large",
+        Status::PayloadTooLarge,
         "The request is larger than the server is willing or able to process.",
     ),
     (
-        414,
-        "URI Too Long",
+        Status::UriTooLong,
         "The URI provided was too long for the server to process.",
     ),
     (
-        415,
-        "Unsupported Media Type",
+        Status::UnsupportedMediaType,
         "The request entity has a media type which the server or resource does not support.",
     ),
     (
-        416,
-        "Range Not Satisfiable",
+        Status::RangeNotSatisfiable,
         "The portion of the requested file cannot be supplied by the server.",
     ),
     (
-        417,
-        "Expectation Failed",
+        Status::ExpectationFailed,
         "The server cannot meet the requirements of the Expect request-header field.",
     ),
     (
-        418,
-        "I'm a teapot",
+        Status::ImATeapot,
         "I was requested to brew coffee, and I am a teapot.",
     ),
     (
-        421,
-        "Misdirected Request",
+        Status::MisdirectedRequest,
         "The server cannot produce a response for this request.",
     ),
     (
-        422,
-        "Unprocessable Entity",
+        Status::UnprocessableEntity,
         "The request was well-formed but was unable to be followed due to semantic errors.",
     ),
     (
-        426,
-        "Upgrade Required",
+        Status::UpgradeRequired,
         "Switching to the protocol in the Upgrade header field is required.",
     ),
     (
-        428,
-        "Precondition Required",
+        Status::PreconditionRequired,
         "The server requires the request to be conditional.",
     ),
     (
-        429,
-        "Too Many Requests",
+        Status::TooManyRequests,
         "Too many requests have been received recently.",
     ),
     (
-        431,
-        "Request Header Fields Too Large",
+        Status::RequestHeaderFieldsTooLarge,
         "The server is unwilling to process the request because either an individual header field, or all the header fields collectively, are too large.",
     ),
     (
-        451,
-        "Unavailable For Legal Reasons",
+        Status::UnavailableForLegalReasons,
         "The requested resource is unavailable due to a legal demand to deny access to this resource.",
     ),
     (
-        500,
-        "Internal Server Error",
+        Status::InternalServerError,
         "The server encountered an internal error while processing this request.",
     ),
     (
-        501,
-        "Not Implemented",
+        Status::NotImplemented,
         "The server either does not recognize the request method, or it lacks the ability to fulfill the request.",
     ),
     (
-        503,
-        "Service Unavailable",
+        Status::ServiceUnavailable,
         "The server is currently unavailable.",
     ),
     (
-        504,
-        "Gateway Timeout",
+        Status::GatewayTimeout,
         "The server did not receive a timely response from an upstream server.",
     ),
     (
-        510,
-        "Not Extended",
+        Status::NotExtended,
         "Further extensions to the request are required for the server to fulfill it.",
     ),
 ];

@@ -14,6 +14,8 @@ mod method;
 pub mod outcome;
 mod reasons;
 mod status;
+mod status_law;
+mod table;
 mod uncased;
 
 pub use content_type::ContentType;
@@ -26,7 +28,8 @@ pub use outcome::{IntoOutcome, Outcome};
 pub use rkt_media::{Accept, InvalidMedia, Known, MediaType, spells_one_media_type};
 pub use rkt_uri::{
     Absolute, Host, InvalidUri, Origin, PathBuf, PathError, Profile, QueryFields, RawSegments,
-    Reference, Segments, says_what_it_spells,
+    Reference, Segments, says_what_it_spells, spells_one_absolute, spells_one_host,
 };
 pub use status::{Status, StatusClass};
+pub use status_law::constants_have_codes;
 pub use uncased::Uncased;

@@ -1,12 +1,12 @@
 //! What a handler or a guard answers: Success, Error, or Forward to whatever may answer next.
 ghost use Rattle.std.specs.Prelude.{◌≡◌, ◌↔◌, IsTrue, Option, Some, None, Result, Ok, Err, codes};
-ghost use Rattle.rkt_http.specs.Outcome.{MatchOutcome, IsSuccess, IsError, IsForward, ForSuccess, ForError, ForForward, IsSuccessAnd, IsErrorAnd, IsForwardAnd, succeeded, failed, forwarded, success_or, map_outcome};
+ghost use Rattle.rkt_http.specs.Outcome.{MatchOutcome, IsSuccess, IsError, IsForward, ForSuccess, ForError, ForForward, IsErrorAnd, IsForwardAnd, Maps, MapsError, MapsForward, GoesOn, GoesOnFromError, GoesOnFromForward, succeeded, failed, forwarded, success_or, map_outcome};
 
 mod into_outcome;
 mod laws;
 
 pub use into_outcome::IntoOutcome;
-pub use laws::{and_then_in_turn, map_in_turn, map_nothing, on_success, success_again};
+pub use laws::outcome_laws;
 use std::fmt;
 
 /// An answer of a handler or a guard.
@@ -85,7 +85,7 @@ impl<S, E, F> Outcome<S, E, F> {
     /// Changes the value of a Success.
     pub fn map<T, M: FnOnce(S) -> T>(self, f: M) -> Outcome<T, E, F>
         requires { ForSuccess self (M.pre f) }
-        ensures { MatchOutcome self (λ s. IsSuccessAnd result (M.post f s)) (λ e. result ≡ Outcome.Error e) (λ v. result ≡ Outcome.Forward v) }
+        ensures { Maps (M.post f) self result }
     {
         match self {
             Outcome::Success(value) => Outcome::Success(f(value)),
@@ -97,7 +97,7 @@ impl<S, E, F> Outcome<S, E, F> {
     /// Changes what an Error carries.
     pub fn map_error<T, M: FnOnce(E) -> T>(self, f: M) -> Outcome<S, T, F>
         requires { ForError self (M.pre f) }
-        ensures { MatchOutcome self (λ s. result ≡ Outcome.Success s) (λ e. IsErrorAnd result (M.post f e)) (λ v. result ≡ Outcome.Forward v) }
+        ensures { MapsError (M.post f) self result }
     {
         match self {
             Outcome::Success(value) => Outcome::Success(value),
@@ -109,7 +109,7 @@ impl<S, E, F> Outcome<S, E, F> {
     /// Changes what a Forward hands on.
     pub fn map_forward<T, M: FnOnce(F) -> T>(self, f: M) -> Outcome<S, E, T>
         requires { ForForward self (M.pre f) }
-        ensures { MatchOutcome self (λ s. result ≡ Outcome.Success s) (λ e. result ≡ Outcome.Error e) (λ v. IsForwardAnd result (M.post f v)) }
+        ensures { MapsForward (M.post f) self result }
     {
         match self {
             Outcome::Success(value) => Outcome::Success(value),
@@ -121,7 +121,7 @@ impl<S, E, F> Outcome<S, E, F> {
     /// Goes on from a Success with another outcome.
     pub fn and_then<T, M: FnOnce(S) -> Outcome<T, E, F>>(self, f: M) -> Outcome<T, E, F>
         requires { ForSuccess self (M.pre f) }
-        ensures { MatchOutcome self (λ s. M.post f s result) (λ e. result ≡ Outcome.Error e) (λ v. result ≡ Outcome.Forward v) }
+        ensures { GoesOn (M.post f) self result }
     {
         match self {
             Outcome::Success(value) => f(value),
@@ -133,7 +133,7 @@ impl<S, E, F> Outcome<S, E, F> {
     /// Goes on from an Error with another outcome.
     pub fn error_then<T, M: FnOnce(E) -> Outcome<S, T, F>>(self, f: M) -> Outcome<S, T, F>
         requires { ForError self (M.pre f) }
-        ensures { MatchOutcome self (λ s. result ≡ Outcome.Success s) (λ e. M.post f e result) (λ v. result ≡ Outcome.Forward v) }
+        ensures { GoesOnFromError (M.post f) self result }
     {
         match self {
             Outcome::Success(value) => Outcome::Success(value),
@@ -145,7 +145,7 @@ impl<S, E, F> Outcome<S, E, F> {
     /// Goes on from a Forward with another outcome.
     pub fn forward_then<T, M: FnOnce(F) -> Outcome<S, E, T>>(self, f: M) -> Outcome<S, E, T>
         requires { ForForward self (M.pre f) }
-        ensures { MatchOutcome self (λ s. result ≡ Outcome.Success s) (λ e. result ≡ Outcome.Error e) (λ v. M.post f v result) }
+        ensures { GoesOnFromForward (M.post f) self result }
     {
         match self {
             Outcome::Success(value) => Outcome::Success(value),
@@ -280,4 +280,13 @@ macro_rules! try_outcome {
             }
         }
     };
+}
+
+/// A law of `try_outcome!`: it goes on with the value of a Success, and returns an Error as an Error and a Forward as a
+/// Forward. Both carry the same type here, so that only this clause tells them apart.
+pub fn try_outcome_returns<S, E, R: From<E>>(outcome: Outcome<S, E, E>) -> Outcome<S, R, R>
+    ensures { MatchOutcome outcome (λ s. result ≡ Outcome.Success s) (λ e. IsErrorAnd result (R.from_gives e)) (λ v. IsForwardAnd result (R.from_gives v)) }
+{
+    let value = try_outcome!(outcome);
+    Outcome::Success(value)
 }

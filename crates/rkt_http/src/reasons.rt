@@ -1,6 +1,3 @@
-ghost use Rattle.std.specs.Prelude.{◌≡◌, map, option_copied};
-ghost use Rattle.rkt_http.specs.Table.{row_at};
-
 use crate::status::Status;
 
 /// The constants of `Status`, with their reasons.
@@ -84,15 +81,3 @@ pub(crate) const REASONS: [(Status, &str); 60] = [
         "Network Authentication Required",
     ),
 ];
-
-/// The reason in the first row of this code.
-pub(crate) fn reason_in(rows: &[(Status, &'static str)], code: u16) -> Option<&'static str>
-    ensures { option_copied result ≡ row_at code (map (λ row. (row.0.code, row.1.now)) rows.now) }
-{
-    for row in rows {
-        if row.0.code == code {
-            return Some(row.1);
-        }
-    }
-    None
-}

@@ -1,7 +1,8 @@
 ghost use Rattle.std.specs.Prelude.{◌≡◌, option_copied};
 ghost use Rattle.rkt_http.specs.Status.{class_of, reason_of};
 
-use crate::reasons::{REASONS, reason_in};
+use crate::reasons::REASONS;
+use crate::table::text_at;
 
 /// A status by its code (RFC 9110, 15).
 #[derive(Clone, Copy, Debug, PartialEq, Eq, PartialOrd, Ord, Hash)]
@@ -44,7 +45,7 @@ impl Status {
     pub fn reason(self) -> Option<&'static str>
         ensures { option_copied result ≡ reason_of self.code }
     {
-        reason_in(&REASONS, self.code)
+        text_at(&REASONS, self.code)
     }
 }
 

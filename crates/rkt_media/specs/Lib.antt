@@ -1,10 +1,12 @@
 pub mod Accept
+pub mod AcceptPlaceLaws
 pub mod AcceptPlaces
 pub mod AcceptRests
 pub mod AcceptText
 pub mod ByteClass
 pub mod Media
 pub mod MediaEquality
+pub mod MediaPlaceLaws
 pub mod MediaPlaces
 pub mod MediaRests
 pub mod MediaText

@@ -1,4 +1,5 @@
--- The grammar of a media type (RFC 9110, 8.3.1 and 5.6).
+-- The grammar of a media type (RFC 9110, 8.3.1), of tokens (5.6.2) and quoted strings (5.6.4), as this project takes it:
+-- behind each semicolon stands a parameter.
 use Rattle.std.specs.Prelude.{ℕ, ◌≡◌, ◌≢◌, ◌⊎◌, ⊤, List, [], ◌∷◌, ◌++◌, Bool, true, false, ◌==◌, ◌||◌, ◌&&◌, nat_le, not, codes, Option, Some, None, if◌then◌else◌}
 use Rattle.std.specs.List.{list_any}
 use Rattle.rkt_grammar.specs.Grammar.{is_alphanumeric}

@@ -57,7 +57,8 @@ fn inside(place: MediaPlace, byte: u8) -> Option<AcceptPlace>
 }
 
 impl Place for AcceptPlace {
-    ghost use Rattle.rkt_media.specs.AcceptPlaces.{place_after, may_end, rest_of, ends, goes_on, leads_on};
+    ghost use Rattle.rkt_media.specs.AcceptPlaces.{place_after, may_end, rest_of};
+    ghost use Rattle.rkt_media.specs.AcceptPlaceLaws.{ends, goes_on, leads_on};
 
     ghost place_after = { place_after };
 

@@ -1,5 +1,5 @@
 ghost use Rattle.std.specs.Prelude.{◌≡◌, IfOk};
-ghost use Rattle.rkt_media.specs.Media.{known_media};
+ghost use Rattle.rkt_media.specs.Media.{known_media, known_text, media_text};
 
 use crate::media_type::MediaType;
 use rkt_base::NoMemory;
@@ -19,6 +19,28 @@ pub enum Known {
     CSS,
     XML,
     Form,
+}
+
+impl Known {
+    /// The text of this media type.
+    pub fn as_str(self) -> &'static str
+        ensures text { result.now ≡ known_text self }
+        // The media type prints so.
+        ensures printed { result.now ≡ media_text (known_media self) }
+    {
+        match self {
+            Known::Any => "*/*",
+            Known::Plain | Known::Text => "text/plain; charset=utf-8",
+            Known::Binary => "application/octet-stream",
+            Known::JSON => "application/json",
+            Known::JavaScript => "text/javascript",
+            Known::MsgPack => "application/msgpack",
+            Known::HTML => "text/html; charset=utf-8",
+            Known::CSS => "text/css; charset=utf-8",
+            Known::XML => "text/xml; charset=utf-8",
+            Known::Form => "application/x-www-form-urlencoded",
+        }
+    }
 }
 
 impl MediaType {

@@ -58,7 +58,8 @@ pub(crate) fn behind_value(byte: u8) -> Option<MediaPlace>
 }
 
 impl Place for MediaPlace {
-    ghost use Rattle.rkt_media.specs.MediaPlaces.{place_after, may_end, rest_of, ends, goes_on, leads_on};
+    ghost use Rattle.rkt_media.specs.MediaPlaces.{place_after, may_end, rest_of};
+    ghost use Rattle.rkt_media.specs.MediaPlaceLaws.{ends, goes_on, leads_on};
 
     ghost place_after = { place_after };
 

@@ -1,6 +1,10 @@
+pub mod Absolutes
 pub mod Cuts
+pub mod Firsts
+pub mod Hosts
 pub mod Joins
 pub mod Normal
 pub mod NormalForms
 pub mod OriginLemmas
+pub mod Paths
 pub mod Pieces

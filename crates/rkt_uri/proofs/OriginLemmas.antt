@@ -7,7 +7,7 @@ use Rattle.std.specs.String.Boundary.{IsSplitPoint}
 use Rattle.rkt_grammar.specs.Grammar.{OnlyOf}
 use Rattle.rkt_uri.specs.declared.origin_place.Profile.{Profile}
 use Rattle.rkt_uri.specs.Origin.{is_path_byte, is_question, query_text, query_in, Target, target_of, spelling, Spells, IsOrigin, IsKept, segments_of, fields_of}
-use Rattle.rkt_uri.specs.OriginPlaces.{no_question_in_path}
+use Rattle.rkt_uri.specs.OriginPlaceLaws.{no_question_in_path}
 
 position_more : (b : ℕ) (bs : List ℕ) → (b == 63) ≡ false → position_or_len is_question (b ∷ bs) ≡ suc (position_or_len is_question bs)
 position_more b bs is = rw is (omega arith)

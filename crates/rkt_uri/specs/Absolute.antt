@@ -1,12 +1,12 @@
 -- Absolute URIs (RFC 3986, 3.1, 3.2 and 4.3), as this project takes them: a scheme, and then an authority with maybe an origin behind it, or a path.
-use Rattle.std.specs.Prelude.{ℕ, ◌⊎◌, List, [], ◌∷◌, Bool, ◌==◌, ◌||◌, ◌&&◌, nat_le, codes, Option, Some, None, if◌then◌else◌}
+use Rattle.std.specs.Prelude.{ℕ, ◌≡◌, ◌⊎◌, List, [], ◌∷◌, ◌++◌, Bool, true, ◌==◌, ◌||◌, ◌&&◌, nat_le, codes, Option, Some, None, IfSome, if◌then◌else◌}
 use Rattle.std.specs.List.{list_any, before_first, after_first}
 use Rattle.std.specs.Option.{option_map, option_and_then}
 use Rattle.rkt_grammar.specs.Grammar.{OnlyOf, IsFrontOf, has_byte}
 use Rattle.rkt_uri.specs.Words.{Then, Many, One}
 use Rattle.rkt_grammar.specs.Grammar.{is_alphanumeric}
 use Rattle.rkt_uri.specs.Origin.{is_path_byte, is_query_byte, is_question, is_slash, IsOrigin}
-use Rattle.rkt_uri.specs.Host.{is_name_byte, MaybeHost, End, domain_in, port_behind, is_colon}
+use Rattle.rkt_uri.specs.Host.{Authority, SpellsAuthority, is_name_byte, MaybeHost, End, domain_in, port_behind, is_colon}
 use Rattle.rkt_uri.specs.declared.origin_place.Profile.TheVariants.{Request}
 
 abbrev pub is_letter : ℕ → Bool
@@ -44,9 +44,57 @@ IsHierarchy text = Then 47 (Then 47 Located) text ⊎ IsLonePath text
 abbrev pub SchemeRest : List ℕ → Type 0
 SchemeRest text = Many is_scheme_byte (Then 58 IsHierarchy) text
 
--- the text is an absolute URI
+-- a scheme, its colon, and what is behind it
+abbrev pub AbsoluteForm : List ℕ → Type 0
+AbsoluteForm text = One is_letter SchemeRest text
+
+-- where an absolute URI leads: maybe a user part, and a host that may be empty
+pub record Site : Type 0 where
+  pub user : Option (List ℕ)
+  pub host : Authority
+
+-- what an absolute URI says: its scheme, its site, if it has one, and what is behind that, or else its path
+pub record AbsoluteUri : Type 0 where
+  pub scheme : List ℕ
+  pub site : Option Site
+  pub rest : List ℕ
+
+-- the text of a user part, with its at sign
+abbrev pub user_text : Option (List ℕ) → List ℕ
+user_text None = []
+user_text (Some user) = user ++ 64 ∷ []
+
+-- the text spells this site
+pub record SpellsSite (text : List ℕ) (site : Site) : Type 0 where
+  pub user : IfSome site.user (OnlyOf is_user_byte)
+  pub host_text : List ℕ
+  pub host : SpellsAuthority host_text site.host
+  pub spelled : text ≡ user_text site.user ++ host_text
+
+-- behind the colon of a scheme: a path, or two slashes, a site, and what is behind it
+abbrev pub SpellsHierarchy : List ℕ → Option Site → List ℕ → Type 0
+SpellsHierarchy text None rest = IsLonePath rest × (text ≡ rest)
+SpellsHierarchy text (Some site) rest = (site_text : List ℕ) × SpellsSite site_text site × MaybeOrigin rest × (text ≡ 47 ∷ 47 ∷ (site_text ++ rest))
+
+-- a letter, and more bytes of a scheme
+abbrev pub IsScheme : List ℕ → Type 0
+IsScheme [] = ⊥
+IsScheme (b ∷ bs) = (is_letter b ≡ true) × OnlyOf is_scheme_byte bs
+
+-- the text spells this absolute URI
+pub record SpellsAbsolute (text : List ℕ) (uri : AbsoluteUri) : Type 0 where
+  pub scheme : IsScheme uri.scheme
+  pub behind : List ℕ
+  pub hierarchy : SpellsHierarchy behind uri.site uri.rest
+  pub spelled : text ≡ uri.scheme ++ 58 ∷ behind
+
+-- the text spells some absolute URI
 abbrev pub IsAbsolute : List ℕ → Type 0
-IsAbsolute text = One is_letter SchemeRest text
+IsAbsolute text = (uri : AbsoluteUri) × SpellsAbsolute text uri
+
+-- a text spells one absolute URI at most
+abbrev pub SpellsOneAbsolute : Type 0
+SpellsOneAbsolute = (text : List ℕ) (a b : AbsoluteUri) → SpellsAbsolute text a → SpellsAbsolute text b → a ≡ b
 
 -- the scheme that a text says, up to the first colon
 abbrev pub scheme_of : List ℕ → List ℕ

@@ -1,9 +1,8 @@
 -- Hosts with ports (RFC 3986, 3.2.2 and 3.2.3), as this project takes them: a name, or an address between brackets.
-use Rattle.std.specs.Prelude.{ℕ, ◌≡◌, ◌+◌, ◌-◌, ◌*◌, ◌⊎◌, List, [], ◌∷◌, ◌++◌, Bool, true, ◌==◌, ◌||◌, ◌&&◌, nat_le, codes, Option, Some, None, if◌then◌else◌}
+use Rattle.std.specs.Prelude.{ℕ, ◌≡◌, ◌≢◌, ◌+◌, ◌-◌, ◌*◌, ◌⊎◌, List, [], ◌∷◌, ◌++◌, Bool, true, ◌==◌, ◌||◌, ◌&&◌, nat_le, codes, Option, Some, None, if◌then◌else◌}
 use Rattle.std.specs.List.{list_any, before_first, after_first}
-use Rattle.rkt_grammar.specs.Grammar.{has_byte}
+use Rattle.rkt_grammar.specs.Grammar.{OnlyOf, has_byte, is_alphanumeric}
 use Rattle.rkt_uri.specs.Words.{Then, Many, Many1}
-use Rattle.rkt_grammar.specs.Grammar.{is_alphanumeric}
 
 abbrev pub is_digit : ℕ → Bool
 is_digit b = nat_le 48 b && nat_le b 57
@@ -49,9 +48,9 @@ End text = text ≡ []
 abbrev pub MaybeHost : (List ℕ → Type 0) → List ℕ → Type 0
 MaybeHost Rest text = Many is_name_byte (MaybePort Rest) text ⊎ Then 91 (Address (MaybePort Rest)) text
 
--- the text is a host that is not empty, and maybe a port
-abbrev pub IsHost : List ℕ → Type 0
-IsHost text = Many1 is_name_byte (MaybePort End) text ⊎ Then 91 (Address (MaybePort End)) text
+-- a host that is not empty, and maybe a port
+abbrev pub HostForm : List ℕ → Type 0
+HostForm text = Many1 is_name_byte (MaybePort End) text ⊎ Then 91 (Address (MaybePort End)) text
 
 abbrev pub is_colon : ℕ → Bool
 is_colon b = b == 58
@@ -72,6 +71,39 @@ port_in text = if has_byte is_colon text then port_on 0 (after_first is_colon te
 pub record Authority : Type 0 where
   pub domain : List ℕ
   pub port : Option ℕ
+
+-- an address between its brackets
+abbrev pub IsAddress : List ℕ → Type 0
+IsAddress domain = (inside : List ℕ) × OnlyOf is_address_byte inside × (domain ≡ 91 ∷ (inside ++ 93 ∷ []))
+
+-- a name, which may be empty, or an address
+abbrev pub IsDomain : List ℕ → Type 0
+IsDomain domain = OnlyOf is_name_byte domain ⊎ IsAddress domain
+
+-- the text of a port: a colon and one digit at least of its number, or nothing where there is none
+abbrev pub SpellsPort : List ℕ → Option ℕ → Type 0
+SpellsPort text None = text ≡ []
+SpellsPort text (Some port) = (digit : ℕ) × (digits : List ℕ) × (port_on 0 (digit ∷ digits) ≡ Some port) × (text ≡ 58 ∷ digit ∷ digits)
+
+-- the text spells this domain, and this port behind it
+pub record SpellsAuthority (text : List ℕ) (host : Authority) : Type 0 where
+  pub domain : IsDomain host.domain
+  pub port_text : List ℕ
+  pub port : SpellsPort port_text host.port
+  pub spelled : text ≡ host.domain ++ port_text
+
+-- the text spells this host, which is not empty
+pub record SpellsHost (text : List ℕ) (host : Authority) : Type 0 where
+  pub some : host.domain ≢ []
+  pub authority : SpellsAuthority text host
+
+-- the text spells some host
+abbrev pub IsHost : List ℕ → Type 0
+IsHost text = (host : Authority) × SpellsHost text host
+
+-- a text spells one host at most
+abbrev pub SpellsOneHost : Type 0
+SpellsOneHost = (text : List ℕ) (a b : Authority) → SpellsHost text a → SpellsHost text b → a ≡ b
 
 -- an address goes as far as its closing bracket, and a name as far as the first colon
 abbrev pub domain_in : List ℕ → List ℕ

@@ -1,10 +1,15 @@
 pub mod Absolute
+pub mod AbsolutePlaceLaws
 pub mod AbsolutePlaces
+pub mod FileNames
 pub mod Host
+pub mod HostPlaceLaws
 pub mod HostPlaces
 pub mod Origin
+pub mod OriginPlaceLaws
 pub mod OriginPlaces
 pub mod PathBuf
 pub mod Reference
+pub mod ReferencePlaceLaws
 pub mod ReferencePlaces
 pub mod Words

@@ -1,9 +1,17 @@
 -- A path of the file system from segments.
-use Rattle.std.specs.Prelude.{ℕ, ◌==◌, ◌&&◌, ◌||◌, not, List, [], ◌∷◌, ◌++◌, Bool, length, take, Result, Ok, Err, if◌then◌else◌, nat_eq, slice_index, Option, Some, None, ◌-◌}
+use Rattle.std.specs.Prelude.{ℕ, ◌==◌, ◌-◌, ◌&&◌, ◌||◌, not, List, [], ◌∷◌, ◌++◌, Bool, length, take, codes, Result, Ok, Err, if◌then◌else◌, nat_eq, slice_index, Option, Some, None}
 use Rattle.std.specs.Cmp.Lexicographic.{pointwise}
 use Rattle.std.specs.List.{list_any, join_with_byte}
 use Rattle.rkt_uri.specs.declared.path_buf.PathError.{PathError}
 use Rattle.rkt_uri.specs.declared.path_buf.PathError.TheVariants.{BadStart, BadChar, BadEnd}
+
+-- an empty segment and a dot stay where the path is
+abbrev pub is_here : List ℕ → Bool
+is_here segment = length segment == 0 || pointwise nat_eq segment (codes ".")
+
+-- two dots go one up
+abbrev pub is_up : List ℕ → Bool
+is_up segment = pointwise nat_eq segment (codes "..")
 
 abbrev pub first_of : List ℕ → ℕ
 first_of name = slice_index name 0
@@ -11,44 +19,54 @@ first_of name = slice_index name 0
 abbrev pub last_of : List ℕ → ℕ
 last_of name = slice_index name (length name - 1)
 
+-- what a name may not be, and the fault that it has then
+abbrev pub name_rules : Bool → List ℕ → List (Bool × PathError)
+name_rules dots name = (first_of name == 46 && not dots, BadStart 46) ∷
+    (first_of name == 42, BadStart 42) ∷
+    (last_of name == 58, BadEnd 58) ∷
+    (last_of name == 62, BadEnd 62) ∷
+    (last_of name == 60, BadEnd 60) ∷
+    (list_any (λ b. b == 47) name, BadChar 47) ∷
+    []
+
+-- the fault of the first rule that applies
+abbrev pub first_that_applies : List (Bool × PathError) → Option PathError
+first_that_applies [] = None
+first_that_applies (rule ∷ others) = if rule.0 then Some rule.1 else first_that_applies others
+
 -- what is wrong with a name
+abbrev pub name_fault : Bool → List ℕ → Option PathError
+name_fault dots name = first_that_applies (name_rules dots name)
+
+-- what is wrong with a segment: one that is no name is never wrong
 abbrev pub fault_of : Bool → List ℕ → Option PathError
-fault_of dots name =
-    if first_of name == 46 && not dots then Some (BadStart 46)
-    else (if first_of name == 42 then Some (BadStart 42)
-    else (if last_of name == 58 || last_of name == 62 || last_of name == 60 then Some (BadEnd (last_of name))
-    else (if list_any (λ b. b == 47) name then Some (BadChar 47) else None)))
+fault_of dots segment = if is_here segment || is_up segment then None else name_fault dots segment
 
-abbrev pub step_on : Option PathError → List (List ℕ) → List ℕ → Result (List (List ℕ)) PathError
-step_on (Some e) kept name = Err e
-step_on None kept name = Ok (kept ++ name ∷ [])
+-- the first of two, where there is one
+abbrev pub or_else : Option PathError → Option PathError → Option PathError
+or_else (Some e) other = Some e
+or_else None other = other
 
--- these names, unless something is wrong
-abbrev pub unless : Option PathError → List (List ℕ) → Result (List (List ℕ)) PathError
-unless (Some e) kept = Err e
-unless None kept = Ok kept
+-- what is wrong with the first segment that is wrong
+abbrev pub fault_in : Bool → List (List ℕ) → Option PathError
+fault_in dots [] = None
+fault_in dots (segment ∷ segments) = or_else (fault_of dots segment) (fault_in dots segments)
 
--- one more segment behind those that are kept
-abbrev pub step : Bool → List (List ℕ) → List ℕ → Result (List (List ℕ)) PathError
-step dots kept name =
-    if pointwise nat_eq name (46 ∷ []) then Ok kept
-    else (if pointwise nat_eq name (46 ∷ 46 ∷ []) then Ok (take (length kept - 1) kept)
-    else step_on (fault_of dots name) kept name)
+-- the names behind one more segment: two dots take the last one away, and a name comes behind the others
+abbrev pub with_segment : List (List ℕ) → List ℕ → List (List ℕ)
+with_segment names segment =
+    if is_here segment then names else (if is_up segment then take (length names - 1) names else names ++ segment ∷ [])
 
--- each segment in turn, up to the first fault
-abbrev pub then_on : Result (List (List ℕ)) PathError → (List (List ℕ) → Result (List (List ℕ)) PathError) → Result (List (List ℕ)) PathError
-then_on (Err e) more = Err e
-then_on (Ok kept) more = more kept
+-- the names that segments leave behind these
+abbrev pub names_behind : List (List ℕ) → List (List ℕ) → List (List ℕ)
+names_behind names [] = names
+names_behind names (segment ∷ segments) = names_behind (with_segment names segment) segments
 
-abbrev pub walked : Bool → List (List ℕ) → List (List ℕ) → Result (List (List ℕ)) PathError
-walked dots [] kept = Ok kept
-walked dots (name ∷ names) kept = then_on (step dots kept name) (walked dots names)
-
--- the names that a walk leaves, with slashes between them
-abbrev pub joined : Result (List (List ℕ)) PathError → Result (List ℕ) PathError
-joined (Err e) = Err e
-joined (Ok names) = Ok (join_with_byte 47 names)
+-- the fault, or else the path
+abbrev pub unless : Option PathError → List ℕ → Result (List ℕ) PathError
+unless (Some e) path = Err e
+unless None path = Ok path
 
 -- the path of these segments, or the first fault
 abbrev pub path_of_names : Bool → List (List ℕ) → Result (List ℕ) PathError
-path_of_names dots segments = joined (walked dots segments [])
+path_of_names dots segments = unless (fault_in dots segments) (join_with_byte 47 (names_behind [] segments))

@@ -1,9 +1,9 @@
-ghost use Rattle.std.specs.Prelude.{◌≡◌, IfOk};
+ghost use Rattle.std.specs.Prelude.{◌≡◌, IfOk, IfNone, IfSome};
 ghost use Rattle.std.specs.List.{after_first};
-ghost use Rattle.std.specs.Option.{option_copied};
+ghost use Rattle.std.specs.Option.{option_copied, option_map, option_and_then};
 ghost use Rattle.rkt_base.specs.Want.{IfRefused, GivesUnlessNoMemory};
 ghost use Rattle.rkt_grammar.specs.Grammar.{LeavesAt};
-ghost use Rattle.rkt_uri.specs.Absolute.{IsAbsolute, scheme_of, host_of, port_of, host_and_port, authority_in, behind_byte};
+ghost use Rattle.rkt_uri.specs.Absolute.{Site, AbsoluteUri, SpellsAbsolute, IsAbsolute, host_of, port_of, host_and_port, authority_in, behind_byte};
 ghost use Rattle.rkt_uri.specs.Host.{is_colon};
 
 use crate::absolute_place::AbsolutePlace;
@@ -23,10 +23,13 @@ pub struct Absolute {
 
 impl Model for Absolute {
     ghost use Rattle.std.specs.Prelude.{List, ℕ};
+    ghost use Rattle.rkt_uri.specs.Absolute.{IsAbsolute};
 
     ghost Value = { List ℕ };
 
     ghost view = { λ a. a.text };
+
+    ghost invariant = { λ a. IsAbsolute a.text };
 }
 
 /// What stands behind the scheme's colon.
@@ -64,16 +67,38 @@ fn authority_of_text(text: &str) -> Option<&str>
     Some(host_and_port_of(behind_slash(first)?))
 }
 
+/// The host that a text says, without its port.
+fn host_of_text(text: &str) -> Option<&str>
+    ensures { option_copied result ≡ host_of text.now }
+{
+    Some(domain_of_text(authority_of_text(text)?))
+}
+
+/// The port that a text says behind its host.
+fn port_of_text(text: &str) -> Option<u16>
+    ensures { result ≡ port_of text.now }
+{
+    port_of_authority(authority_of_text(text)?)
+}
+
+/// The place at which a text leaves the grammar of absolute URIs.
+fn fault(text: &str) -> Option<usize>
+    ensures none { IfNone result (IsAbsolute text.now) }
+    ensures some { IfSome result (LeavesAt IsAbsolute text.now) }
+{
+    first_fault(AbsolutePlace::Start, text)
+}
+
 impl Absolute {
     pub fn parse(alloc: Global, text: &str) -> Result<Absolute, Want<InvalidUri>>
-        // What is accepted is an absolute URI, and is kept as it is.
+        // What is accepted spells an absolute URI, and is kept as it is.
         ensures accepted { IfOk result (λ a. IsAbsolute text.now × (a ≡ text.now)) }
-        // What is an absolute URI is accepted, unless memory runs out.
+        // What spells one is accepted, unless memory runs out.
         ensures complete { IsAbsolute text.now → GivesUnlessNoMemory result text.now }
         // A refusal names the place where the text leaves the grammar.
         ensures refused { IfRefused result (λ e. LeavesAt IsAbsolute text.now e.at) }
     {
-        match first_fault(AbsolutePlace::Start, text) {
+        match fault(text) {
             Some(at) => Err(Want::Refused(InvalidUri { at })),
             None => Ok(Absolute {
                 text: Text::new(alloc, text)?,
@@ -82,28 +107,29 @@ impl Absolute {
     }
 
     pub fn as_str(&self) -> &str
-        ensures { result.now ≡ self.now }
+        ensures text { result.now ≡ self.now }
+        ensures absolute { IsAbsolute result.now }
     {
         self.text.as_str()
     }
 
     pub fn scheme(&self) -> &str
-        ensures { result.now ≡ scheme_of self.now }
+        ensures { (uri : AbsoluteUri) → SpellsAbsolute self.now uri → result.now ≡ uri.scheme }
     {
         before_colon(self.text.as_str())
     }
 
     /// The name, or the address with its brackets, if there is an authority. It may be empty.
     pub fn host(&self) -> Option<&str>
-        ensures { option_copied result ≡ host_of self.now }
+        ensures { (uri : AbsoluteUri) → SpellsAbsolute self.now uri → option_copied result ≡ option_map (λ (site : Site). site.host.domain) uri.site }
     {
-        Some(domain_of_text(authority_of_text(self.text.as_str())?))
+        host_of_text(self.text.as_str())
     }
 
     pub fn port(&self) -> Option<u16>
-        ensures { result ≡ port_of self.now }
+        ensures { (uri : AbsoluteUri) → SpellsAbsolute self.now uri → result ≡ option_and_then (λ (site : Site). site.host.port) uri.site }
     {
-        port_of_authority(authority_of_text(self.text.as_str())?)
+        port_of_text(self.text.as_str())
     }
 
     /// The same, in a text of its own.

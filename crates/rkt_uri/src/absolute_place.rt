@@ -75,7 +75,8 @@ fn in_front(place: HostPlace, byte: u8) -> Option<AbsolutePlace>
 }
 
 impl Place for AbsolutePlace {
-    ghost use Rattle.rkt_uri.specs.AbsolutePlaces.{place_after, may_end, rest_of, ends, goes_on, leads_on};
+    ghost use Rattle.rkt_uri.specs.AbsolutePlaces.{place_after, may_end, rest_of};
+    ghost use Rattle.rkt_uri.specs.AbsolutePlaceLaws.{ends, goes_on, leads_on};
 
     ghost place_after = { place_after };
 

@@ -1,8 +1,8 @@
-ghost use Rattle.std.specs.Prelude.{◌≡◌, IfOk, option_copied};
+ghost use Rattle.std.specs.Prelude.{◌≡◌, IfOk, IfNone, IfSome, option_copied};
 ghost use Rattle.std.specs.List.{before_first};
 ghost use Rattle.rkt_base.specs.Want.{IfRefused, GivesUnlessNoMemory};
 ghost use Rattle.rkt_grammar.specs.Grammar.{LeavesAt};
-ghost use Rattle.rkt_uri.specs.Host.{IsHost, authority_of, domain_in, port_behind, is_colon, port_on, port_in};
+ghost use Rattle.rkt_uri.specs.Host.{Authority, SpellsHost, IsHost, authority_of, domain_in, port_behind, is_colon, port_on, port_in};
 
 use crate::host_place::{HostPlace, more_port};
 use crate::origin::InvalidUri;
@@ -80,6 +80,14 @@ pub(crate) fn port_of_authority(text: &str) -> Option<u16>
     }
 }
 
+/// The place at which a text leaves the grammar of hosts.
+fn fault(text: &str) -> Option<usize>
+    ensures none { IfNone result (IsHost text.now) }
+    ensures some { IfSome result (LeavesAt IsHost text.now) }
+{
+    first_fault(HostPlace::Start, text)
+}
+
 /// What a text says as a host.
 fn read(alloc: Global, text: &str) -> Result<Host, NoMemory>
     ensures { IfOk result (λ h. h ≡ authority_of text.now) }
@@ -92,14 +100,14 @@ fn read(alloc: Global, text: &str) -> Result<Host, NoMemory>
 
 impl Host {
     pub fn parse(alloc: Global, text: &str) -> Result<Host, Want<InvalidUri>>
-        // What is accepted is a host, and has the parts that the text says.
-        ensures accepted { IfOk result (λ h. IsHost text.now × (h ≡ authority_of text.now)) }
-        // What is a host is accepted, unless memory runs out.
-        ensures complete { IsHost text.now → GivesUnlessNoMemory result (authority_of text.now) }
+        // What is accepted is spelled so.
+        ensures accepted { IfOk result (λ h. SpellsHost text.now h) }
+        // What is spelled so is accepted, unless memory runs out.
+        ensures complete { (h : Authority) → SpellsHost text.now h → GivesUnlessNoMemory result h }
         // A refusal names the place where the text leaves the grammar.
         ensures refused { IfRefused result (λ e. LeavesAt IsHost text.now e.at) }
     {
-        match first_fault(HostPlace::Start, text) {
+        match fault(text) {
             Some(at) => Err(Want::Refused(InvalidUri { at })),
             None => Ok(read(alloc, text)?),
         }

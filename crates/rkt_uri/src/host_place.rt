@@ -52,7 +52,8 @@ fn in_port(port: u16, byte: u8) -> Option<HostPlace>
 }
 
 impl Place for HostPlace {
-    ghost use Rattle.rkt_uri.specs.HostPlaces.{place_after, may_end, rest_of, ends, goes_on, leads_on};
+    ghost use Rattle.rkt_uri.specs.HostPlaces.{place_after, may_end, rest_of};
+    ghost use Rattle.rkt_uri.specs.HostPlaceLaws.{ends, goes_on, leads_on};
 
     ghost place_after = { place_after };
 

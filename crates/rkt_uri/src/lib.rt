@@ -2,8 +2,10 @@
 #![tactic(auto)]
 
 mod absolute;
+mod absolute_law;
 mod absolute_place;
 mod host;
+mod host_law;
 mod host_place;
 mod origin;
 mod origin_bytes;
@@ -15,7 +17,9 @@ mod reference;
 mod segments;
 
 pub use absolute::Absolute;
+pub use absolute_law::spells_one_absolute;
 pub use host::Host;
+pub use host_law::spells_one_host;
 pub use origin::{InvalidUri, Origin};
 pub use origin_iter::{QueryFields, RawSegments};
 pub use origin_law::says_what_it_spells;

@@ -19,7 +19,8 @@ pub(crate) enum OriginPlace {
 }
 
 impl Place for OriginPlace {
-    ghost use Rattle.rkt_uri.specs.OriginPlaces.{place_after, may_end, rest_of, ends, goes_on, leads_on};
+    ghost use Rattle.rkt_uri.specs.OriginPlaces.{place_after, may_end, rest_of};
+    ghost use Rattle.rkt_uri.specs.OriginPlaceLaws.{ends, goes_on, leads_on};
 
     ghost place_after = { place_after };
 

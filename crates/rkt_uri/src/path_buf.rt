@@ -1,7 +1,8 @@
-ghost use Rattle.std.specs.Prelude.{◌≡◌, ◌∷◌, ◌++◌, List, ℕ, [], map, IfOk};
+ghost use Rattle.std.specs.Prelude.{◌≡◌, ◌||◌, map, IfOk, OnOk, [], ◌++◌, ◌∷◌};
 ghost use Rattle.std.specs.List.{join_with_byte};
 ghost use Rattle.rkt_base.specs.Want.{Gives};
-ghost use Rattle.rkt_uri.specs.PathBuf.{fault_of, step, unless, walked, path_of_names};
+ghost use Rattle.rkt_uri.specs.PathBuf.{is_here as is_here_of, name_fault as name_fault_of, fault_of, fault_in, with_segment, names_behind, path_of_names};
+ghost use Rattle.rkt_uri.specs.FileNames.{GoesDown};
 
 use rkt_base::{NoMemory, Text, Want};
 use std::alloc::Global;
@@ -13,14 +14,21 @@ use thiserror::Error;
 pub struct PathBuf(Text);
 
 impl Model for PathBuf {
+    ghost use Rattle.std.specs.Prelude.{List, ℕ};
+    ghost use Rattle.rkt_uri.specs.FileNames.{GoesDown};
+
     ghost Value = { List ℕ };
 
     ghost view = { λ p. p.0 };
+
+    ghost invariant = { λ p. GoesDown p.0 };
 }
 
 impl PathBuf {
     pub fn as_str(&self) -> &str
-        ensures { result.now ≡ self.now }
+        ensures value { result.now ≡ self.now }
+        // No name of it is empty, a dot or two dots, or has a slash. It may have a NUL.
+        ensures down { GoesDown result.now }
     {
         self.0.as_str()
     }
@@ -37,9 +45,16 @@ pub enum PathError {
     BadEnd(char),
 }
 
+/// Whether a segment stays where the path is.
+fn is_here(segment: &str) -> bool
+    ensures { result ≡ is_here_of segment.now }
+{
+    segment.is_empty() || segment == "."
+}
+
 /// What is wrong with a name, if anything is.
-fn fault(dots: bool, name: &str) -> Option<PathError>
-    ensures { result ≡ fault_of dots name.now }
+fn name_fault(dots: bool, name: &str) -> Option<PathError>
+    ensures { result ≡ name_fault_of dots name.now }
 {
     let bytes = name.as_bytes();
     if bytes.is_empty() {
@@ -64,37 +79,51 @@ fn fault(dots: bool, name: &str) -> Option<PathError>
     }
 }
 
-/// Takes one more segment behind the names that are kept, or tells what is wrong with it.
-fn take<'a>(
-    dots: bool,
-    kept: &mut Vec<&'a str>,
-    segment: &'a str,
-) -> Result<Option<PathError>, NoMemory>
-    ensures { IfOk result (λ wrong. step dots (map (λ name. name.now) kept.old.items) segment.now ≡ unless wrong (map (λ name. name.now) kept.new.items)) }
+/// What is wrong with a segment, if anything is.
+fn fault(dots: bool, segment: &str) -> Option<PathError>
+    ensures { result ≡ fault_of dots segment.now }
 {
-    if segment == "." {
-        return Ok(None);
+    if is_here(segment) || segment == ".." {
+        None
+    } else {
+        name_fault(dots, segment)
+    }
+}
+
+/// What is wrong with the first segment that is wrong.
+fn first_fault(dots: bool, segments: &[Text]) -> Option<PathError>
+    ensures { result ≡ fault_in dots segments.now }
+{
+    for segment in segments {
+        if let Some(error) = fault(dots, segment.as_str()) {
+            return Some(error);
+        }
+    }
+    None
+}
+
+/// Goes on by one more segment.
+fn take<'a>(kept: &mut Vec<&'a str>, segment: &'a str) -> Result<(), NoMemory>
+    ensures { OnOk result (map (λ name. name.now) kept.new.items ≡ with_segment (map (λ name. name.now) kept.old.items) segment.now) }
+{
+    if is_here(segment) {
+        return Ok(());
     }
     if segment == ".." {
         kept.pop();
-        return Ok(None);
+        return Ok(());
     }
-    let wrong = fault(dots, segment);
-    if wrong.is_none() {
-        kept.push(segment)?;
-    }
-    Ok(wrong)
+    kept.push(segment)?;
+    Ok(())
 }
 
-/// The names that are left, in order, or the first fault.
-fn walk(alloc: Global, dots: bool, segments: &[Text]) -> Result<Vec<&str>, Want<PathError>>
-    ensures { Gives (λ v. map (λ name. name.now) v.items) result (walked dots segments.now []) }
+/// The names that segments leave, in order.
+fn walk(alloc: Global, segments: &[Text]) -> Result<Vec<&str>, NoMemory>
+    ensures { IfOk result (λ names. map (λ name. name.now) names.items ≡ names_behind [] segments.now) }
 {
     let mut kept: Vec<&str> = Vec::new(alloc);
     for segment in segments {
-        if let Some(error) = take(dots, &mut kept, segment.as_str())? {
-            return Err(Want::Refused(error));
-        }
+        take(&mut kept, segment.as_str())?;
     }
     Ok(kept)
 }
@@ -114,13 +143,20 @@ fn join(alloc: Global, names: &[&str]) -> Result<Text, NoMemory>
     Ok(text)
 }
 
+/// The path of these segments.
 pub(crate) fn path_of(
     alloc: Global,
     dots: bool,
     segments: &[Text],
 ) -> Result<PathBuf, Want<PathError>>
-    ensures { Gives (λ path. path) result (path_of_names dots segments.now) }
+    ensures value { Gives (λ path. path) result (path_of_names dots segments.now) }
+    ensures down { IfOk result GoesDown }
 {
-    let names = walk(alloc, dots, segments)?;
-    Ok(PathBuf(join(alloc, names.as_slice())?))
+    match first_fault(dots, segments) {
+        Some(error) => Err(Want::Refused(error)),
+        None => {
+            let names = walk(alloc, segments)?;
+            Ok(PathBuf(join(alloc, names.as_slice())?))
+        }
+    }
 }

@@ -22,7 +22,8 @@ fn is_reference(byte: u8) -> bool
 }
 
 impl Place for ReferencePlace {
-    ghost use Rattle.rkt_uri.specs.ReferencePlaces.{place_after, may_end, rest_of, ends, goes_on, leads_on};
+    ghost use Rattle.rkt_uri.specs.ReferencePlaces.{place_after, may_end, rest_of};
+    ghost use Rattle.rkt_uri.specs.ReferencePlaceLaws.{ends, goes_on, leads_on};
 
     ghost place_after = { place_after };
 

@@ -1,7 +1,8 @@
-ghost use Rattle.std.specs.Prelude.{◌≡◌, ◌↔◌, [], List, ℕ, length, drop, option_copied, slice_get, IsTrue};
+ghost use Rattle.std.specs.Prelude.{◌≡◌, ◌↔◌, [], List, ℕ, length, drop, option_copied, slice_get, IfOk, IsTrue};
 ghost use Rattle.rkt_base.specs.Want.{Gives};
 ghost use Rattle.rkt_grammar.specs.Grammar.{IsFrontOf};
 ghost use Rattle.rkt_uri.specs.PathBuf.{path_of_names};
+ghost use Rattle.rkt_uri.specs.FileNames.{GoesDown};
 
 use crate::path_buf::{PathBuf, PathError, path_of};
 use rkt_base::{Text, Want};
@@ -58,13 +59,16 @@ impl<'a> Segments<'a> {
         }
     }
 
-    /// The path of the file system that these are. `.` stays where it is, and `..` goes one up, but not past the start.
+    /// The path of the file system that these are. An empty segment and `.` stay where it is, and `..` goes one up, but
+    /// not past the start.
     pub fn to_path_buf(
         self,
         alloc: Global,
         allow_dotfiles: bool,
     ) -> Result<PathBuf, Want<PathError>>
-        ensures { Gives (λ path. path) result (path_of_names allow_dotfiles self.entry) }
+        ensures value { Gives (λ path. path) result (path_of_names allow_dotfiles self.entry) }
+        // A path that is given stays below where it begins, whatever the segments are.
+        ensures down { IfOk result GoesDown }
     {
         path_of(alloc, allow_dotfiles, self.items)
     }

@@ -1,7 +1,7 @@
 use Rattle.std.proofs.Common.{◌≡◌, [], map, drop}
-use Rattle.rkt_uri.specs.PathBuf.{walked}
+use Rattle.rkt_uri.specs.PathBuf.{names_behind}
 use Rattle.rkt_uri.proofs.path_buf.walk.Given as goal
 
--- what is left decides
+-- what is left goes on from the names that are kept
 abbrev pub invariant-loop-segment : goal.invariant-loop-segment
-invariant-loop-segment l = walked l.dots (drop l.segment-index l.segments) (map (λ name. name.now) l.kept.items) ≡ walked l.dots l.segments []
+invariant-loop-segment l = names_behind (map (λ name. name.now) l.kept.items) (drop l.segment-index l.segments) ≡ names_behind [] l.segments

@@ -3,4 +3,4 @@ use Rattle.rkt_http.proofs.status.Status.reason.Goals as goal
 
 pub returns : goal.returns
 unfolding reasons
-returns c = c.reason_in.ensures
+returns c = c.text_at.ensures

@@ -1,6 +1,6 @@
 use Rattle.std.proofs.Common.{◌≡◌, drop, map}
 use Rattle.rkt_http.specs.Table.{row_at}
-use Rattle.rkt_http.proofs.reasons.reason_in.Given as goal
+use Rattle.rkt_http.proofs.table.text_at.Given as goal
 
 -- the rows that are left decide
 abbrev pub invariant-loop-row : goal.invariant-loop-row
