@@ -1,9 +1,11 @@
 -- The machine of an object that a trip cuts off: Active, Grace since a moment, Mercy since a later one, Gone.
 use Rattle.rkt_source.specs.Source.{Meaning}
-use Rattle.std.specs.Prelude.{List, [], ◌∷◌, ◌⊎◌, ◌||◌, ◌≡◌, ℕ, ◌-◌, nat_le, Bool, true, false, if◌then◌else◌, Option, None, Some, Result, Ok, Err}
+use Rattle.std.specs.Prelude.{List, [], ◌∷◌, ◌⊎◌, ◌||◌, ◌≡◌, ℕ, ◌-◌, ◌≤◌, nat_le, Bool, true, false, if◌then◌else◌, Option, None, Some, Result, Ok, Err}
 use Rattle.rkt_base.specs.declared.poll.Poll.{Poll}
 use Rattle.rkt_base.specs.declared.poll.Poll.TheVariants.{Ready, Pending}
 use Rattle.rkt_source.specs.declared.source.Gate.{Gate}
+use Rattle.rkt_source.specs.declared.source.SourceError.{SourceError}
+use Rattle.rkt_source.specs.declared.source.SourceError.TheVariants as source_error
 use Rattle.rkt_cancel.specs.declared.stage.Stage.{Stage}
 use Rattle.rkt_cancel.specs.declared.stage.Stage.TheVariants.{Active, Grace, Mercy, Gone}
 use Rattle.rkt_cancel.specs.declared.stage.Refused.{Refused}
@@ -42,6 +44,11 @@ abbrev pub Runs : List Gate → Stage → Stage → Type 0
 Runs [] s t = t ≡ s
 Runs (gate ∷ gates) s t = (u : Stage) × Steps gate s u × Runs gates u t
 
+-- each of these Gates has this grace
+abbrev pub HaveGrace : ℕ → List Gate → Type 0
+HaveGrace grace [] = Unit {0}
+HaveGrace grace (gate ∷ gates) = (gate.grace ≡ grace) × HaveGrace grace gates
+
 -- the mercy has ended
 abbrev pub late : Gate → ℕ → Bool
 late gate cut = nat_le gate.mercy (gate.moment - cut)
@@ -58,40 +65,15 @@ cut_of (Grace saw) = None
 cut_of (Mercy saw cut) = Some cut
 cut_of (Gone saw cut) = Some cut
 
+-- calls under Gates of one grace, however many, cut an object off once that grace has gone by since the trip was seen
+abbrev pub CutsAfterGrace : Type 0
+CutsAfterGrace = (grace : ℕ) (gates : List Gate) (s : Stage) (saw cut : ℕ) → HaveGrace grace gates → Runs gates Active s → saw_of s ≡ Some saw → cut_of s ≡ Some cut → grace ≤ cut - saw
+
 abbrev pub is_gone : Stage → Bool
 is_gone Active = false
 is_gone (Grace saw) = false
 is_gone (Mercy saw cut) = false
 is_gone (Gone saw cut) = true
-
--- what the closure answered, handed on
-abbrev pub granted : {T : Type 0} → Poll T → Poll (Result T Refused)
-granted (Ready x) = Ready (Ok x)
-granted Pending = Pending
-
-module _ {I T : Type 0} (shuts : I → Poll (Unit {0}) → I → Type 0) (call : I → Poll T → I → Type 0) where
-  -- the closure was called on the object
-  abbrev pub Called : Stage → I → Cancellable I → Poll (Result T Refused) → Type 0
-  Called s io after answer = (after.stage ≡ s) × ((r : Poll T) × call io r after.io × (answer ≡ granted r))
-
-  -- the shutdown was polled
-  abbrev pub Shutting : ℕ → ℕ → I → Cancellable I → Poll (Result T Refused) → Type 0
-  Shutting saw cut io after Pending = (after.stage ≡ Mercy saw cut) × shuts io Pending after.io
-  Shutting saw cut io after (Ready answer) = (after.stage ≡ Gone saw cut) × shuts io (Ready tt) after.io × (answer ≡ Err refused.Gone)
-
-  abbrev pub Ending : Bool → ℕ → ℕ → I → Cancellable I → Poll (Result T Refused) → Type 0
-  Ending true saw cut io after answer = (after ≡ record { stage = Gone saw cut; io = io }) × (answer ≡ Ready (Err refused.TimedOut))
-  Ending false saw cut io after answer = Shutting saw cut io after answer
-
-  abbrev pub AnsweredAt : Gate → Stage → I → Cancellable I → Poll (Result T Refused) → Type 0
-  AnsweredAt gate Active io after answer = Called Active io after answer
-  AnsweredAt gate (Grace saw) io after answer = Called (Grace saw) io after answer
-  AnsweredAt gate (Mercy saw cut) io after answer = Ending (late gate cut) saw cut io after answer
-  AnsweredAt gate (Gone saw cut) io after answer = (after ≡ record { stage = Gone saw cut; io = io }) × (answer ≡ Ready (Err refused.Gone))
-
-  -- one call of the machine
-  abbrev pub Cancels : Gate → Cancellable I → Cancellable I → Poll (Result T Refused) → Type 0
-  Cancels gate before after answer = AnsweredAt gate (advanced gate before.stage) before.io after answer
 
 abbrev pub is_warned : Stage → Bool
 is_warned Active = false
@@ -99,39 +81,66 @@ is_warned (Grace saw) = true
 is_warned (Mercy saw cut) = true
 is_warned (Gone saw cut) = true
 
+-- the object may be called
+abbrev pub is_open : Stage → Bool
+is_open Active = true
+is_open (Grace saw) = true
+is_open (Mercy saw cut) = false
+is_open (Gone saw cut) = false
+
 -- what a source means behind the machine
 abbrev pub cut_meaning : Stage → Meaning → Meaning
 cut_meaning s m = record m { warned = is_warned s || m.warned; shut = is_gone s || m.shut }
 
+-- what the object answered, handed on
+abbrev pub granted : {T : Type 0} → Poll T → Poll (Result T Refused)
+granted (Ready x) = Ready (Ok x)
+granted Pending = Pending
+
+-- why it was not called, handed on
+abbrev pub withheld : {T : Type 0} → Poll Refused → Poll (Result T Refused)
+withheld (Ready refusal) = Ready (Err refusal)
+withheld Pending = Pending
+
+-- the same of a read
+abbrev pub refused_read : Poll Refused → Poll (Result ℕ SourceError)
+refused_read (Ready refused.Gone) = Ready (Err source_error.Gone)
+refused_read (Ready refused.TimedOut) = Ready (Err source_error.TimedOut)
+refused_read Pending = Pending
+
 module _ {I : Type 0} (shuts : I → Poll (Unit {0}) → I → Type 0) where
-  abbrev pub ArrivesShutting : ℕ → ℕ → I → Cancellable I → Poll Refused → Type 0
-  ArrivesShutting saw cut io after Pending = (after.stage ≡ Mercy saw cut) × shuts io Pending after.io
-  ArrivesShutting saw cut io after (Ready answer) = (after.stage ≡ Gone saw cut) × shuts io (Ready tt) after.io × (answer ≡ refused.Gone)
+  -- the shutdown was polled
+  abbrev pub Shutting : ℕ → ℕ → I → Cancellable I → Poll Refused → Type 0
+  Shutting saw cut io after Pending = (after.stage ≡ Mercy saw cut) × shuts io Pending after.io
+  Shutting saw cut io after (Ready refusal) = (after.stage ≡ Gone saw cut) × shuts io (Ready tt) after.io × (refusal ≡ refused.Gone)
 
-  abbrev pub ArrivesEnding : Bool → ℕ → ℕ → I → Cancellable I → Poll Refused → Type 0
-  ArrivesEnding true saw cut io after answer = (after ≡ record { stage = Gone saw cut; io = io }) × (answer ≡ Ready refused.TimedOut)
-  ArrivesEnding false saw cut io after answer = ArrivesShutting saw cut io after answer
+  abbrev pub Ending : Bool → ℕ → ℕ → I → Cancellable I → Poll Refused → Type 0
+  Ending true saw cut io after refusal = (after ≡ record { stage = Gone saw cut; io = io }) × (refusal ≡ Ready refused.TimedOut)
+  Ending false saw cut io after refusal = Shutting saw cut io after refusal
 
-  abbrev pub ArrivesClosed : Gate → Stage → I → Cancellable I → Poll Refused → Type 0
-  ArrivesClosed gate Active io after answer = ⊥
-  ArrivesClosed gate (Grace saw) io after answer = ⊥
-  ArrivesClosed gate (Mercy saw cut) io after answer = ArrivesEnding (late gate cut) saw cut io after answer
-  ArrivesClosed gate (Gone saw cut) io after answer = (after ≡ record { stage = Gone saw cut; io = io }) × (answer ≡ Ready refused.Gone)
+  abbrev pub ClosedAt : Gate → Stage → I → Cancellable I → Poll Refused → Type 0
+  ClosedAt gate Active io after refusal = ⊥
+  ClosedAt gate (Grace saw) io after refusal = ⊥
+  ClosedAt gate (Mercy saw cut) io after refusal = Ending (late gate cut) saw cut io after refusal
+  ClosedAt gate (Gone saw cut) io after refusal = (after ≡ record { stage = Gone saw cut; io = io }) × (refusal ≡ Ready refused.Gone)
 
-  abbrev pub is_open : Stage → Bool
-  is_open Active = true
-  is_open (Grace saw) = true
-  is_open (Mercy saw cut) = false
-  is_open (Gone saw cut) = false
+  -- a call in Mercy or Gone, in which the object is not called
+  abbrev pub Closed : Gate → Cancellable I → Cancellable I → Poll Refused → Type 0
+  Closed gate before after refusal = ClosedAt gate (advanced gate before.stage) before.io after refusal
 
+  -- a call under this Gate has come to the object, which is untouched, or it was refused
   abbrev pub Arrives : Gate → Cancellable I → Cancellable I → Option (Poll Refused) → Type 0
   Arrives gate before after None = (is_open (advanced gate before.stage) ≡ true) × (after ≡ record { stage = advanced gate before.stage; io = before.io })
-  Arrives gate before after (Some answer) = ArrivesClosed gate (advanced gate before.stage) before.io after answer
+  Arrives gate before after (Some refusal) = Closed gate before after refusal
 
--- a read leaves the stage where the buffer is empty, and is one call of the machine else
-abbrev pub Moves : Gate → Stage → Stage → Type 0
-Moves gate s t = (t ≡ s) ⊎ Steps gate s t
+  -- one call of the machine: in Active and in Grace it calls the object and hands the answer on, and else it refuses
+  abbrev pub Cancels : {T : Type 0} → (I → Poll T → I → Type 0) → Gate → Cancellable I → Cancellable I → Poll (Result T Refused) → Type 0
+  Cancels {T} call gate before after answer =
+      ((is_open (advanced gate before.stage) ≡ true) × (after.stage ≡ advanced gate before.stage) × ((r : Poll T) × call before.io r after.io × (answer ≡ granted r)))
+      ⊎ ((refusal : Poll Refused) × Closed gate before after refusal × (answer ≡ withheld refusal))
 
--- the object was left alone, read under this Gate, or asked to shut down
-abbrev pub Passes : {I : Type 0} → (I → Poll (Unit {0}) → I → Type 0) → (I → Gate → I → Type 0) → Gate → I → I → Type 0
-Passes shuts polled gate a b = (b ≡ a) ⊎ (polled a gate b ⊎ ((answer : Poll (Unit {0})) × shuts a answer b))
+  -- one read is one call of the machine, which reads the object once under this Gate
+  abbrev pub ReadsCut : (I → Gate → Poll (Result ℕ SourceError) → I → Type 0) → Cancellable I → Gate → Poll (Result ℕ SourceError) → Cancellable I → Type 0
+  ReadsCut polled before gate answer after =
+      ((is_open (advanced gate before.stage) ≡ true) × (after.stage ≡ advanced gate before.stage) × polled before.io gate answer after.io)
+      ⊎ ((refusal : Poll Refused) × Closed gate before after refusal × (answer ≡ refused_read refusal))

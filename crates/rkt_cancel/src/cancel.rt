@@ -2,7 +2,7 @@
 ghost use Rattle.std.specs.Fn.{FnOnceReturnsAtMut, FnOnceTakesAtMut};
 ghost use Rattle.std.specs.Prelude.{◌≡◌, ◌-◌, ◌<◌, ◌∷◌, ◌++◌, [], List, MatchOption, ℕ, false, true};
 ghost use Rattle.rkt_source.specs.declared.source.Gate.{Gate};
-ghost use Rattle.rkt_cancel.specs.Cancel.{saw_of, cut_of, is_gone, granted, Runs};
+ghost use Rattle.rkt_cancel.specs.Cancel.{CutsAfterGrace, Runs, cut_of, granted, is_gone, saw_of, withheld};
 
 use crate::stage::{Refused, Stage, advance, is_late};
 use rkt_base::Poll;
@@ -90,24 +90,9 @@ impl<I: Shut> CancellableIo<I> {
         // Whatever calls came before, this is the machine's next.
         ensures runs { (gates : List Gate) → Runs gates Stage.Active self.old.stage → Runs (gates ++ gate ∷ []) Stage.Active self.new.stage }
     {
-        self.stage = advance(self.stage, gate);
-        match self.stage {
-            Stage::Active => within(f(&mut self.io)),
-            Stage::Grace(_) => within(f(&mut self.io)),
-            Stage::Mercy(saw, cut) => {
-                if is_late(gate, cut) {
-                    self.stage = Stage::Gone(saw, cut);
-                    return Poll::Ready(Err(Refused::TimedOut));
-                }
-                match self.io.poll_shutdown() {
-                    Poll::Pending => Poll::Pending,
-                    Poll::Ready(()) => {
-                        self.stage = Stage::Gone(saw, cut);
-                        Poll::Ready(Err(Refused::Gone))
-                    }
-                }
-            }
-            Stage::Gone(_, _) => Poll::Ready(Err(Refused::Gone)),
+        match self.arrive(gate) {
+            None => within(f(&mut self.io)),
+            Some(refusal) => withheld(refusal),
         }
     }
 
@@ -146,12 +131,12 @@ impl<I: Shut> Shut for CancellableIo<I> {
 }
 
 impl<I: Source> Source for CancellableIo<I> {
-    ghost use Rattle.rkt_cancel.specs.Cancel.{cut_meaning, Moves, Passes};
+    ghost use Rattle.rkt_cancel.specs.Cancel.{ReadsCut, cut_meaning};
     ghost use Rattle.rkt_cancel.specs.CancelLaws.{cut_shut_is_warned, cut_shuts};
 
     ghost meaning = { λ c. cut_meaning c.stage (I.meaning c.io) };
 
-    ghost polled = { λ c gate d. Moves gate c.stage d.stage × Passes I.shuts I.polled gate c.io d.io };
+    ghost polled = { λ c gate answer d. ReadsCut I.shuts I.polled c gate answer d };
 
     // A closure tells nothing of the buffer that it fills, so this does not go through `poll_with`.
     fn poll_read(&mut self, gate: Gate, buf: &mut [u8]) -> Poll<Result<usize, SourceError>> {
@@ -181,3 +166,17 @@ fn within<T>(answer: Poll<T>) -> Poll<Result<T, Refused>>
         Poll::Pending => Poll::Pending,
     }
 }
+
+fn withheld<T>(refusal: Poll<Refused>) -> Poll<Result<T, Refused>>
+    ensures { result ≡ withheld refusal }
+{
+    match refusal {
+        Poll::Ready(refusal) => Poll::Ready(Err(refusal)),
+        Poll::Pending => Poll::Pending,
+    }
+}
+
+/// A law of the machine: an object is cut off only after the grace, counted from when the trip was seen.
+pub fn cuts_after_grace()
+    ensures { CutsAfterGrace }
+{}

@@ -4,5 +4,5 @@
 mod cancel;
 mod stage;
 
-pub use cancel::CancellableIo;
+pub use cancel::{CancellableIo, cuts_after_grace};
 pub use stage::{Refused, Stage};

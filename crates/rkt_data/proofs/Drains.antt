@@ -1,17 +1,20 @@
 -- Reading on behind the bytes of a buffer.
 use Rattle.std.specs.Option.{ForSome}
-use Rattle.std.proofs.Common.{◌≡◌, ℕ, ◌+◌, ◌≤◌, ◌++◌, ◌∙◌, ◌<◌, Bool, false, true, List, [], length, take, drop, Option, refl, sym, ap, ap₂, arith, append_assoc, append-nil, length-append, length-drop, length-take-le, take_all, take-add, drop-drop}
+use Rattle.std.proofs.Common.{◌≡◌, ℕ, ◌+◌, ◌≤◌, ◌++◌, ◌∙◌, ◌<◌, Bool, false, true, List, [], length, take, drop, Option, Result, Ok, Err, refl, sym, ap, ap₂, arith, append_assoc, append-nil, length-append, length-drop, length-take-le, take_all, take-add, drop-drop}
 use Rattle.std.specs.Prelude.{nat_le}
+use Rattle.rkt_base.specs.declared.poll.Poll.{Poll}
+use Rattle.rkt_base.specs.declared.poll.Poll.TheVariants.{Ready, Pending}
 use Rattle.std.proofs.lemmas.Bool.{leb-true, leb-false}
 use Rattle.std.proofs.lemmas.List.{drop-take}
 use Rattle.rkt_data.specs.Gathering.{Gained, Gathered, Draws, IsUsedUp, Completes}
 use Rattle.rkt_source.specs.Source.{Meaning}
 use Rattle.rkt_data.specs.Stream.{Opened, Piped, Follows, TakesAtMost, IsComplete, whole_of}
-use Rattle.rkt_data.specs.Tap.{ByGate}
+use Rattle.rkt_data.specs.Tap.{ByGate, AsksOnce, Ending, ending_of}
 use Rattle.rkt_data.specs.declared.capped.N.{N}
 use Rattle.rkt_source.specs.declared.source.Gate.{Gate}
+use Rattle.rkt_source.specs.declared.source.SourceError.{SourceError}
 use Rattle.rkt_data.proofs.Pulls.{front_of, same_front}
-use Rattle.rkt_data.proofs.Taps.{ByGate-refl, ByGate-trans, SameTap-refl, SameTap-trans, body_same}
+use Rattle.rkt_data.proofs.Taps.{ByGate-refl, ByGate-trans, ByGate-once, SameTap-refl, SameTap-trans, body_same}
 
 pub Follows-refl : {S : Type 0} (meaning : S → Meaning) (trip : Option ℕ) (a : Opened S) → Follows meaning trip a a
 Follows-refl meaning trip a = record { front = refl; limit = refl; tap = SameTap-refl meaning trip a.tap }
@@ -40,7 +43,7 @@ Gained-read {o = o} n buf h e y = record {
   bytes = λ b t. y b t ∙ ap (λ i. take i (drop o.given b)) (sym (length-take-le n buf h));
 }
 
-pub Draws-start : {S : Type 0} (meaning : S → Meaning) (polled : S → Gate → S → Type 0) (gate : Gate) (o : Piped S) (old : List ℕ) → o.probed ≡ false → TakesAtMost meaning o.opened o.opened.limit → Draws meaning polled gate o o old old
+pub Draws-start : {S : Type 0} (meaning : S → Meaning) (polled : S → Gate → Poll (Result ℕ SourceError) → S → Type 0) (gate : Gate) (o : Piped S) (old : List ℕ) → o.probed ≡ false → TakesAtMost meaning o.opened o.opened.limit → Draws meaning polled gate (Ready (Ok tt)) o o old old
 Draws-start meaning polled gate o old h bound = record {
   follows = Follows-refl meaning gate.tripped o.opened;
   by_gate = ByGate-refl polled gate o.opened.tap;
@@ -49,40 +52,40 @@ Draws-start meaning polled gate o old h bound = record {
   gained = ([], sym (append-nil old), Gained-none refl);
 }
 
-pub Draws-trans : {S : Type 0} {meaning : S → Meaning} {polled : S → Gate → S → Type 0} {gate : Gate} {o p q : Piped S} {old mid new : List ℕ} → Draws meaning polled gate o p old mid → Draws meaning polled gate p q mid new → Draws meaning polled gate o q old new
-Draws-trans {polled = polled} {gate = gate} {o = o} {p = p} {q = q} {old = old} d e = record {
+pub Draws-trans : {S : Type 0} {meaning : S → Meaning} {polled : S → Gate → Poll (Result ℕ SourceError) → S → Type 0} {gate : Gate} {how : Ending} {o p q : Piped S} {old mid new : List ℕ} → Draws meaning polled gate (Ready (Ok tt)) o p old mid → Draws meaning polled gate how p q mid new → Draws meaning polled gate how o q old new
+Draws-trans {polled = polled} {gate = gate} {how = how} {o = o} {p = p} {q = q} {old = old} d e = record {
   follows = Follows-trans d.follows e.follows;
-  by_gate = ByGate-trans polled gate o.opened.tap p.opened.tap q.opened.tap d.by_gate e.by_gate;
+  by_gate = ByGate-trans polled gate how o.opened.tap p.opened.tap q.opened.tap d.by_gate e.by_gate;
   bound = e.bound;
   not_probed = e.not_probed;
   gained = (d.gained.0 ++ e.gained.0, e.gained.1 ∙ ap (λ z. z ++ e.gained.0) d.gained.1 ∙ append_assoc old d.gained.0 e.gained.0, Gained-trans d.follows d.gained.2 e.gained.2);
 }
 
 -- a read into a buffer that was lent and has grown behind what it held
-pub Draws-into : {S : Type 0} {meaning : S → Meaning} {polled : S → Gate → S → Type 0} {gate : Gate} {o p q : Piped S} {old front lent new got : List ℕ} (n now : ℕ) (grown : List ℕ)
-    → lent ≡ grown → take n grown ≡ front → got ≡ new → Draws meaning polled gate o p old front → Draws meaning polled gate p q (take n lent) (take now new) → Draws meaning polled gate o q old (take now got)
+pub Draws-into : {S : Type 0} {meaning : S → Meaning} {polled : S → Gate → Poll (Result ℕ SourceError) → S → Type 0} {gate : Gate} {how : Ending} {o p q : Piped S} {old front lent new got : List ℕ} (n now : ℕ) (grown : List ℕ)
+    → lent ≡ grown → take n grown ≡ front → got ≡ new → Draws meaning polled gate (Ready (Ok tt)) o p old front → Draws meaning polled gate how p q (take n lent) (take now new) → Draws meaning polled gate how o q old (take now got)
 Draws-into n now grown e f h a b = rw h (Draws-trans a (rw (e, f) at b))
 
 -- one read, into a buffer behind its first n bytes
-pub Draws-read : {S : Type 0} {meaning : S → Meaning} {polled : S → Gate → S → Type 0} {gate : Gate} {o p q : Piped S} {old : List ℕ} (n k : ℕ) (room buf post : List ℕ) → Draws meaning polled gate o p old (take n room) → n ≤ length room → k ≤ length buf
-    → Follows meaning gate.tripped p.opened q.opened → ByGate polled gate p.opened.tap q.opened.tap → TakesAtMost meaning q.opened q.opened.limit → q.probed ≡ false
+pub Draws-read : {S : Type 0} {meaning : S → Meaning} {polled : S → Gate → Poll (Result ℕ SourceError) → S → Type 0} {gate : Gate} {o p q : Piped S} {old : List ℕ} (n k : ℕ) (room buf post : List ℕ) → Draws meaning polled gate (Ready (Ok tt)) o p old (take n room) → n ≤ length room → k ≤ length buf
+    → Follows meaning gate.tripped p.opened q.opened → AsksOnce polled gate (Ready (Ok k)) p.opened.tap q.opened.tap → TakesAtMost meaning q.opened q.opened.limit → q.probed ≡ false
     → q.opened.given ≡ p.opened.given + k → ForSome (whole_of meaning p.opened) (λ b. take k buf ≡ take k (drop p.opened.given b))
-    → Draws meaning polled gate o q old (take (n + k) (take n room ++ (buf ++ post)))
-Draws-read n k room buf post d h l f g bound off e y = Draws-trans d record {
+    → Draws meaning polled gate (Ready (Ok tt)) o q old (take (n + k) (take n room ++ (buf ++ post)))
+Draws-read {polled = polled} {gate = gate} {p = p} {q = q} n k room buf post d h l f g bound off e y = Draws-trans d record {
   follows = f;
-  by_gate = g;
+  by_gate = ByGate-once polled gate (Ready (Ok k)) p.opened.tap q.opened.tap g;
   bound = bound;
   not_probed = off;
   gained = (take k buf, front_of n k (take n room) buf post (length-take-le n room h) l, Gained-read k buf l e y);
 }
 
 -- one read that gave nothing
-pub Draws-nothing : {S : Type 0} {meaning : S → Meaning} {polled : S → Gate → S → Type 0} {gate : Gate} {o p q : Piped S} {old : List ℕ} (n : ℕ) (room buf post : List ℕ) → Draws meaning polled gate o p old (take n room) → n ≤ length room
-    → Follows meaning gate.tripped p.opened q.opened → ByGate polled gate p.opened.tap q.opened.tap → TakesAtMost meaning q.opened q.opened.limit → q.probed ≡ false
-    → q.opened.given ≡ p.opened.given → Draws meaning polled gate o q old (take n (take n room ++ (buf ++ post)))
-Draws-nothing n room buf post d h f g bound off e = Draws-trans d record {
+pub Draws-nothing : {S : Type 0} {meaning : S → Meaning} {polled : S → Gate → Poll (Result ℕ SourceError) → S → Type 0} {gate : Gate} {o p q : Piped S} {old : List ℕ} (answer : Poll (Result ℕ SourceError)) (n : ℕ) (room buf post : List ℕ) → Draws meaning polled gate (Ready (Ok tt)) o p old (take n room) → n ≤ length room
+    → Follows meaning gate.tripped p.opened q.opened → AsksOnce polled gate answer p.opened.tap q.opened.tap → TakesAtMost meaning q.opened q.opened.limit → q.probed ≡ false
+    → q.opened.given ≡ p.opened.given → Draws meaning polled gate (ending_of answer) o q old (take n (take n room ++ (buf ++ post)))
+Draws-nothing {polled = polled} {gate = gate} {p = p} {q = q} answer n room buf post d h f g bound off e = Draws-trans d record {
   follows = f;
-  by_gate = g;
+  by_gate = ByGate-once polled gate answer p.opened.tap q.opened.tap g;
   bound = bound;
   not_probed = off;
   gained = ([], same_front n room buf post h ∙ sym (append-nil (take n room)), Gained-none e);
@@ -110,7 +113,7 @@ pub cut_by_count : (from n limit : ℕ) (b : List ℕ) → from + n ≤ limit �
 cut_by_count from n limit b h e = cut_by_test (nat_le limit (from + n)) from n limit b h e refl
 
 -- several reads more
-pub Gathered-drawn : {S : Type 0} {meaning : S → Meaning} {polled : S → Gate → S → Type 0} {gate : Gate} {o p : Piped S} {from : ℕ} {old new : List ℕ} → Gathered meaning o.opened from old → Draws meaning polled gate o p old new → Gathered meaning p.opened from new
+pub Gathered-drawn : {S : Type 0} {meaning : S → Meaning} {polled : S → Gate → Poll (Result ℕ SourceError) → S → Type 0} {gate : Gate} {how : Ending} {o p : Piped S} {from : ℕ} {old new : List ℕ} → Gathered meaning o.opened from old → Draws meaning polled gate how o p old new → Gathered meaning p.opened from new
 Gathered-drawn h d = rw d.gained.1 (Gathered-more h d.follows d.gained.2)
 
 -- what was gathered is the body up to the limit, once all of that was given

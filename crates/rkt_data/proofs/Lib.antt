@@ -1,3 +1,4 @@
+pub mod Chunks
 pub mod Drains
 pub mod Pulls
 pub mod Sends

@@ -8,14 +8,13 @@ use Rattle.rkt_data.specs.Sending.{Fed, Pumps, SentOf, Sends, SendErr, SentAll, 
 use Rattle.rkt_source.specs.Sink.{SinkMeaning, SinkKeeps, SinkWaits, SinkErrs, Gains}
 use Rattle.rkt_source.specs.Source.{Meaning}
 use Rattle.rkt_data.specs.Stream.{Opened, Piped, Follows, TakesAtMost}
-use Rattle.rkt_data.specs.Tap.{ByGate, TapErrs}
+use Rattle.rkt_data.specs.Tap.{TapErrs}
 use Rattle.rkt_source.specs.declared.sink.SinkError.{SinkError}
 use Rattle.rkt_source.specs.declared.sink.SinkError.TheVariants as sink_error
 use Rattle.rkt_source.specs.declared.source.Gate.{Gate}
 use Rattle.rkt_source.specs.declared.source.SourceError.{SourceError}
 use Rattle.rkt_source.specs.declared.source.SourceError.TheVariants as source_error
 use Rattle.rkt_data.proofs.Drains.{Follows-refl, Follows-trans, Gained-none, Gained-trans, Gathered-more, cut-gathered}
-use Rattle.rkt_data.proofs.Taps.{ByGate-refl, ByGate-trans}
 
 pub SinkKeeps-refl : (m : SinkMeaning) → SinkKeeps m m
 SinkKeeps-refl m = record { never_faults = refl; pendings = refl; faults = le_refl _; pended = le_refl _ }
@@ -57,10 +56,9 @@ between_parts at end n buf h =
     ap (λ i. take i (drop at buf)) size ∙ take-add n (end - (at + n)) (drop at buf)
     ∙ ap₂ (λ xs ys. xs ++ ys) (sym (take-take n (end - at) (drop at buf) (omega (arith, h)))) (ap (take (end - (at + n))) (drop-drop n at buf))
 
-pub Pumps-start : {S K : Type 0} (meaning : S → Meaning) (sinks : K → SinkMeaning) (polled : S → Gate → S → Type 0) (gate : Gate) (o : Piped S) (k : K) (old : List ℕ) → o.probed ≡ false → TakesAtMost meaning o.opened o.opened.limit → Pumps meaning sinks polled gate o o k k old old
-Pumps-start meaning sinks polled gate o k old h bound = record {
+pub Pumps-start : {S K : Type 0} (meaning : S → Meaning) (sinks : K → SinkMeaning) (gate : Gate) (o : Piped S) (k : K) (old : List ℕ) → o.probed ≡ false → TakesAtMost meaning o.opened o.opened.limit → Pumps meaning sinks gate o o k k old old
+Pumps-start meaning sinks gate o k old h bound = record {
   follows = Follows-refl meaning gate.tripped o.opened;
-  by_gate = ByGate-refl polled gate o.opened.tap;
   bound = bound;
   not_probed = h;
   keeps = SinkKeeps-refl (sinks k);
@@ -72,11 +70,10 @@ Pumps-start meaning sinks polled gate o k old h bound = record {
 }
 
 -- some of what is pending was sent
-pub Pumps-sent : {S K : Type 0} {meaning : S → Meaning} {sinks : K → SinkMeaning} {polled : S → Gate → S → Type 0} {gate : Gate} {o p : Piped S} {k l l' : K} {old : List ℕ} (at end n : ℕ) (buf : List ℕ) → Pumps meaning sinks polled gate o p k l old (between at end buf) → at + n ≤ end
-    → SinkKeeps (sinks l) (sinks l') → Gains (sinks l) (sinks l') (take n (between at end buf)) → Pumps meaning sinks polled gate o p k l' old (between (at + n) end buf)
+pub Pumps-sent : {S K : Type 0} {meaning : S → Meaning} {sinks : K → SinkMeaning} {gate : Gate} {o p : Piped S} {k l l' : K} {old : List ℕ} (at end n : ℕ) (buf : List ℕ) → Pumps meaning sinks gate o p k l old (between at end buf) → at + n ≤ end
+    → SinkKeeps (sinks l) (sinks l') → Gains (sinks l) (sinks l') (take n (between at end buf)) → Pumps meaning sinks gate o p k l' old (between (at + n) end buf)
 Pumps-sent {sinks = sinks} {k = k} {l = l} {l' = l'} at end n buf p h keeps gains = record {
   follows = p.follows;
-  by_gate = p.by_gate;
   bound = p.bound;
   not_probed = p.not_probed;
   keeps = SinkKeeps-trans p.keeps keeps;
@@ -88,12 +85,11 @@ Pumps-sent {sinks = sinks} {k = k} {l = l} {l' = l'} at end n buf p h keeps gain
 }
 
 -- what was read is pending, once nothing else is
-pub Pumps-read : {S K : Type 0} {meaning : S → Meaning} {sinks : K → SinkMeaning} {polled : S → Gate → S → Type 0} {gate : Gate} {o p q : Piped S} {k l : K} {old pending now : List ℕ} (more : List ℕ) → Pumps meaning sinks polled gate o p k l old pending → pending ≡ [] → now ≡ more
-    → Follows meaning gate.tripped p.opened q.opened → ByGate polled gate p.opened.tap q.opened.tap → TakesAtMost meaning q.opened q.opened.limit → q.probed ≡ false → Gained meaning p.opened q.opened more
-    → Pumps meaning sinks polled gate o q k l old now
-Pumps-read {polled = polled} {gate = gate} {o = o} {p = pp} {q = qq} {old = old} more p none now f g bound off gained = record {
+pub Pumps-read : {S K : Type 0} {meaning : S → Meaning} {sinks : K → SinkMeaning} {gate : Gate} {o p q : Piped S} {k l : K} {old pending now : List ℕ} (more : List ℕ) → Pumps meaning sinks gate o p k l old pending → pending ≡ [] → now ≡ more
+    → Follows meaning gate.tripped p.opened q.opened → TakesAtMost meaning q.opened q.opened.limit → q.probed ≡ false → Gained meaning p.opened q.opened more
+    → Pumps meaning sinks gate o q k l old now
+Pumps-read {old = old} more p none now f bound off gained = record {
   follows = Follows-trans p.follows f;
-  by_gate = ByGate-trans polled gate o.opened.tap pp.opened.tap qq.opened.tap p.by_gate g;
   bound = bound;
   not_probed = off;
   keeps = p.keeps;
@@ -144,9 +140,9 @@ between-same at end v w h e =
     sym (drop-take at (end - at) v) ∙ ap (drop at) (ap (λ i. take i v) (sym size) ∙ e ∙ ap (λ i. take i w) size) ∙ drop-take at (end - at) w
 
 -- sending on
-pub SentOf-pumped : {S K : Type 0} (meaning : S → Meaning) (sinks : K → SinkMeaning) (polled : S → Gate → S → Type 0) (gate : Gate) (o p : Piped S) (k l begun : K) (from : ℕ) (old new : List ℕ) → SentOf meaning sinks o.opened record { now = k; begun = begun } from old → Pumps meaning sinks polled gate o p k l old new
+pub SentOf-pumped : {S K : Type 0} (meaning : S → Meaning) (sinks : K → SinkMeaning) (gate : Gate) (o p : Piped S) (k l begun : K) (from : ℕ) (old new : List ℕ) → SentOf meaning sinks o.opened record { now = k; begun = begun } from old → Pumps meaning sinks gate o p k l old new
     → SentOf meaning sinks p.opened record { now = l; begun = begun } from new
-SentOf-pumped meaning sinks polled gate o p k l begun from old new s q =
+SentOf-pumped meaning sinks gate o p k l begun from old new s q =
     let same : (s.0 ++ q.out) ++ new ≡ (s.0 ++ old) ++ q.more = append_assoc s.0 q.out new ∙ ap (λ z. s.0 ++ z) (sym q.moved) ∙ sym (append_assoc s.0 old q.more) in
     (s.0 ++ q.out, rw same (Gathered-more s.1 q.follows q.gained), Gains-trans (sinks begun) (sinks k) (sinks l) s.0 q.out s.2 q.gains)
 

@@ -1,11 +1,14 @@
 -- What contracts see of a body that is not opened yet.
 use Rattle.std.specs.Borrow.{Bor}
 use Rattle.std.specs.Option.{ForSome}
-use Rattle.std.specs.Prelude.{◌≡◌, ℕ, ◌+◌, ◌≤◌, ◌⊎◌, ◌++◌, min, max, IsTrue, Bool, true, List, length, take, Option, None, Some}
+use Rattle.std.specs.Prelude.{◌≡◌, ℕ, ◌+◌, ◌≤◌, ◌⊎◌, ◌++◌, min, max, IsTrue, Bool, true, false, List, [], length, take, Option, None, Some, Result}
 use Rattle.rkt_base.specs.declared.poll.Poll.{Poll}
 use Rattle.rkt_base.specs.declared.poll.Poll.TheVariants.{Ready, Pending}
 use Rattle.rkt_source.specs.Source.{Meaning, Faulted}
-use Rattle.rkt_data.specs.Tap.{Tapped, SameTap, TapWaits, Gave, body}
+use Rattle.rkt_source.specs.declared.source.Gate.{Gate}
+use Rattle.rkt_source.specs.declared.source.SourceError.{SourceError}
+use Rattle.rkt_data.specs.Stream.{Opened, PullsAtMost}
+use Rattle.rkt_data.specs.Tap.{Tapped, ByGate, SameTap, TapWaits, Gave, body}
 
 pub record Body (S : Type 0) : Type 0 where
   -- the bytes held: all of a local body, else those that were peeked
@@ -26,6 +29,11 @@ HoldsFront meaning held room complete (Some t) = Gave (meaning t.begun) (meaning
 -- the bytes held are the first of the body, and all of it where it is complete
 abbrev pub FrontOf : {S : Type 0} → (S → Meaning) → Body S → Type 0
 FrontOf meaning b = ForSome (body meaning b.held b.tap) (λ w. (b.held ≡ take (length b.held) w) × (IsTrue b.complete → b.held ≡ w))
+
+-- what an opened body reads from: nothing, where all that it has is held
+abbrev pub opened_tap : {T : Type 0} → Bool → Option T → Option T
+opened_tap true tap = None
+opened_tap false tap = tap
 
 -- all that the body has is held
 abbrev pub IsWhole : {S : Type 0} → (S → Meaning) → Body S → Type 0
@@ -49,6 +57,12 @@ pub record Peeked {S : Type 0} (meaning : S → Meaning) (trip : Option ℕ) (nu
   pub tap : SameTap meaning trip b.tap c.tap
   pub front : FrontOf meaning c
   pub taken : TakenIsHeld meaning c
+  pub complete : IsTrue b.complete → IsTrue c.complete
+
+-- the source was called under this Gate alone; where a peek is Ready, only the last of its reads may have been refused
+abbrev pub PeeksByGate : {S X : Type 0} → (S → Gate → Poll (Result ℕ SourceError) → S → Type 0) → Gate → Poll X → Option (Tapped S) → Option (Tapped S) → Type 0
+PeeksByGate polled gate Pending t u = ByGate polled gate Pending t u
+PeeksByGate polled gate (Ready x) t u = (last : Result (Unit {0}) SourceError) × ByGate polled gate (Ready last) t u
 
 -- why a peek stopped: enough is held, the end came, a read was refused, or the source was Pending
 abbrev pub PeekStops : {S : Type 0} → (S → Meaning) → ℕ → Body S → Body S → Poll (Unit {0}) → Type 0
@@ -59,3 +73,9 @@ PeekStops meaning num b c (Ready _) = (min num 512 ≤ length c.held) ⊎ (IsTru
 abbrev pub Shows : {S : Type 0} → (S → Meaning) → ℕ → Body S → Body S → Poll (Bor (List ℕ)) → Type 0
 Shows meaning num b c Pending = PeekStops meaning num b c Pending
 Shows meaning num b c (Ready r) = (r.now ≡ take (min num 512) c.held) × PeekStops meaning num b c (Ready tt)
+
+-- a body of which nothing was held, peeked at up to p bytes and then opened, takes at most the greater of p and its limit plus
+-- one from its source, whatever is read of it
+abbrev pub PeekedPulls : {S : Type 0} → (S → Meaning) → Type 0
+PeekedPulls {S} meaning = (trip : Option ℕ) (p : ℕ) (b c : Body S) (o : Opened S) → b.held ≡ [] → Peeked meaning trip p b c → o.front ≡ c.held → PullsAtMost meaning o
+    → ForSome o.tap (λ t. (meaning t.now).taken ≤ (meaning t.begun).taken + max p (o.limit + 1))

@@ -5,6 +5,9 @@ use Rattle.std.specs.declared.alloc.Global.{Global}
 use Rattle.rkt_base.specs.declared.poll.Poll.{Poll}
 use Rattle.rkt_base.specs.declared.poll.Poll.TheVariants.{Ready, Pending}
 use Rattle.rkt_source.specs.Source.{Meaning, Keeps, Waits, Errs}
+use Rattle.rkt_data.specs.Gathering.{cause_of}
+use Rattle.rkt_source.specs.declared.source.Gate.{Gate}
+use Rattle.rkt_source.specs.declared.source.SourceError.{SourceError}
 use Rattle.rkt_data.specs.declared.error.DataError.{DataError}
 use Rattle.rkt_data.specs.declared.error.DataError.TheVariants as error
 use Rattle.rkt_source.specs.declared.source.SourceError.TheVariants as source_error
@@ -41,6 +44,18 @@ GivesUnlessEnded meaning trip false a b answer = Keeps trip (meaning a.reader) (
 -- what a poll for the next chunk answers; once it has ended it answers None
 abbrev pub GivesChunk : {R : Type 0} → (R → Meaning) → Option ℕ → Chunks R → Chunks R → Poll (Option (Result (Vec ℕ Global) DataError)) → Type 0
 GivesChunk meaning trip a b answer = GivesUnlessEnded meaning trip a.ended a b answer
+
+-- an error comes of a read that it has answered, or of none
+abbrev pub AsksForError : {R : Type 0} → (R → Gate → Poll (Result ℕ SourceError) → R → Type 0) → Gate → R → Result (Unit {0}) SourceError → R → Type 0
+AsksForError polled gate s (Ok x) t = t ≡ s
+AsksForError polled gate s (Err e) t = polled s gate (Ready (Err e)) t
+
+-- the one read under this Gate that the answer comes of; want of memory comes of none
+abbrev pub AsksForChunk : {R : Type 0} → (R → Gate → Poll (Result ℕ SourceError) → R → Type 0) → Gate → R → Poll (Option (Result (Vec ℕ Global) DataError)) → R → Type 0
+AsksForChunk polled gate s Pending t = polled s gate Pending t
+AsksForChunk polled gate s (Ready None) t = polled s gate (Ready (Ok 0)) t
+AsksForChunk polled gate s (Ready (Some (Ok v))) t = polled s gate (Ready (Ok (length v.items))) t
+AsksForChunk polled gate s (Ready (Some (Err e))) t = AsksForError polled gate s (cause_of e) t
 
 -- the closure may be called on the error, where there is one
 abbrev pub CanMapErr : {T E : Type 0} → (E → Type 0) → Poll (Option (Result T E)) → Type 0

@@ -6,7 +6,7 @@ use Rattle.rkt_base.specs.declared.poll.Poll.{Poll}
 use Rattle.rkt_base.specs.declared.poll.Poll.TheVariants.{Ready, Pending}
 use Rattle.rkt_source.specs.Source.{Meaning}
 use Rattle.rkt_data.specs.Stream.{Opened, Piped, Follows, TakesAtMost, IsComplete, cut, whole_of}
-use Rattle.rkt_data.specs.Tap.{ByGate, TapErrs, TapWaits}
+use Rattle.rkt_data.specs.Tap.{ByGate, Ending, TapErrs, TapWaits}
 use Rattle.rkt_data.specs.declared.capped.Capped.{Capped}
 use Rattle.rkt_data.specs.declared.capped.N.{N}
 use Rattle.rkt_data.specs.declared.drain.Drained.{Drained}
@@ -35,6 +35,21 @@ data_error_of source_error.SourceFault = error.SourceFault
 data_error_of source_error.Gone = error.Gone
 data_error_of source_error.TimedOut = error.TimedOut
 
+-- what an error tells of the reads: only one of the source ends them
+abbrev pub cause_of : DataError → Result (Unit {0}) SourceError
+cause_of error.SourceFault = Err source_error.SourceFault
+cause_of error.Gone = Err source_error.Gone
+cause_of error.TimedOut = Err source_error.TimedOut
+cause_of (error.NotUtf8 valid_up_to) = Ok tt
+cause_of error.SinkFault = Ok tt
+cause_of error.NoMemory = Ok tt
+
+-- what the answer of a state tells of the reads
+abbrev pub reads_end : {X : Type 0} → Poll (Result X DataError) → Ending
+reads_end Pending = Pending
+reads_end (Ready (Ok x)) = Ready (Ok tt)
+reads_end (Ready (Err e)) = Ready (cause_of e)
+
 -- the bytes of a body from a position on, up to a limit
 abbrev pub cut_from : ℕ → List ℕ → ℕ → List ℕ
 cut_from from b limit = drop from (cut b limit)
@@ -44,10 +59,10 @@ pub record Gained {S : Type 0} (meaning : S → Meaning) (o p : Opened S) (more 
   pub count : p.given ≡ o.given + length more
   pub bytes : ForSome (whole_of meaning o) (λ b. more ≡ take (length more) (drop o.given b))
 
--- several reads of an opened body under one Gate, by which the bytes that a buffer holds became more
-pub record Draws {S : Type 0} (meaning : S → Meaning) (polled : S → Gate → S → Type 0) (gate : Gate) (o p : Piped S) (old new : List ℕ) : Type 0 where
+-- several reads of an opened body under one Gate that have ended so, by which the bytes that a buffer holds became more
+pub record Draws {S : Type 0} (meaning : S → Meaning) (polled : S → Gate → Poll (Result ℕ SourceError) → S → Type 0) (gate : Gate) (how : Ending) (o p : Piped S) (old new : List ℕ) : Type 0 where
   pub follows : Follows meaning gate.tripped o.opened p.opened
-  pub by_gate : ByGate polled gate o.opened.tap p.opened.tap
+  pub by_gate : ByGate polled gate how o.opened.tap p.opened.tap
   pub bound : TakesAtMost meaning p.opened p.opened.limit
   pub not_probed : p.probed ≡ false
   pub gained : (more : List ℕ) × (new ≡ old ++ more) × Gained meaning o.opened p.opened more
@@ -75,6 +90,13 @@ Drains meaning o p (drained.Failed e) = TapErrs meaning e o.tap p.tap × (p.give
 Drains meaning o p drained.Waiting = TapWaits meaning o.tap p.tap
 Drains meaning o p drained.NoMemory = ⊤
 
+-- how the reads have ended then
+abbrev pub drained_end : Drained → Ending
+drained_end drained.End = Ready (Ok tt)
+drained_end (drained.Failed e) = Ready (Err e)
+drained_end drained.Waiting = Pending
+drained_end drained.NoMemory = Ready (Ok tt)
+
 -- whether the body has no more than its limit
 abbrev pub Closes : {S : Type 0} → (S → Meaning) → Piped S → Piped S → Poll (Result Bool SourceError) → Type 0
 Closes meaning o p Pending = (p.probed ≡ false) × TapWaits meaning o.opened.tap p.opened.tap
@@ -95,6 +117,12 @@ abbrev pub Finishes : {S : Type 0} → (S → Meaning) → Piped S → Piped S �
 Finishes meaning o p (finished.Bytes complete) = IsUsedUp meaning p.opened × (p.opened.given ≤ p.opened.limit) × ForSome (whole_of meaning o.opened) (λ b. IsComplete complete b o.opened.limit)
 Finishes meaning o p finished.Waiting = (p.probed ≡ false) × TapWaits meaning o.opened.tap p.opened.tap
 Finishes meaning o p (finished.Failed e) = BytesErr meaning o.opened p.opened e
+
+-- how the reads have ended then
+abbrev pub finished_end : Finished → Ending
+finished_end (finished.Bytes complete) = Ready (Ok tt)
+finished_end finished.Waiting = Pending
+finished_end (finished.Failed e) = Ready (cause_of e)
 
 -- until its last answer a state holds what was read so far, and nothing past the limit was read
 abbrev pub Gathers : {S : Type 0} → (S → Meaning) → Piped S → ℕ → List ℕ → Option DataError → Bool → Type 0

@@ -4,11 +4,11 @@ use Rattle.std.specs.Prelude.{◌≡◌, ⊤, ℕ, ◌-◌, ◌<◌, ◌⊎◌, 
 use Rattle.std.specs.declared.alloc.Global.{Global}
 use Rattle.rkt_base.specs.declared.poll.Poll.{Poll}
 use Rattle.rkt_base.specs.declared.poll.Poll.TheVariants.{Ready, Pending}
-use Rattle.rkt_data.specs.Gathering.{Gained, Gathered, IsUsedUp, cut_from}
+use Rattle.rkt_data.specs.Gathering.{Gained, Gathered, IsUsedUp, cause_of, cut_from}
 use Rattle.rkt_source.specs.Sink.{SinkMeaning, SinkKeeps, SinkWaits, SinkFaulted, SinkErrs, Gains}
 use Rattle.rkt_source.specs.Source.{Meaning}
 use Rattle.rkt_data.specs.Stream.{Opened, Piped, Follows, TakesAtMost, IsComplete, whole_of}
-use Rattle.rkt_data.specs.Tap.{ByGate, TapErrs, TapWaits}
+use Rattle.rkt_data.specs.Tap.{Tapped, ByGate, Ending, TapErrs, TapWaits}
 use Rattle.rkt_data.specs.declared.capped.N.{N}
 use Rattle.rkt_data.specs.declared.error.DataError.{DataError}
 use Rattle.rkt_data.specs.declared.error.DataError.TheVariants as error
@@ -19,6 +19,7 @@ use Rattle.rkt_data.specs.declared.pump.Sent.TheVariants as sent
 use Rattle.rkt_source.specs.declared.sink.SinkError.{SinkError}
 use Rattle.rkt_source.specs.declared.sink.SinkError.TheVariants as sink_error
 use Rattle.rkt_source.specs.declared.source.Gate.{Gate}
+use Rattle.rkt_source.specs.declared.source.SourceError.{SourceError}
 use Rattle.rkt_source.specs.declared.source.SourceError.TheVariants as source_error
 
 -- a sink as it is now, and as it was handed in
@@ -70,11 +71,10 @@ abbrev pub sink_error_of : SinkError → DataError
 sink_error_of sink_error.SinkFault = error.SinkFault
 sink_error_of sink_error.NoMemory = error.NoMemory
 
--- reads under one Gate and writes, by which the bytes that are pending became others: what was pending and what was
+-- reads and writes, by which the bytes that are pending became others: what was pending and what was
 -- read is what was sent and what is pending now
-pub record Pumps {S K : Type 0} (meaning : S → Meaning) (sinks : K → SinkMeaning) (polled : S → Gate → S → Type 0) (gate : Gate) (o p : Piped S) (k l : K) (old new : List ℕ) : Type 0 where
+pub record Pumps {S K : Type 0} (meaning : S → Meaning) (sinks : K → SinkMeaning) (gate : Gate) (o p : Piped S) (k l : K) (old new : List ℕ) : Type 0 where
   pub follows : Follows meaning gate.tripped o.opened p.opened
-  pub by_gate : ByGate polled gate o.opened.tap p.opened.tap
   pub bound : TakesAtMost meaning p.opened p.opened.limit
   pub not_probed : p.probed ≡ false
   pub keeps : SinkKeeps (sinks k) (sinks l)
@@ -102,6 +102,17 @@ abbrev pub PumpStops : {S K : Type 0} → (S → Meaning) → (K → SinkMeaning
 PumpStops meaning sinks o p k l pending pumped.Done = IsUsedUp meaning p × (pending ≡ [])
 PumpStops meaning sinks o p k l pending pumped.Waiting = SendWaits meaning sinks o p k l
 PumpStops meaning sinks o p k l pending (pumped.Failed e) = SendErr meaning sinks o p k l e
+
+-- how the reads have ended then
+abbrev pub pumped_end : Pumped → Ending
+pumped_end pumped.Done = Ready (Ok tt)
+pumped_end pumped.Waiting = Pending
+pumped_end (pumped.Failed e) = Ready (cause_of e)
+
+-- the source was called under this Gate alone, and its reads have ended so; where a call is Pending, that may be for the sink
+abbrev pub SendsByGate : {S : Type 0} → (S → Gate → Poll (Result ℕ SourceError) → S → Type 0) → Gate → Ending → Option (Tapped S) → Option (Tapped S) → Type 0
+SendsByGate polled gate Pending t u = ByGate polled gate Pending t u ⊎ ByGate polled gate (Ready (Ok tt)) t u
+SendsByGate polled gate (Ready r) t u = ByGate polled gate (Ready r) t u
 
 -- until its last answer nothing past the limit was read
 abbrev pub SendsOn : Bool → Option DataError → Bool → Type 0

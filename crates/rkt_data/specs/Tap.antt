@@ -1,7 +1,9 @@
 -- A source behind a body, and what several reads of it come to.
 use Rattle.std.specs.Option.{ForSome}
-use Rattle.std.specs.Prelude.{◌≡◌, ⊤, ℕ, ◌+◌, ◌≤◌, List, length, take, drop, Option, Some, None, option_map}
-use Rattle.rkt_source.specs.Source.{Meaning, Keeps, Waits, Errs}
+use Rattle.std.specs.Prelude.{◌≡◌, ⊤, ℕ, ◌+◌, ◌≤◌, List, length, take, drop, Option, Some, None, option_map, Result, Ok, Err}
+use Rattle.rkt_base.specs.declared.poll.Poll.{Poll}
+use Rattle.rkt_base.specs.declared.poll.Poll.TheVariants.{Ready, Pending}
+use Rattle.rkt_source.specs.Source.{Meaning, Keeps, Waits, Errs, LeftOrRead}
 use Rattle.rkt_source.specs.declared.source.Gate.{Gate}
 use Rattle.rkt_source.specs.declared.source.SourceError.{SourceError}
 use Rattle.rkt_data.specs.declared.tap.Stop.{Stop}
@@ -17,17 +19,40 @@ abbrev pub tapped : {S : Type 0} → Option (Tap S) → Option (Tapped S)
 tapped None = None
 tapped (Some t) = Some record { now = t.source; begun = t.begun.value }
 
--- any number of reads under this Gate lead from the first to the second
-pub data Polls {S : Type 0} (polled : S → Gate → S → Type 0) (gate : Gate) : S → S → Type 0 where
-  none : {s : S} → Polls polled gate s s
-  more : {s t u : S} → Polls polled gate s t → polled t gate u → Polls polled gate s u
+-- how several reads have ended: each was answered, or the last was refused or Pending
+abbrev pub Ending : Type 0
+Ending = Poll (Result (Unit {0}) SourceError)
 
--- the source, where there is one, was called under this Gate alone
-abbrev pub ByGate : {S : Type 0} → (S → Gate → S → Type 0) → Gate → Option (Tapped S) → Option (Tapped S) → Type 0
-ByGate polled gate None None = ⊤
-ByGate polled gate None (Some u) = ⊥
-ByGate polled gate (Some t) None = ⊥
-ByGate polled gate (Some t) (Some u) = Polls polled gate t.now u.now
+-- what an answer tells of that
+abbrev pub ending_of : {X : Type 0} → Poll (Result X SourceError) → Ending
+ending_of Pending = Pending
+ending_of (Ready (Ok x)) = Ready (Ok tt)
+ending_of (Ready (Err e)) = Ready (Err e)
+
+-- any number of reads under this Gate, each of which was answered, lead from the first to the second
+pub data Polls {S : Type 0} (polled : S → Gate → Poll (Result ℕ SourceError) → S → Type 0) (gate : Gate) : S → S → Type 0 where
+  none : {s : S} → Polls polled gate s s
+  more : {s t u : S} {n : ℕ} → Polls polled gate s t → polled t gate (Ready (Ok n)) u → Polls polled gate s u
+
+-- reads under this Gate have ended so: none but the last was refused or Pending
+abbrev pub PollsTo : {S : Type 0} → (S → Gate → Poll (Result ℕ SourceError) → S → Type 0) → Gate → Ending → S → S → Type 0
+PollsTo polled gate Pending s t = (r : _) × Polls polled gate s r × polled r gate Pending t
+PollsTo polled gate (Ready (Ok x)) s t = Polls polled gate s t
+PollsTo polled gate (Ready (Err e)) s t = (r : _) × Polls polled gate s r × polled r gate (Ready (Err e)) t
+
+-- the source, where there is one, was called under this Gate alone, and its reads have ended so
+abbrev pub ByGate : {S : Type 0} → (S → Gate → Poll (Result ℕ SourceError) → S → Type 0) → Gate → Ending → Option (Tapped S) → Option (Tapped S) → Type 0
+ByGate polled gate how None None = ⊤
+ByGate polled gate how None (Some u) = ⊥
+ByGate polled gate how (Some t) None = ⊥
+ByGate polled gate how (Some t) (Some u) = PollsTo polled gate how t.now u.now
+
+-- the source, where there is one, was left alone or read once under this Gate; an error and Pending are its own answers
+abbrev pub AsksOnce : {S : Type 0} → (S → Gate → Poll (Result ℕ SourceError) → S → Type 0) → Gate → Poll (Result ℕ SourceError) → Option (Tapped S) → Option (Tapped S) → Type 0
+AsksOnce polled gate answer None None = ⊤
+AsksOnce polled gate answer None (Some u) = ⊥
+AsksOnce polled gate answer (Some t) None = ⊥
+AsksOnce polled gate answer (Some t) (Some u) = LeftOrRead polled gate answer t.now u.now
 
 -- it is the same source, and keeps what no read changes
 abbrev pub SameTap : {S : Type 0} → (S → Meaning) → Option ℕ → Option (Tapped S) → Option (Tapped S) → Type 0
@@ -66,6 +91,13 @@ Stopped m m' n room Full = n ≡ length room
 Stopped m m' n room End = ForSome m.whole (λ w. m'.taken ≡ length w)
 Stopped m m' n room Waiting = Waits m m'
 Stopped m m' n room (Failed e) = Errs e m m'
+
+-- how the reads of a call have ended that stopped so
+abbrev pub ending_at : Stop → Ending
+ending_at Full = Ready (Ok tt)
+ending_at End = Ready (Ok tt)
+ending_at Waiting = Pending
+ending_at (Failed e) = Ready (Err e)
 
 -- the bytes held are those that a source has given since it was handed in
 pub record Gave (m n : Meaning) (held : List ℕ) : Type 0 where

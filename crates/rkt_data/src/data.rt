@@ -1,5 +1,6 @@
 //! The body of a request, before it is opened.
 ghost use Rattle.std.specs.Prelude.{◌≡◌, [], IfOk, IsTrue, false, min, take, true};
+ghost use Rattle.rkt_data.specs.Body.{PeekedPulls, opened_tap};
 
 use crate::data_stream::{ByteUnit, DataStream};
 use crate::pipe::Pipe;
@@ -35,9 +36,8 @@ impl<S: Source> Model for Data<S> {
 }
 
 impl<S: Source> Data<S> {
-    ghost use Rattle.rkt_data.specs.Body.{Peeked, PeekStops, IsWhole};
+    ghost use Rattle.rkt_data.specs.Body.{Peeked, PeeksByGate, PeekStops, IsWhole};
     ghost use Rattle.rkt_data.specs.Stream.{PullsAtMost};
-    ghost use Rattle.rkt_data.specs.Tap.{ByGate};
 
     /// A body that is held whole.
     pub fn local(bytes: Vec<u8>) -> Data<S>
@@ -78,17 +78,19 @@ impl<S: Source> Data<S> {
         self.complete
     }
 
-    /// Opens the body for reading, up to a limit.
+    /// Opens the body for reading, up to a limit. Where a peek has met the end, the source is let go: all that the body
+    /// has is held, and nothing asks the source again.
     pub fn open(self, limit: ByteUnit) -> DataStream<S>
-        ensures opened { result ≡ record { front = self.held; tap = self.tap; limit = limit.0; given = 0 } }
+        ensures opened { result ≡ record { front = self.held; tap = opened_tap self.complete self.tap; limit = limit.0; given = 0 } }
         ensures bound { PullsAtMost S.meaning result }
     {
         let Data {
             bytes,
             held,
             tap,
-            complete: _,
+            complete,
         } = self;
+        let tap = unless_complete(complete, tap);
         DataStream::new(Pipe::new(bytes, held, tap, limit.0))
     }
 
@@ -103,7 +105,7 @@ impl<S: Source> Data<S> {
     // Reads until as many bytes are held as a peek may show, the end came, or a read failed.
     pub(crate) fn fill(&mut self, gate: Gate, num: usize) -> Poll<()>
         ensures peeked { Peeked S.meaning gate.tripped num self.old self.new }
-        ensures by_gate { ByGate S.polled gate self.old.tap self.new.tap }
+        ensures by_gate { PeeksByGate S.polled gate result self.old.tap self.new.tap }
         ensures stops { PeekStops S.meaning num self.old self.new result }
     {
         let want = num.min(PEEK_BYTES);
@@ -121,6 +123,21 @@ impl<S: Source> Data<S> {
             }
         }
     }
+}
+
+/// A law of bodies, the pull bound: whatever reads a body that was peeked at and then opened, it takes at most the greater of
+/// what was peeked and the limit plus one from the source.
+pub fn peeked_pulls<S: Source>()
+    ensures { PeekedPulls S.meaning }
+{}
+
+fn unless_complete<T: Drop>(complete: bool, tap: Option<T>) -> Option<T>
+    ensures { result ≡ opened_tap complete tap }
+{
+    if complete {
+        return None;
+    }
+    tap
 }
 
 fn ready_unless_waiting(stop: Stop) -> Poll<()>

@@ -1,5 +1,5 @@
 //! An opened body.
-ghost use Rattle.std.specs.Prelude.{◌≡◌, ◌-◌, Ok, false, length, min};
+ghost use Rattle.std.specs.Prelude.{◌≡◌, ◌-◌, ◌≤◌, Ok, false, length, min};
 
 use crate::pipe::Pipe;
 use rkt_base::Poll;
@@ -29,7 +29,7 @@ impl<S: Source> Model for DataStream<S> {
 
 impl<S: Source> DataStream<S> {
     ghost use Rattle.rkt_data.specs.Stream.{Follows, Reads, TakesAtMost};
-    ghost use Rattle.rkt_data.specs.Tap.{ByGate};
+    ghost use Rattle.rkt_data.specs.Tap.{AsksOnce};
 
     pub(crate) fn new(pipe: Pipe<S>) -> DataStream<S>
         requires { pipe.probed ≡ false }
@@ -55,8 +55,10 @@ impl<S: Source> DataStream<S> {
     /// where the buffer is not empty.
     pub fn poll_read(&mut self, gate: Gate, buf: &mut [u8]) -> Poll<Result<usize, SourceError>>
         ensures follows { Follows S.meaning gate.tripped self.old self.new }
-        ensures by_gate { ByGate S.polled gate self.old.tap self.new.tap }
+        // The source is asked once at most, and an error or Pending is what it has answered.
+        ensures by_gate { AsksOnce S.polled gate result self.old.tap self.new.tap }
         ensures bound { TakesAtMost S.meaning self.new self.new.limit }
+        ensures within { self.new.given ≤ self.new.limit }
         ensures empty { length buf.old ≡ 0 → (result ≡ Poll.Ready (Ok 0)) × (self.new ≡ self.old) }
         ensures answer { Reads S.meaning self.old self.new buf.old buf.new result }
     {

@@ -1,8 +1,9 @@
 //! Reads all of an opened body, up to its limit.
 ghost use Rattle.std.specs.Prelude.{◌≡◌, ◌≤◌, ◌<◌, None, OnOk, false, length, take, vec_len};
-ghost use Rattle.rkt_data.specs.Gathering.{Draws, Drains, Pours};
+ghost use Rattle.rkt_data.specs.Gathering.{Draws, Drains, Pours, drained_end};
 ghost use Rattle.rkt_source.specs.Buffer.{items_of};
 ghost use Rattle.rkt_data.specs.Stream.{TakesAtMost};
+ghost use Rattle.rkt_data.specs.Tap.{ending_at};
 
 use crate::pipe::Pipe;
 use crate::tap::Stop;
@@ -29,7 +30,7 @@ pub(crate) fn drain<S: Source>(
     requires not_probed { pipe.old.probed ≡ false }
     requires within { count ≤ vec_len room.old }
     ensures within { result.0 ≤ vec_len room.new }
-    ensures draws { Draws S.meaning S.polled gate pipe.old pipe.new (take count room.old.items) (take result.0 room.new.items) }
+    ensures draws { Draws S.meaning S.polled gate (drained_end result.1) pipe.old pipe.new (take count room.old.items) (take result.0 room.new.items) }
     ensures drains { Drains S.meaning pipe.old.opened pipe.new.opened result.1 }
 {
     let mut n = count;
@@ -57,7 +58,7 @@ fn pour<S: Source>(pipe: &mut Pipe<S>, gate: Gate, room: &mut [u8], count: usize
     requires within { count ≤ length room.old }
     requires bound { TakesAtMost S.meaning pipe.old.opened pipe.old.opened.limit }
     ensures within { result.0 ≤ length room.new }
-    ensures draws { Draws S.meaning S.polled gate pipe.old pipe.new (take count room.old) (take result.0 room.new) }
+    ensures draws { Draws S.meaning S.polled gate (ending_at result.1) pipe.old pipe.new (take count room.old) (take result.0 room.new) }
     ensures pours { Pours S.meaning pipe.old.opened pipe.new.opened (length room.new) result.0 result.1 }
 {
     let mut n = count;

@@ -51,8 +51,7 @@ impl<R: Source> AsyncReadExt for R {
 }
 
 impl<R: Source> ReaderStream<R> {
-    ghost use Rattle.rkt_data.specs.Ext.{GivesChunk};
-    ghost use Rattle.rkt_source.specs.Source.{LeftOrRead};
+    ghost use Rattle.rkt_data.specs.Ext.{AsksForChunk, GivesChunk};
 
     /// The next chunk, which is not empty. After a fault or the end there is none.
     pub fn poll_next(
@@ -61,7 +60,8 @@ impl<R: Source> ReaderStream<R> {
         gate: Gate,
     ) -> Poll<Option<Result<Vec<u8>, DataError>>>
         ensures cap { self.new.cap ≡ self.old.cap }
-        ensures by_gate { LeftOrRead R.polled gate self.old.reader self.new.reader }
+        // The source is asked once, until the end was met, or a fault.
+        ensures by_gate { self.old.ended ≡ false → AsksForChunk R.polled gate self.old.reader result self.new.reader }
         ensures answer { GivesChunk R.meaning gate.tripped self.old self.new result }
     {
         if self.ended {

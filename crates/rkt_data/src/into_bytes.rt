@@ -2,7 +2,7 @@
 ghost use Rattle.std.specs.Option.{ForSome};
 ghost use Rattle.std.specs.Prelude.{◌≡◌, ◌≤◌, ◌++◌, [], Err, None, false, take, vec_len};
 ghost use Rattle.rkt_base.specs.declared.poll.Poll.TheVariants.{Ready};
-ghost use Rattle.rkt_data.specs.Gathering.{Gained, Finishes};
+ghost use Rattle.rkt_data.specs.Gathering.{Gained, Finishes, finished_end, reads_end};
 ghost use Rattle.rkt_data.specs.Stream.{Follows, PullsAtMost};
 ghost use Rattle.rkt_data.specs.Tap.{ByGate};
 
@@ -64,7 +64,7 @@ impl<S: Source> IntoBytes<S> {
         requires { self.old.done ≡ false }
         ensures from { self.new.from ≡ self.old.from }
         ensures follows { Follows S.meaning gate.tripped self.old.stream self.new.stream }
-        ensures by_gate { ByGate S.polled gate self.old.stream.tap self.new.stream.tap }
+        ensures by_gate { self.old.failed ≡ None → ByGate S.polled gate (reads_end result) self.old.stream.tap self.new.stream.tap }
         ensures bound { PullsAtMost S.meaning self.new.stream }
         ensures repeats { ForSome self.old.failed (λ e. (result ≡ Ready (Err e)) × (self.new ≡ self.old)) }
         ensures answer { self.old.failed ≡ None → GathersBytes S.meaning self.old self.new result }
@@ -116,7 +116,7 @@ fn finish<S: Source>(
     requires within { count ≤ vec_len room.old }
     ensures within { result.0 ≤ vec_len room.new }
     ensures follows { Follows S.meaning gate.tripped pipe.old.opened pipe.new.opened }
-    ensures by_gate { ByGate S.polled gate pipe.old.opened.tap pipe.new.opened.tap }
+    ensures by_gate { ByGate S.polled gate (finished_end result.1) pipe.old.opened.tap pipe.new.opened.tap }
     ensures bound { PullsAtMost S.meaning pipe.new.opened }
     ensures gained { (more : _) × (take result.0 room.new.items ≡ take count room.old.items ++ more) × Gained S.meaning pipe.old.opened pipe.new.opened more }
     ensures finishes { Finishes S.meaning pipe.old pipe.new result.1 }

@@ -2,6 +2,7 @@
 ghost use Rattle.std.specs.Option.{ForSome};
 ghost use Rattle.std.specs.Prelude.{◌≡◌, ◌≤◌, [], Err, None, false, vec_len};
 ghost use Rattle.rkt_base.specs.declared.poll.Poll.TheVariants.{Ready};
+ghost use Rattle.rkt_data.specs.Gathering.{reads_end};
 ghost use Rattle.rkt_data.specs.Text.{Texts, IsRead};
 ghost use Rattle.rkt_data.specs.Stream.{Follows, PullsAtMost};
 ghost use Rattle.rkt_data.specs.Tap.{ByGate};
@@ -68,7 +69,7 @@ impl<S: Source> IntoString<S> {
         requires { self.old.done ≡ false }
         ensures from { self.new.from ≡ self.old.from }
         ensures follows { Follows S.meaning gate.tripped self.old.stream self.new.stream }
-        ensures by_gate { ByGate S.polled gate self.old.stream.tap self.new.stream.tap }
+        ensures by_gate { self.old.failed ≡ None → ByGate S.polled gate (reads_end result) self.old.stream.tap self.new.stream.tap }
         ensures bound { PullsAtMost S.meaning self.new.stream }
         ensures repeats { ForSome self.old.failed (λ e. (result ≡ Ready (Err e)) × (self.new ≡ self.old)) }
         ensures answer { self.old.failed ≡ None → AnswersText S.meaning self.old self.new result }

@@ -18,13 +18,13 @@ mod stream_to;
 mod tap;
 
 pub use capped::{Capped, N};
-pub use data::{Data, PEEK_BYTES};
+pub use data::{Data, PEEK_BYTES, peeked_pulls};
 pub use data_stream::{ByteUnit, DataStream};
 pub use error::DataError;
 pub use ext::{AsyncReadExt, PollExt};
 pub use into_bytes::IntoBytes;
 pub use into_string::IntoString;
-pub use rkt_cancel::{CancellableIo, Refused, Stage};
+pub use rkt_cancel::{CancellableIo, Refused, Stage, cuts_after_grace};
 pub use rkt_source::{Gate, MemorySink, MemorySource, Shut, Sink, SinkError, Source, SourceError};
 pub use rkt_stream::{Chain, Join, One, Stream, StreamExt, StreamReader, stream};
 pub use stream_to::{StreamPrecise, StreamTo};

@@ -31,7 +31,7 @@ impl<S: Source> Model for Pipe<S> {
 impl<S: Source> Pipe<S> {
     ghost use Rattle.rkt_data.specs.Gathering.{IsUsedUp, Closes};
     ghost use Rattle.rkt_data.specs.Stream.{DrawnBy, Follows, Reads, Probes, TakesAtMost, PullsAtMost};
-    ghost use Rattle.rkt_data.specs.Tap.{tapped, ByGate};
+    ghost use Rattle.rkt_data.specs.Tap.{tapped, AsksOnce, ByGate, ending_of};
 
     pub(crate) fn new(bytes: Vec<u8>, held: usize, tap: Option<Tap<S>>, limit: u64) -> Pipe<S>
         requires drawn { DrawnBy S.meaning (take held bytes.items) limit 0 false (tapped tap) }
@@ -75,7 +75,7 @@ impl<S: Source> Pipe<S> {
         requires { self.old.probed ≡ false }
         ensures probed { self.new.probed ≡ false }
         ensures follows { Follows S.meaning gate.tripped self.old.opened self.new.opened }
-        ensures by_gate { ByGate S.polled gate self.old.opened.tap self.new.opened.tap }
+        ensures by_gate { AsksOnce S.polled gate result self.old.opened.tap self.new.opened.tap }
         ensures bound { TakesAtMost S.meaning self.new.opened self.new.opened.limit }
         ensures within { self.new.opened.given ≤ self.new.opened.limit }
         ensures empty { length buf.old ≡ 0 → (result ≡ Poll.Ready (Ok 0)) × (self.new ≡ self.old) }
@@ -113,7 +113,7 @@ impl<S: Source> Pipe<S> {
         ensures given { self.new.opened.given ≡ self.old.opened.given }
         ensures within { self.new.opened.given ≤ self.new.opened.limit }
         ensures follows { Follows S.meaning gate.tripped self.old.opened self.new.opened }
-        ensures by_gate { ByGate S.polled gate self.old.opened.tap self.new.opened.tap }
+        ensures by_gate { ByGate S.polled gate (ending_of result) self.old.opened.tap self.new.opened.tap }
         ensures bound { PullsAtMost S.meaning self.new.opened }
         ensures closes { Closes S.meaning self.old self.new result }
     {
@@ -129,7 +129,7 @@ impl<S: Source> Pipe<S> {
         requires not_probed { self.old.probed ≡ false }
         ensures given { self.new.opened.given ≡ self.old.opened.given }
         ensures follows { Follows S.meaning gate.tripped self.old.opened self.new.opened }
-        ensures by_gate { ByGate S.polled gate self.old.opened.tap self.new.opened.tap }
+        ensures by_gate { ByGate S.polled gate (ending_of result) self.old.opened.tap self.new.opened.tap }
         ensures bound { PullsAtMost S.meaning self.new.opened }
         ensures answer { Probes S.meaning self.old self.new result }
     {

@@ -1,7 +1,7 @@
 //! Sends what an opened body gives to a sink, through a buffer.
 ghost use Rattle.std.specs.Prelude.{◌≡◌, ◌≤◌, ◌<◌, IfOk, OnErr, None, ℕ, false, length, take, vec_len};
 ghost use Rattle.rkt_source.specs.Buffer.{items_of};
-ghost use Rattle.rkt_data.specs.Sending.{Pumps, PumpStops, SendStops, between, sink_error_of};
+ghost use Rattle.rkt_data.specs.Sending.{Pumps, PumpStops, SendStops, SendsByGate, between, pumped_end, sink_error_of};
 ghost use Rattle.rkt_source.specs.Sink.{SinkKeeps, Gains};
 ghost use Rattle.rkt_data.specs.Stream.{TakesAtMost};
 
@@ -47,7 +47,8 @@ pub(crate) fn pump<S: Source, K: Sink>(
     requires some { 0 < length buf.old }
     ensures order { result.0 ≤ result.1 }
     ensures room { result.1 ≤ length buf.new }
-    ensures pumps { Pumps S.meaning K.meaning S.polled gate pipe.old pipe.new sink.old sink.new (between at end buf.old) (between result.0 result.1 buf.new) }
+    ensures by_gate { SendsByGate S.polled gate (pumped_end result.2) pipe.old.opened.tap pipe.new.opened.tap }
+    ensures pumps { Pumps S.meaning K.meaning gate pipe.old pipe.new sink.old sink.new (between at end buf.old) (between result.0 result.1 buf.new) }
     ensures stops { PumpStops S.meaning K.meaning pipe.old.opened pipe.new.opened sink.old sink.new (between result.0 result.1 buf.new) result.2 }
 {
     let mut from = at;

@@ -1,10 +1,10 @@
 //! An opened body on its way to a sink.
 ghost use Rattle.std.specs.Prelude.{◌≡◌, ◌+◌, ◌≤◌, [], false, length};
 ghost use Rattle.rkt_data.specs.Gathering.{IsUsedUp, Closes};
-ghost use Rattle.rkt_data.specs.Sending.{PumpStops, SentAll, Sends};
+ghost use Rattle.rkt_data.specs.Sending.{PumpStops, SentAll, Sends, SendsByGate, pumped_end};
 ghost use Rattle.rkt_source.specs.Sink.{SinkKeeps};
 ghost use Rattle.rkt_data.specs.Stream.{Follows, TakesAtMost, PullsAtMost};
-ghost use Rattle.rkt_data.specs.Tap.{ByGate};
+ghost use Rattle.rkt_data.specs.Tap.{ByGate, ending_of};
 
 use crate::error::DataError;
 use crate::pipe::Pipe;
@@ -79,7 +79,7 @@ impl<S: Source, K: Sink> Sender<S, K> {
         ensures from { self.new.from ≡ self.old.from }
         ensures begun { self.new.sink.begun ≡ self.old.sink.begun }
         ensures follows { Follows S.meaning gate.tripped self.old.piped.opened self.new.piped.opened }
-        ensures by_gate { ByGate S.polled gate self.old.piped.opened.tap self.new.piped.opened.tap }
+        ensures by_gate { SendsByGate S.polled gate (pumped_end result) self.old.piped.opened.tap self.new.piped.opened.tap }
         ensures bound { TakesAtMost S.meaning self.new.piped.opened self.new.piped.opened.limit }
         ensures keeps { SinkKeeps (K.meaning self.old.sink.now) (K.meaning self.new.sink.now) }
         ensures stops { PumpStops S.meaning K.meaning self.old.piped.opened self.new.piped.opened self.old.sink.now self.new.sink.now self.new.pending result }
@@ -113,7 +113,7 @@ impl<S: Source, K: Sink> Sender<S, K> {
         ensures pending { self.new.pending ≡ self.old.pending }
         ensures given { self.new.piped.opened.given ≡ self.old.piped.opened.given }
         ensures follows { Follows S.meaning gate.tripped self.old.piped.opened self.new.piped.opened }
-        ensures by_gate { ByGate S.polled gate self.old.piped.opened.tap self.new.piped.opened.tap }
+        ensures by_gate { ByGate S.polled gate (ending_of result) self.old.piped.opened.tap self.new.piped.opened.tap }
         ensures closes { Closes S.meaning self.old.piped self.new.piped result }
     {
         self.pipe.close(gate)

@@ -1,6 +1,6 @@
 //! The source behind a body.
 ghost use Rattle.std.specs.Prelude.{◌≡◌, ◌≤◌, length, take};
-ghost use Rattle.rkt_data.specs.Tap.{Pulled, Stopped, Polls, Gave, ToppedUp};
+ghost use Rattle.rkt_data.specs.Tap.{Pulled, Stopped, PollsTo, Gave, ToppedUp, ending_at};
 
 use rkt_base::Poll;
 use rkt_source::{Gate, Source, SourceError};
@@ -34,7 +34,7 @@ pub(crate) fn top_up<S: Source>(
     requires room { want ≤ length bytes.old }
     requires gave { Gave (S.meaning tap.old.begun.value) (S.meaning tap.old.source) (take held bytes.old) }
     ensures begun { tap.new.begun.value ≡ tap.old.begun.value }
-    ensures by_gate { Polls S.polled gate tap.old.source tap.new.source }
+    ensures by_gate { PollsTo S.polled gate (ending_at result.1) tap.old.source tap.new.source }
     ensures topped_up { ToppedUp gate.tripped (S.meaning tap.old.begun.value) (S.meaning tap.old.source) (S.meaning tap.new.source) held want bytes.old bytes.new result.0 }
     ensures stopped { Stopped (S.meaning tap.old.source) (S.meaning tap.new.source) result.0 (take want bytes.new) result.1 }
 {
@@ -44,7 +44,7 @@ pub(crate) fn top_up<S: Source>(
 
 // Reads from a source until a buffer is full.
 fn pull<S: Source>(source: &mut S, gate: Gate, room: &mut [u8]) -> (usize, Stop)
-    ensures by_gate { Polls S.polled gate source.old source.new }
+    ensures by_gate { PollsTo S.polled gate (ending_at result.1) source.old source.new }
     ensures pulled { Pulled gate.tripped (S.meaning source.old) (S.meaning source.new) result.0 room.new }
     ensures stopped { Stopped (S.meaning source.old) (S.meaning source.new) result.0 room.new result.1 }
 {

@@ -1,5 +1,5 @@
 //! One exchange with the tables of a rocket.
-ghost use Rattle.std.specs.Prelude.{◌≡◌, ◌<◌, [], IfOk, IfSome, length, slice_get};
+ghost use Rattle.std.specs.Prelude.{◌≡◌, ◌<◌, ◌∷◌, [], IfOk, IfSome, length, slice_get};
 ghost use Rattle.rkt_life.specs.Ended.{IfFinished, handle_of};
 ghost use Rattle.rkt_turn.specs.HandsBack.{HandsBack};
 ghost use Rattle.rkt_life.specs.Lifecycle.{Responds, Served, LifecycleOf};
@@ -33,6 +33,15 @@ fn first_match<H, T: Types>(routes: &[(Origin, H)], request: &Request<'_, T>) ->
         }
     }
     None
+}
+
+// The calls of a walk that made one, in just the room for it.
+fn one_call(alloc: Global, call: Call) -> Result<Seq<Call>, NoMemory>
+    ensures { IfOk result (λ calls. calls ≡ call ∷ []) }
+{
+    let mut calls = Vec::with_capacity(alloc, 1)?;
+    calls.push(call)?;
+    Ok(Seq::from_vec(calls))
 }
 
 impl<A: App> Tables<A> {
@@ -110,10 +119,13 @@ impl<A: App> Tables<A> {
             base_segments: 0,
         });
         let text = routes[position].1.respond(alloc, request)?;
-        calls.push(Call {
-            which: Which::Route(position),
-            answer: Answer::Success,
-        })?;
+        *calls = one_call(
+            alloc,
+            Call {
+                which: Which::Route(position),
+                answer: Answer::Success,
+            },
+        )?;
         text_page(alloc, text)
     }
 }

@@ -1,13 +1,15 @@
 -- Bodies that are read on, several times.
 use Rattle.std.specs.Option.{ForSome}
 use Rattle.std.specs.Prelude.{option_map}
-use Rattle.std.proofs.Common.{◌≡◌, ℕ, ◌+◌, ◌≤◌, ◌++◌, ◌∙◌, List, length, take, drop, Option, None, Some, refl, sym, ap, subst, arith, append_assoc, length-append, length-take-le, drop-drop, take-append-drop}
+use Rattle.std.proofs.Common.{◌≡◌, ℕ, ◌+◌, ◌≤◌, ◌++◌, ◌∙◌, List, length, take, drop, Option, None, Some, Result, Ok, Err, refl, sym, ap, subst, arith, append_assoc, length-append, length-take-le, drop-drop, take-append-drop}
 use Rattle.rkt_source.proofs.Sources.{Keeps-refl, Keeps-trans}
 use Rattle.rkt_data.proofs.Pulls.{front_of, same_front}
-use Rattle.rkt_data.proofs.Taps.{Polls-trans}
-use Rattle.rkt_data.specs.Gathering.{data_error_of}
+use Rattle.rkt_base.specs.declared.poll.Poll.{Poll}
+use Rattle.rkt_base.specs.declared.poll.Poll.TheVariants.{Ready}
+use Rattle.rkt_data.proofs.Taps.{PollsTo-after}
+use Rattle.rkt_data.specs.Gathering.{cause_of, data_error_of}
 use Rattle.rkt_source.specs.Source.{Meaning, Keeps, Errs}
-use Rattle.rkt_data.specs.Tap.{Polls}
+use Rattle.rkt_data.specs.Tap.{Ending, Polls}
 use Rattle.rkt_data.specs.declared.error.DataError.{DataError}
 use Rattle.rkt_data.specs.declared.error.DataError.TheVariants as error
 use Rattle.rkt_source.specs.declared.source.Gate.{Gate}
@@ -54,35 +56,41 @@ left_of-resized meaning (content.Sized rest size) z = refl
 left_of-resized meaning (content.Phantom length size) z = refl
 left_of-resized meaning (content.Streamed s) z = refl
 
-pub ByGate-refl : {S : Type 0} (polled : S → Gate → S → Type 0) (gate : Gate) (c : Content S) → ByGate polled gate c c
+pub ByGate-refl : {S : Type 0} (polled : S → Gate → Poll (Result ℕ SourceError) → S → Type 0) (gate : Gate) (c : Content S) → ByGate polled gate (Ready (Ok tt)) c c
 ByGate-refl polled gate content.None = tt
 ByGate-refl polled gate content.UnsizedNone = tt
 ByGate-refl polled gate (content.Sized rest size) = tt
 ByGate-refl polled gate (content.Phantom length size) = tt
 ByGate-refl polled gate (content.Streamed s) = Polls.none
 
-pub ByGate-trans : {S : Type 0} (meaning : S → Meaning) (polled : S → Gate → S → Type 0) (gate : Gate) (c d e : Content S) → ReadsOn meaning gate.tripped c d → ReadsOn meaning gate.tripped d e
-    → ByGate polled gate c d → ByGate polled gate d e → ByGate polled gate c e
-ByGate-trans meaning polled gate content.None d e p q a b = tt
-ByGate-trans meaning polled gate content.UnsizedNone d e p q a b = tt
-ByGate-trans meaning polled gate (content.Sized rest size) d e p q a b = tt
-ByGate-trans meaning polled gate (content.Phantom length size) d e p q a b = tt
-ByGate-trans meaning polled gate (content.Streamed s) d e p q a b =
+pub ByGate-trans : {S : Type 0} (meaning : S → Meaning) (polled : S → Gate → Poll (Result ℕ SourceError) → S → Type 0) (gate : Gate) (how : Ending) (c d e : Content S) → ReadsOn meaning gate.tripped c d → ReadsOn meaning gate.tripped d e
+    → ByGate polled gate (Ready (Ok tt)) c d → ByGate polled gate how d e → ByGate polled gate how c e
+ByGate-trans meaning polled gate how content.None d e p q a b = tt
+ByGate-trans meaning polled gate how content.UnsizedNone d e p q a b = tt
+ByGate-trans meaning polled gate how (content.Sized rest size) d e p q a b = tt
+ByGate-trans meaning polled gate how (content.Phantom length size) d e p q a b = tt
+ByGate-trans meaning polled gate how (content.Streamed s) d e p q a b =
     let r = subst (λ x. ReadsOn meaning gate.tripped x e) p.1 q in
-    let first = subst (λ x. ByGate polled gate (content.Streamed s) x) p.1 a in
-    let second = subst (λ x. ByGate polled gate (content.Streamed p.0) x) r.1 (subst (λ x. ByGate polled gate x e) p.1 b) in
-    subst (λ x. ByGate polled gate (content.Streamed s) x) (sym r.1) (Polls-trans first second)
+    let first = subst (λ x. ByGate polled gate (Ready (Ok tt)) (content.Streamed s) x) p.1 a in
+    let second = subst (λ x. ByGate polled gate how (content.Streamed p.0) x) r.1 (subst (λ x. ByGate polled gate how x e) p.1 b) in
+    subst (λ x. ByGate polled gate how (content.Streamed s) x) (sym r.1) (PollsTo-after polled gate how s p.0 r.0 first second)
 
-pub ByGate-resized : {S : Type 0} (polled : S → Gate → S → Type 0) (gate : Gate) (c d : Content S) (size : Option ℕ) → ByGate polled gate c d → ByGate polled gate c (resized d size)
-ByGate-resized polled gate content.None d z a = tt
-ByGate-resized polled gate content.UnsizedNone d z a = tt
-ByGate-resized polled gate (content.Sized rest size) d z a = tt
-ByGate-resized polled gate (content.Phantom length size) d z a = tt
-ByGate-resized polled gate (content.Streamed s) content.None z a = tt
-ByGate-resized polled gate (content.Streamed s) content.UnsizedNone z a = tt
-ByGate-resized polled gate (content.Streamed s) (content.Sized rest size) z a = tt
-ByGate-resized polled gate (content.Streamed s) (content.Phantom length size) z a = tt
-ByGate-resized polled gate (content.Streamed s) (content.Streamed t) z a = a
+pub ByGate-resized : {S : Type 0} (polled : S → Gate → Poll (Result ℕ SourceError) → S → Type 0) (gate : Gate) (how : Ending) (c d : Content S) (size : Option ℕ) → ByGate polled gate how c d → ByGate polled gate how c (resized d size)
+ByGate-resized polled gate how content.None d z a = tt
+ByGate-resized polled gate how content.UnsizedNone d z a = tt
+ByGate-resized polled gate how (content.Sized rest size) d z a = tt
+ByGate-resized polled gate how (content.Phantom length size) d z a = tt
+ByGate-resized polled gate how (content.Streamed s) content.None z a = tt
+ByGate-resized polled gate how (content.Streamed s) content.UnsizedNone z a = tt
+ByGate-resized polled gate how (content.Streamed s) (content.Sized rest size) z a = tt
+ByGate-resized polled gate how (content.Streamed s) (content.Phantom length size) z a = tt
+ByGate-resized polled gate how (content.Streamed s) (content.Streamed t) z a = a
+
+-- an error of the source is the cause of the one that is answered
+pub ByGate-caused : {S : Type 0} (polled : S → Gate → Poll (Result ℕ SourceError) → S → Type 0) (gate : Gate) (e : SourceError) (x : DataError) (c d : Content S) → x ≡ data_error_of e → ByGate polled gate (Ready (Err e)) c d → ByGate polled gate (Ready (cause_of x)) c d
+ByGate-caused polled gate source_error.SourceFault x c d is h = rw is h
+ByGate-caused polled gate source_error.Gone x c d is h = rw is h
+ByGate-caused polled gate source_error.TimedOut x c d is h = rw is h
 
 Takes-refl : {S : Type 0} (meaning : S → Meaning) (c : Content S) → Takes meaning c c 0
 Takes-refl meaning content.None = tt
@@ -187,7 +195,7 @@ left_same k (Some w) o' e h = h ∙ ap (λ (n : ℕ). Some (drop n w)) e
 pub Follows-refl : {S : Type 0} (meaning : S → Meaning) (trip : Option ℕ) (b : BodyOf S) → Follows meaning trip b b
 Follows-refl meaning trip b = record { content = ReadsOn-refl meaning trip b.content; chunk = refl }
 
-pub Draws-start : {S : Type 0} (meaning : S → Meaning) (polled : S → Gate → S → Type 0) (gate : Gate) (b : BodyOf S) (old : List ℕ) → Draws meaning polled gate b b old old
+pub Draws-start : {S : Type 0} (meaning : S → Meaning) (polled : S → Gate → Poll (Result ℕ SourceError) → S → Type 0) (gate : Gate) (b : BodyOf S) (old : List ℕ) → Draws meaning polled gate (Ready (Ok tt)) b b old old
 Draws-start meaning polled gate b old = record {
   follows = Follows-refl meaning gate.tripped b;
   preset = refl;
@@ -196,14 +204,14 @@ Draws-start meaning polled gate b old = record {
   moves = (0, omega arith, (Takes-refl meaning b.content, left_refl (left_of meaning b.content)));
 }
 
-pub Draws-trans : {S : Type 0} {meaning : S → Meaning} {polled : S → Gate → S → Type 0} {gate : Gate} {b c d : BodyOf S} {old mid new : List ℕ} → Draws meaning polled gate b c old mid → Draws meaning polled gate c d mid new → Draws meaning polled gate b d old new
-Draws-trans {meaning = meaning} {polled = polled} {gate = gate} {b = b} {c = c} {d = d} p q = record {
+pub Draws-trans : {S : Type 0} {meaning : S → Meaning} {polled : S → Gate → Poll (Result ℕ SourceError) → S → Type 0} {gate : Gate} {how : Ending} {b c d : BodyOf S} {old mid new : List ℕ} → Draws meaning polled gate (Ready (Ok tt)) b c old mid → Draws meaning polled gate how c d mid new → Draws meaning polled gate how b d old new
+Draws-trans {meaning = meaning} {polled = polled} {gate = gate} {how = how} {b = b} {c = c} {d = d} p q = record {
   follows = record {
     content = ReadsOn-trans meaning gate.tripped b.content c.content d.content p.follows.content q.follows.content;
     chunk = q.follows.chunk ∙ p.follows.chunk;
   };
   preset = q.preset ∙ p.preset;
-  by_gate = ByGate-trans meaning polled gate b.content c.content d.content p.follows.content q.follows.content p.by_gate q.by_gate;
+  by_gate = ByGate-trans meaning polled gate how b.content c.content d.content p.follows.content q.follows.content p.by_gate q.by_gate;
   all = q.all ∙ p.all;
   moves = (
     p.moves.0 + q.moves.0,
@@ -228,10 +236,10 @@ read_length n k room buf post within fits =
     ap length (front_of n k (take n room) buf post (length-take-le n room within) fits) ∙ length-append (take n room) (take k buf) ∙ ap (λ (i : ℕ). length (take n room) + i) (length-take-le k buf fits)
 
 -- one read, into a buffer behind its first n bytes
-pub Draws-read : {S : Type 0} {meaning : S → Meaning} {polled : S → Gate → S → Type 0} {gate : Gate} {b c d : BodyOf S} {old : List ℕ} (n k : ℕ) (room buf post : List ℕ) → Draws meaning polled gate b c old (take n room) → n ≤ length room → k ≤ length buf
-    → Follows meaning gate.tripped c d → preset_of d.content ≡ preset_of c.content → ByGate polled gate c.content d.content
+pub Draws-read : {S : Type 0} {meaning : S → Meaning} {polled : S → Gate → Poll (Result ℕ SourceError) → S → Type 0} {gate : Gate} {b c d : BodyOf S} {old : List ℕ} (n k : ℕ) (room buf post : List ℕ) → Draws meaning polled gate (Ready (Ok tt)) b c old (take n room) → n ≤ length room → k ≤ length buf
+    → Follows meaning gate.tripped c d → preset_of d.content ≡ preset_of c.content → ByGate polled gate (Ready (Ok tt)) c.content d.content
     → left_of meaning d.content ≡ option_map (drop k) (left_of meaning c.content) → ForSome (left_of meaning c.content) (λ w. take k buf ≡ take k w) → Takes meaning c.content d.content k
-    → Draws meaning polled gate b d old (take (n + k) (take n room ++ (buf ++ post)))
+    → Draws meaning polled gate (Ready (Ok tt)) b d old (take (n + k) (take n room ++ (buf ++ post)))
 Draws-read {meaning = meaning} {c = c} {d = d} n k room buf post p within fits follows preset by_gate left bytes takes = Draws-trans p record {
   follows = follows;
   preset = preset;
@@ -242,9 +250,9 @@ Draws-read {meaning = meaning} {c = c} {d = d} n k room buf post p within fits f
 }
 
 -- one read that gave nothing
-pub Draws-nothing : {S : Type 0} {meaning : S → Meaning} {polled : S → Gate → S → Type 0} {gate : Gate} {b c d : BodyOf S} {old : List ℕ} (n : ℕ) (room buf post : List ℕ) → Draws meaning polled gate b c old (take n room) → n ≤ length room
-    → Follows meaning gate.tripped c d → preset_of d.content ≡ preset_of c.content → ByGate polled gate c.content d.content → left_of meaning d.content ≡ left_of meaning c.content → Takes meaning c.content d.content 0
-    → Draws meaning polled gate b d old (take n (take n room ++ (buf ++ post)))
+pub Draws-nothing : {S : Type 0} {meaning : S → Meaning} {polled : S → Gate → Poll (Result ℕ SourceError) → S → Type 0} {gate : Gate} {how : Ending} {b c d : BodyOf S} {old : List ℕ} (n : ℕ) (room buf post : List ℕ) → Draws meaning polled gate (Ready (Ok tt)) b c old (take n room) → n ≤ length room
+    → Follows meaning gate.tripped c d → preset_of d.content ≡ preset_of c.content → ByGate polled gate how c.content d.content → left_of meaning d.content ≡ left_of meaning c.content → Takes meaning c.content d.content 0
+    → Draws meaning polled gate how b d old (take n (take n room ++ (buf ++ post)))
 Draws-nothing {meaning = meaning} {c = c} {d = d} n room buf post p within follows preset by_gate left takes = Draws-trans p record {
   follows = follows;
   preset = preset;

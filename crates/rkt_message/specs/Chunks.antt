@@ -1,6 +1,8 @@
 -- How a chunk of a body is read.
 use Rattle.std.specs.Option.{ForSome}
-use Rattle.std.specs.Prelude.{◌≡◌, ◌≤◌, ◌++◌, ℕ, List, [], length, Some}
+use Rattle.std.specs.Prelude.{◌≡◌, ◌≤◌, ◌++◌, ℕ, List, [], length, Some, Ok, Err}
+use Rattle.rkt_base.specs.declared.poll.Poll.TheVariants.{Ready, Pending}
+use Rattle.rkt_data.specs.Tap.{Ending}
 use Rattle.rkt_source.specs.Source.{Meaning}
 use Rattle.rkt_message.specs.Body.{BodyOf, left_of}
 use Rattle.rkt_message.specs.Reading.{StreamErrs, StreamWaits, Takes}
@@ -27,3 +29,10 @@ ReadsChunk meaning a b (chunk_read.Bytes bytes) = IsChunk a.chunk bytes × IsNex
 ReadsChunk meaning a b chunk_read.End = IsAtEnd meaning a × Takes meaning a.content b.content 0
 ReadsChunk meaning a b chunk_read.Waiting = StreamWaits meaning a.content b.content × (left_of meaning b.content ≡ left_of meaning a.content) × Takes meaning a.content b.content 0
 ReadsChunk meaning a b (chunk_read.Refused e) = StreamErrs meaning e a.content b.content
+
+-- how the read has ended then
+abbrev pub chunk_end : ChunkRead → Ending
+chunk_end (chunk_read.Bytes bytes) = Ready (Ok tt)
+chunk_end chunk_read.End = Ready (Ok tt)
+chunk_end chunk_read.Waiting = Pending
+chunk_end (chunk_read.Refused e) = Ready (Err e)

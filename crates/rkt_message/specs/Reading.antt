@@ -4,7 +4,7 @@ use Rattle.std.specs.Prelude.{◌≡◌, ⊤, ℕ, ◌+◌, ◌≤◌, ◌<◌, 
 use Rattle.rkt_base.specs.declared.poll.Poll.{Poll}
 use Rattle.rkt_base.specs.declared.poll.Poll.TheVariants.{Ready, Pending}
 use Rattle.rkt_source.specs.Source.{Meaning, Keeps, Answers, Waits, Errs}
-use Rattle.rkt_data.specs.Tap.{Polls}
+use Rattle.rkt_data.specs.Tap.{Ending, PollsTo}
 use Rattle.rkt_source.specs.declared.source.Gate.{Gate}
 use Rattle.rkt_source.specs.declared.source.SourceError.{SourceError}
 use Rattle.rkt_message.specs.Body.{BodyOf, left_of}
@@ -25,10 +25,10 @@ pub record Follows {S : Type 0} (meaning : S → Meaning) (trip : Option ℕ) (b
   pub content : ReadsOn meaning trip b.content c.content
   pub chunk : c.chunk ≡ b.chunk
 
--- its source, where it has one, was called under this Gate alone
-abbrev pub ByGate : {S : Type 0} → (S → Gate → S → Type 0) → Gate → Content S → Content S → Type 0
-ByGate polled gate (content.Streamed s) (content.Streamed t) = Polls polled gate s t
-ByGate polled gate _ _ = ⊤
+-- its source, where it has one, was called under this Gate alone, and its reads have ended so
+abbrev pub ByGate : {S : Type 0} → (S → Gate → Poll (Result ℕ SourceError) → S → Type 0) → Gate → Ending → Content S → Content S → Type 0
+ByGate polled gate how (content.Streamed s) (content.Streamed t) = PollsTo polled gate how s t
+ByGate polled gate how _ _ = ⊤
 
 -- it has a source, which was Pending
 abbrev pub StreamWaits : {S : Type 0} → (S → Meaning) → Content S → Content S → Type 0
@@ -58,5 +58,5 @@ Reads meaning c d old new (Ready (Ok n)) = (n ≤ length old) × (left_of meanin
     × Takes meaning c d n
 
 -- one read of a source under this Gate, which answers what the source does
-abbrev pub ReadsSource : {S : Type 0} → (S → Meaning) → (S → Gate → S → Type 0) → Gate → S → Content S → List ℕ → List ℕ → Poll (Result ℕ SourceError) → Type 0
-ReadsSource meaning polled gate s d old new answer = (t : _) × (d ≡ content.Streamed t) × polled s gate t × Answers (meaning s) (meaning t) old new answer
+abbrev pub ReadsSource : {S : Type 0} → (S → Meaning) → (S → Gate → Poll (Result ℕ SourceError) → S → Type 0) → Gate → S → Content S → List ℕ → List ℕ → Poll (Result ℕ SourceError) → Type 0
+ReadsSource meaning polled gate s d old new answer = (t : _) × (d ≡ content.Streamed t) × polled s gate answer t × Answers (meaning s) (meaning t) old new answer

@@ -5,7 +5,8 @@ use Rattle.rkt_base.specs.declared.poll.Poll.TheVariants.{Ready, Pending}
 use Rattle.rkt_source.specs.Source.{Meaning}
 use Rattle.rkt_source.specs.declared.source.SourceError.{SourceError}
 use Rattle.rkt_message.specs.Body.{preset_of, size_of}
-use Rattle.rkt_message.specs.Reading.{Follows, StreamErrs, StreamWaits, Takes}
+use Rattle.rkt_source.specs.declared.source.Gate.{Gate}
+use Rattle.rkt_message.specs.Reading.{ByGate, Follows, StreamErrs, StreamWaits, Takes}
 use Rattle.rkt_message.specs.Response.{ResponseOf}
 use Rattle.rkt_message.specs.Sent.{Sent, SentBody, has_head}
 use Rattle.rkt_message.specs.declared.content.Content.{Content}
@@ -112,6 +113,15 @@ pub record Exhausts {S : Type 0} (meaning : S → Meaning) (s t : Sending S) : T
 -- why a body is given up: its source refused with some error, or was Pending too often
 abbrev pub GivesUp : {S : Type 0} → (S → Meaning) → Sending S → Sending S → Type 0
 GivesUp meaning s t = ((e : SourceError) × StreamErrs meaning e s.response.body.content t.response.body.content) ⊎ Exhausts meaning s t
+
+-- the source of the body was called under this Gate alone: of a fault of the body its last read was refused or Pending, and of
+-- a piece none was
+abbrev pub PieceByGate : {S : Type 0} → (S → Gate → Poll (Result ℕ SourceError) → S → Type 0) → Gate → Poll (Result Piece PieceError) → Content S → Content S → Type 0
+PieceByGate polled gate Pending c d = ByGate polled gate Pending c d
+PieceByGate polled gate (Ready (Ok piece)) c d = ByGate polled gate (Ready (Ok tt)) c d
+PieceByGate polled gate (Ready (Err error.BadHead)) c d = ByGate polled gate (Ready (Ok tt)) c d
+PieceByGate polled gate (Ready (Err error.BodyFault)) c d = ByGate polled gate Pending c d ⊎ ((e : SourceError) × ByGate polled gate (Ready (Err e)) c d)
+PieceByGate polled gate (Ready (Err error.NoMemory)) c d = ByGate polled gate (Ready (Ok tt)) c d
 
 -- what a poll answers
 abbrev pub Answers : {S : Type 0} → (S → Meaning) → Sending S → Sending S → Poll (Result Piece PieceError) → Type 0

@@ -6,9 +6,12 @@ use Rattle.std.specs.declared.alloc.Global.{Global}
 use Rattle.rkt_base.specs.declared.poll.Poll.{Poll}
 use Rattle.rkt_base.specs.declared.poll.Poll.TheVariants.{Ready, Pending}
 use Rattle.rkt_source.specs.Source.{Meaning}
+use Rattle.rkt_data.specs.Gathering.{cause_of}
+use Rattle.rkt_data.specs.Tap.{Ending}
 use Rattle.rkt_data.specs.declared.error.DataError.{DataError}
 use Rattle.rkt_data.specs.declared.error.DataError.TheVariants as error
 use Rattle.rkt_source.specs.declared.source.Gate.{Gate}
+use Rattle.rkt_source.specs.declared.source.SourceError.{SourceError}
 use Rattle.rkt_source.specs.declared.source.SourceError.TheVariants as source_error
 use Rattle.rkt_message.specs.Body.{BodyOf, left_of, lowered, preset_of}
 use Rattle.rkt_message.specs.Reading.{ByGate, Follows, StreamErrs, StreamWaits, Moves}
@@ -35,11 +38,11 @@ all_of meaning got content = option_map (λ left. got ++ left) (left_of meaning 
 abbrev pub MovesBy : {S : Type 0} → (S → Meaning) → Content S → Content S → List ℕ → List ℕ → Type 0
 MovesBy meaning c d old new = (count : ℕ) × (length new ≡ length old + count) × Moves meaning c d count
 
--- several reads under one Gate, by which the bytes read became more
-pub record Draws {S : Type 0} (meaning : S → Meaning) (polled : S → Gate → S → Type 0) (gate : Gate) (b c : BodyOf S) (old new : List ℕ) : Type 0 where
+-- several reads under one Gate that have ended so, by which the bytes read became more
+pub record Draws {S : Type 0} (meaning : S → Meaning) (polled : S → Gate → Poll (Result ℕ SourceError) → S → Type 0) (gate : Gate) (how : Ending) (b c : BodyOf S) (old new : List ℕ) : Type 0 where
   pub follows : Follows meaning gate.tripped b c
   pub preset : preset_of c.content ≡ preset_of b.content
-  pub by_gate : ByGate polled gate b.content c.content
+  pub by_gate : ByGate polled gate how b.content c.content
   pub all : all_of meaning new c.content ≡ all_of meaning old b.content
   pub moves : MovesBy meaning b.content c.content old new
 
@@ -57,6 +60,17 @@ abbrev pub Stops : {S : Type 0} → (S → Meaning) → Content S → Content S 
 Stops meaning c d stop.End = ForSome (left_of meaning d) (λ left. left ≡ [])
 Stops meaning c d (stop.Failed e) = BytesErr meaning c d e
 Stops meaning c d stop.Waiting = StreamWaits meaning c d
+
+-- how the reads have ended then
+abbrev pub stop_end : Stop → Ending
+stop_end stop.End = Ready (Ok tt)
+stop_end (stop.Failed e) = Ready (cause_of e)
+stop_end stop.Waiting = Pending
+
+-- or went on
+abbrev pub end_if_stopped : Option Stop → Ending
+end_if_stopped None = Ready (Ok tt)
+end_if_stopped (Some why) = stop_end why
 
 -- what a poll answers that gathers bytes: all of them
 abbrev pub GathersBytes : {S : Type 0} → (S → Meaning) → Gathering S → Gathering S → Poll (Result (Vec ℕ Global) DataError) → Type 0

@@ -89,6 +89,7 @@ impl<S> Body<S> {
 
 impl<S: Source> Body<S> {
     ghost use Rattle.rkt_message.specs.Body.{body_of, is_some_content, lowered, preset_of, resized, size_of, stripped};
+    ghost use Rattle.rkt_data.specs.Tap.{ending_of};
     ghost use Rattle.rkt_message.specs.Reading.{ByGate, Follows, Reads, ReadsSource};
 
     /// Sets the most bytes that are sent at once; 0 counts as 1.
@@ -183,7 +184,7 @@ impl<S: Source> Body<S> {
         ensures empty { length buf.old ≡ 0 → (result ≡ Ready (Ok 0)) × (self.new ≡ self.old) }
         ensures follows { Follows S.meaning gate.tripped self.old self.new }
         ensures preset { preset_of self.new.content ≡ preset_of self.old.content }
-        ensures by_gate { ByGate S.polled gate self.old.content self.new.content }
+        ensures by_gate { ByGate S.polled gate (ending_of result) self.old.content self.new.content }
         ensures answer { Reads S.meaning self.old.content self.new.content buf.old buf.new result }
         // A source is asked once, where the buffer takes a byte.
         ensures source { (s : _) → self.old.content ≡ Content.Streamed s → 0 < length buf.old → ReadsSource S.meaning S.polled gate s self.new.content buf.old buf.new result }

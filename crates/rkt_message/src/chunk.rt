@@ -1,7 +1,7 @@
 //! The chunks that a body is sent in.
 ghost use Rattle.std.specs.Prelude.{◌≡◌, IfOk, vec_len};
 ghost use Rattle.rkt_message.specs.Body.{preset_of};
-ghost use Rattle.rkt_message.specs.Chunks.{IsRoom, ReadsChunk};
+ghost use Rattle.rkt_message.specs.Chunks.{IsRoom, ReadsChunk, chunk_end};
 ghost use Rattle.rkt_message.specs.Reading.{ByGate, Follows};
 
 use crate::body::Body;
@@ -51,7 +51,7 @@ pub(crate) fn read_chunk<S: Source>(
     ensures headers { response.new.headers ≡ response.old.headers }
     ensures follows { Follows S.meaning gate.tripped response.old.body response.new.body }
     ensures preset { preset_of response.new.body.content ≡ preset_of response.old.body.content }
-    ensures by_gate { ByGate S.polled gate response.old.body.content response.new.body.content }
+    ensures by_gate { ByGate S.polled gate (chunk_end result) response.old.body.content response.new.body.content }
     ensures reads { ReadsChunk S.meaning response.old.body response.new.body result }
 {
     let mut room = room;

@@ -2,7 +2,7 @@
 ghost use Rattle.std.specs.Prelude.{◌≡◌, ◌<◌, ◌++◌, [], Ok, IfSome, IfNone, drop, length, min, take};
 ghost use Rattle.rkt_base.specs.declared.poll.Poll.TheVariants.{Ready};
 ghost use Rattle.rkt_source.specs.Source.{Keeps, Answers};
-ghost use Rattle.rkt_data.specs.Tap.{Polls};
+ghost use Rattle.rkt_data.specs.Tap.{PollsTo, ending_of};
 
 use rkt_base::Poll;
 use rkt_data::{Gate, Source, SourceError};
@@ -56,8 +56,18 @@ impl Rest {
         self.bytes.len() - self.position
     }
 
-    /// Moves the next bytes into the front of a buffer, and answers how many.
+    /// Moves the next bytes into the front of a buffer, and answers how many. With the last one the memory goes.
     pub fn read(&mut self, buf: &mut [u8]) -> usize
+        ensures count { result ≡ min (length buf.old) (length self.old) }
+        ensures rest { self.new ≡ drop result self.old }
+        ensures buf { buf.new ≡ take result self.old ++ drop result buf.old }
+    {
+        let count = self.read_on(buf);
+        self.let_go();
+        count
+    }
+
+    fn read_on(&mut self, buf: &mut [u8]) -> usize
         ensures count { result ≡ min (length buf.old) (length self.old) }
         ensures rest { self.new ≡ drop result self.old }
         ensures buf { buf.new ≡ take result self.old ++ drop result buf.old }
@@ -67,6 +77,19 @@ impl Rest {
         buf[..count].copy_from_slice(&rest[..count]);
         self.position += count;
         count
+    }
+
+    // Lets the memory go of bytes that were all read.
+    #[tactic(auto, using(std::proofs::lemmas::List::drop_all))]
+    fn let_go(&mut self)
+        ensures { self.new ≡ self.old }
+    {
+        if self.position < self.bytes.len() {
+            return;
+        }
+        self.bytes.clear();
+        self.bytes.shrink_to_fit();
+        self.position = 0;
     }
 
     /// Moves all bytes out, in the memory that holds them.
@@ -168,7 +191,7 @@ impl<S: Source> Content<S> {
         ensures empty { length buf.old ≡ 0 → (result ≡ Ready (Ok 0)) × (self.new ≡ self.old) }
         ensures follows { ReadsOn S.meaning gate.tripped self.old self.new }
         ensures preset { preset_of self.new ≡ preset_of self.old }
-        ensures by_gate { ByGate S.polled gate self.old self.new }
+        ensures by_gate { ByGate S.polled gate (ending_of result) self.old self.new }
         ensures answer { Reads S.meaning self.old self.new buf.old buf.new result }
         // A source is asked once, where the buffer takes a byte.
         ensures source { (s : _) → self.old ≡ Content.Streamed s → 0 < length buf.old → ReadsSource S.meaning S.polled gate s self.new buf.old buf.new result }
@@ -191,8 +214,8 @@ fn poll_stream<S: Source>(
     buf: &mut [u8],
 ) -> Poll<Result<usize, SourceError>>
     ensures empty { length buf.old ≡ 0 → (result ≡ Ready (Ok 0)) × (stream.new ≡ stream.old) }
-    ensures polled { 0 < length buf.old → S.polled stream.old gate stream.new }
-    ensures by_gate { Polls S.polled gate stream.old stream.new }
+    ensures polled { 0 < length buf.old → S.polled stream.old gate result stream.new }
+    ensures by_gate { PollsTo S.polled gate (ending_of result) stream.old stream.new }
     ensures kept { Keeps gate.tripped (S.meaning stream.old) (S.meaning stream.new) }
     ensures answer { Answers (S.meaning stream.old) (S.meaning stream.new) buf.old buf.new result }
 {

@@ -1,7 +1,7 @@
 //! Reads all that is left of a body.
 ghost use Rattle.std.specs.Prelude.{◌≡◌, ◌≤◌, ◌<◌, MatchOption, OnOk, length, take, vec_len};
 ghost use Rattle.rkt_data.specs.Gathering.{data_error_of};
-ghost use Rattle.rkt_message.specs.Whole.{Draws, Stops};
+ghost use Rattle.rkt_message.specs.Whole.{Draws, Stops, end_if_stopped, stop_end};
 
 use crate::body::Body;
 use rkt_base::{NoMemory, Poll};
@@ -26,7 +26,7 @@ pub fn drain<S: Source>(
 ) -> (usize, Stop)
     requires within { count ≤ vec_len room.old }
     ensures within { result.0 ≤ vec_len room.new }
-    ensures draws { Draws S.meaning S.polled gate body.old body.new (take count room.old.items) (take result.0 room.new.items) }
+    ensures draws { Draws S.meaning S.polled gate (stop_end result.1) body.old body.new (take count room.old.items) (take result.0 room.new.items) }
     ensures stops { Stops S.meaning body.old.content body.new.content result.1 }
 {
     if count == 0 {
@@ -46,7 +46,7 @@ fn grow<S: Source>(
 ) -> (usize, Stop)
     requires within { count ≤ vec_len room.old }
     ensures within { result.0 ≤ vec_len room.new }
-    ensures draws { Draws S.meaning S.polled gate body.old body.new (take count room.old.items) (take result.0 room.new.items) }
+    ensures draws { Draws S.meaning S.polled gate (stop_end result.1) body.old body.new (take count room.old.items) (take result.0 room.new.items) }
     ensures stops { Stops S.meaning body.old.content body.new.content result.1 }
 {
     let mut n = count;
@@ -71,7 +71,7 @@ fn pour<S: Source>(
 ) -> (usize, Option<Stop>)
     requires within { count ≤ length room.old }
     ensures within { result.0 ≤ length room.new }
-    ensures draws { Draws S.meaning S.polled gate body.old body.new (take count room.old) (take result.0 room.new) }
+    ensures draws { Draws S.meaning S.polled gate (end_if_stopped result.1) body.old body.new (take count room.old) (take result.0 room.new) }
     ensures stops { MatchOption result.1 (result.0 ≡ length room.new) (λ stop. Stops S.meaning body.old.content body.new.content stop) }
 {
     let mut n = count;

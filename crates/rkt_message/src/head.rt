@@ -81,11 +81,19 @@ fn length_line(alloc: Global, name: &str, size: usize) -> Result<(Text, Text), N
     Ok((Text::new(alloc, name)?, Text::from_string(size)))
 }
 
+// Room for a line of each group, and one more.
+fn room_for_lines(alloc: Global, headers: &HeaderMap) -> Result<Seq<(Text, Text)>, NoMemory>
+    ensures { IfOk result (λ lines. lines ≡ []) }
+{
+    let room = Vec::with_capacity(alloc, headers.len().saturating_add(1))?;
+    Ok(Seq::from_vec(room))
+}
+
 // The lines as they stand.
 fn all_lines(alloc: Global, headers: &HeaderMap) -> Result<Seq<(Text, Text)>, NoMemory>
     ensures { IfOk result (λ lines. lines ≡ lines_of headers.now) }
 {
-    let mut lines = Seq::new(alloc);
+    let mut lines = room_for_lines(alloc, headers)?;
     for (name, value) in headers.iter() {
         lines.push(line(alloc, name, value)?)?;
     }
@@ -118,7 +126,7 @@ fn lines_with_length(
     ensures { IfOk result (λ lines. lines ≡ only_length size (lines_of headers.now)) }
 {
     let mut size = size;
-    let mut lines = Seq::new(alloc);
+    let mut lines = room_for_lines(alloc, headers)?;
     for (name, value) in headers.iter() {
         if !name.eq_ignore_ascii_case(CONTENT_LENGTH) {
             lines.push(line(alloc, name, value)?)?;

@@ -45,7 +45,7 @@ impl From<AllocError> for PieceError {
 fn copy_headers(alloc: Global, headers: &[(Text, Text)]) -> Result<Seq<(Text, Text)>, NoMemory>
     ensures { IfOk result (λ copies. copies ≡ headers.now) }
 {
-    let mut copies = Seq::new(alloc);
+    let mut copies = Seq::from_vec(Vec::with_capacity(alloc, headers.len())?);
     for (name, value) in headers {
         copies.push((name.try_clone(alloc)?, value.try_clone(alloc)?))?;
     }

@@ -2,7 +2,7 @@
 ghost use Rattle.std.specs.Prelude.{◌≡◌, ◌≢◌, ◌↔◌, List, Err, false, max};
 ghost use Rattle.rkt_base.specs.Poll.{IfReadyErr, IfReadyOk};
 ghost use Rattle.rkt_base.specs.declared.poll.Poll.TheVariants.{Ready, Pending};
-ghost use Rattle.rkt_message.specs.Reading.{ByGate};
+ghost use Rattle.rkt_message.specs.Sending.{PieceByGate};
 ghost use Rattle.rkt_message.specs.Sent.{Sent, has_head};
 
 use crate::chunk::{ChunkRead, read_chunk, room_for};
@@ -64,7 +64,7 @@ impl<S: Source> Pieces<S> {
         ensures turns { self.new.turns ≡ self.old.turns }
         ensures read_on { ReadOn S.meaning self.new.begun self.new.response }
         ensures reads { ReadsOnUnder S.meaning gate.tripped self.old.response self.new.response }
-        ensures by_gate { ByGate S.polled gate self.old.response.body.content self.new.response.body.content }
+        ensures by_gate { PieceByGate S.polled gate result self.old.response.body.content self.new.response.body.content }
         ensures piece { IfReadyOk result (λ piece. Gives S.meaning self.old piece self.new) }
         ensures bad_head { (result ≡ Ready (Err PieceError.BadHead)) ↔ ((self.old.stage ≡ Stage.Head) × (has_head self.old.response ≡ false)) }
         ensures body_fault { result ≡ Ready (Err PieceError.BodyFault) → (self.old.stage ≡ Stage.Body) × GivesUp S.meaning self.old self.new }
@@ -111,7 +111,7 @@ impl<S: Source> Pieces<S> {
         ensures turns { self.new.turns ≡ self.old.turns }
         ensures read_on { ReadOn S.meaning self.new.begun self.new.response }
         ensures reads { ReadsOnUnder S.meaning gate.tripped self.old.response self.new.response }
-        ensures by_gate { ByGate S.polled gate self.old.response.body.content self.new.response.body.content }
+        ensures by_gate { PieceByGate S.polled gate result self.old.response.body.content self.new.response.body.content }
         ensures answer { Answers S.meaning self.old self.new result }
     {
         let room = match room_for(alloc, self.response.body()) {

@@ -2,6 +2,7 @@
 ghost use Rattle.std.specs.Option.{ForSome};
 ghost use Rattle.std.specs.Prelude.{◌≡◌, Err, None, false};
 ghost use Rattle.rkt_base.specs.declared.poll.Poll.TheVariants.{Ready};
+ghost use Rattle.rkt_data.specs.Gathering.{reads_end};
 ghost use Rattle.rkt_message.specs.Reading.{ByGate, Follows};
 
 use crate::body::Body;
@@ -45,7 +46,7 @@ impl<S: Source> ToString<S> {
     pub fn poll(&mut self, alloc: Global, gate: Gate) -> Poll<Result<String, DataError>>
         requires { self.old.done ≡ false }
         ensures follows { Follows S.meaning gate.tripped self.old.body self.new.body }
-        ensures by_gate { ByGate S.polled gate self.old.body.content self.new.body.content }
+        ensures by_gate { self.old.failed ≡ None → ByGate S.polled gate (reads_end result) self.old.body.content self.new.body.content }
         ensures repeats { ForSome self.old.failed (λ e. (result ≡ Ready (Err e)) × (self.new ≡ self.old)) }
         ensures answer { self.old.failed ≡ None → GathersText S.meaning self.old self.new result }
         ensures lowers { self.old.failed ≡ None → LowersText S.meaning self.old self.new.body.content result }

@@ -78,11 +78,11 @@ impl Shut for MemorySource {
 impl Source for MemorySource {
     ghost use Rattle.std.specs.Prelude.{refl};
     ghost use Rattle.std.proofs.Common.{le_refl};
-    ghost use Rattle.rkt_source.specs.Memory.{source_meaning};
+    ghost use Rattle.rkt_source.specs.Memory.{ReadsCounted, source_meaning};
 
     ghost meaning = { source_meaning };
 
-    ghost polled = { λ _ _ _. Unit {0} };
+    ghost polled = { λ s _ answer t. ReadsCounted s answer t };
 
     fn poll_read(&mut self, _gate: Gate, buf: &mut [u8]) -> Poll<Result<usize, SourceError>> {
         if buf.is_empty() {

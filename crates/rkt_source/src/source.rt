@@ -1,7 +1,8 @@
 //! Where bytes come from.
-ghost use Rattle.std.specs.Prelude.{◌≡◌, ◌≤◌, ◌<◌, ℕ, IsTrue, Ok, length};
+ghost use Rattle.std.specs.Prelude.{◌≡◌, ◌≤◌, ◌<◌, ℕ, IsTrue, Ok, Result, length};
 ghost use Rattle.rkt_base.specs.declared.poll.Poll.{Poll};
 ghost use Rattle.rkt_source.specs.declared.source.Gate.{Gate};
+ghost use Rattle.rkt_source.specs.declared.source.SourceError.{SourceError};
 ghost use Rattle.rkt_source.specs.Source.{Meaning, Keeps, Answers, Shuts};
 
 use rkt_base::Poll;
@@ -42,16 +43,17 @@ pub trait Source: Shut {
     /// What contracts see of a source.
     ghost meaning: { Self → Meaning };
 
-    /// One read under this Gate leads from the first to the second.
-    ghost polled: { Self → Gate → Self → Type 0 };
+    /// Of the source before a read into a buffer that is not empty, the Gate that it was shown, the answer, and the source
+    /// after it.
+    ghost polled: { Self → Gate → Poll (Result ℕ SourceError) → Self → Type 0 };
 
     /// Reads the next bytes into the front of a buffer and answers how many; 0 is the end, where the buffer is not
     /// empty.
     fn poll_read(&mut self, gate: Gate, buf: &mut [u8]) -> Poll<Result<usize, SourceError>>
-        ensures polled { polled self.old gate self.new }
+        ensures polled { 0 < length buf.old → polled self.old gate result self.new }
         ensures kept { Keeps gate.tripped (meaning self.old) (meaning self.new) }
         ensures answer { Answers (meaning self.old) (meaning self.new) buf.old buf.new result }
-        ensures empty { length buf.old ≡ 0 → (result ≡ Poll.Ready (Ok 0)) × (meaning self.new ≡ meaning self.old) };
+        ensures empty { length buf.old ≡ 0 → (result ≡ Poll.Ready (Ok 0)) × (self.new ≡ self.old) };
 
     /// One that is shut was warned.
     ghost shut_is_warned: { (s : Self) → IsTrue (meaning s).shut → IsTrue (meaning s).warned };

@@ -1,14 +1,16 @@
 -- The bytes of the sources that a stream gives, joined.
 use Rattle.std.specs.Option.{ForSome}
-use Rattle.std.proofs.Common.{◌≡◌, ◌≢◌, ℕ, ◌+◌, ◌≤◌, ◌<◌, ◌++◌, ◌∙◌, ◌⊎◌, inl, inr, ⊎_elim, List, [], length, take, drop, Option, None, Some, Ok, refl, sym, ap, subst, arith, le_refl, mul-le-mul_right, length-drop, length-take, length-take-le, length-append, drop-drop, append_assoc, take-append-drop}
+use Rattle.std.proofs.Common.{◌≡◌, ◌≢◌, ℕ, ◌+◌, ◌≤◌, ◌<◌, ◌++◌, ◌∙◌, ◌⊎◌, inl, inr, ⊎_elim, List, [], length, take, drop, Option, None, Some, Result, Ok, refl, sym, ap, subst, arith, le_refl, mul-le-mul_right, length-drop, length-take, length-take-le, length-append, drop-drop, append_assoc, take-append-drop}
 use Rattle.std.proofs.lemmas.Bool.{false≢true}
 use Rattle.std.proofs.lemmas.List.{nil_from_length, take-append-le, drop-append-le}
 use Rattle.std.proofs.lemmas.List.Sums.{sum_by-cons}
+use Rattle.rkt_base.specs.declared.poll.Poll.{Poll}
 use Rattle.rkt_base.specs.declared.poll.Poll.TheVariants.{Ready, Pending}
-use Rattle.rkt_stream.specs.Flat.{Running, told_left, all_left, told_waits, bytes_left, GivesFresh, Goes, Advances, Flat, ReadsFlat}
+use Rattle.rkt_source.specs.declared.source.Gate.{Gate}
+use Rattle.rkt_source.specs.declared.source.SourceError.{SourceError}
+use Rattle.rkt_stream.specs.Flat.{Running, told_left, all_left, told_waits, bytes_left, GivesFresh, Goes, Advances, ReadsItem}
 use Rattle.rkt_stream.specs.Flow.{Flow, Flows, GivesOf, Shifts}
 use Rattle.rkt_source.specs.Source.{Meaning, Keeps, Answers, left_of, both}
-use Rattle.rkt_source.specs.declared.source.Gate.{Gate}
 use Rattle.rkt_source.proofs.Sources.{mapped}
 
 -- nothing is in front
@@ -170,9 +172,9 @@ module _ {S I : Type 0} (flow : S → Flow I) (meaning : I → Meaning) (may : S
       let high = h.3 in
       rw h.0 (λ r e. m.bytes r e, omega (arith, before, low, high))
 
--- a read of nothing
-pub ReadsFlat-refl : {S I : Type 0} (meaning : I → Meaning) (polled : I → Gate → I → Type 0) (may : S → I → Type 0) (gate : Gate) (a : Flat S I) → ReadsFlat meaning polled may gate a a
-ReadsFlat-refl meaning polled may gate a = record { item = λ y e. (y, inl e, inl refl); faults = inl refl; refused = inl refl }
+-- the source that is read was read once more
+pub ReadsItem-read : {S I : Type 0} (polled : I → Gate → Poll (Result ℕ SourceError) → I → Type 0) (may : S → I → Type 0) (gate : Gate) (answer : Poll (Result ℕ SourceError)) (a : Running S I) (x y : I) → (a.item ≡ Some x) ⊎ may a.stream x → polled x gate answer y → ReadsItem polled may gate answer a (Some y)
+ReadsItem-read polled may gate answer a x y origin h = λ z e. let same : y ≡ z = cc in (x, origin, subst (polled x gate answer) same h)
 
 -- the first k of the bytes that were left were given
 pub split_more : (w given rest : List ℕ) (taken k : ℕ) (left : Option (List ℕ)) → w ≡ given ++ rest → length given ≡ taken → k ≤ length rest → left ≡ Some (drop k rest)

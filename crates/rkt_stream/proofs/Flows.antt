@@ -1,8 +1,10 @@
 -- Two streams that are asked in turn.
-use Rattle.std.proofs.Common.{◌≡◌, ℕ, ◌+◌, ◌<◌, ◌≤◌, ◌∙◌, Bool, true, false, nat_eq, List, [], ◌∷◌, Option, None, Some, refl, ap, arith, ⊎_elim}
+use Rattle.std.proofs.Common.{◌≡◌, ℕ, ◌+◌, ◌<◌, ◌≤◌, ◌∙◌, Bool, true, false, nat_eq, List, [], ◌∷◌, Option, None, Some, refl, ap, arith, inr, ⊎_elim}
 use Rattle.std.proofs.lemmas.Bool.Decides.{nat_tests}
+use Rattle.rkt_base.specs.declared.poll.Poll.{Poll}
 use Rattle.rkt_base.specs.declared.poll.Poll.TheVariants.{Ready, Pending}
-use Rattle.rkt_stream.specs.Flow.{Flow, Flows, Shifts, Asks, alternate, joined_rest, joined_flow}
+use Rattle.rkt_source.specs.declared.source.Gate.{Gate}
+use Rattle.rkt_stream.specs.Flow.{Flow, Flows, Shifts, Asks, AsksBoth, alternate, joined_rest, joined_flow}
 
 -- the item of the list whose turn it is comes first
 alternate-cons : {X : Type 0} (x : X) (xs ys : List X) → alternate (x ∷ xs) ys ≡ x ∷ alternate ys xs
@@ -71,3 +73,9 @@ module _ {X : Type 0} (a a' b b' : Flow X) (h : Flows a Pending a') where
 
 pub joined_asks_some : {X : Type 0} (a a' b b' : Flow X) (x : X) → Asks a a' b b' (Ready (Some x)) → Flows (joined_flow false a b) (Ready (Some x)) (joined_flow false b' a')
 joined_asks_some a a' b b' x h = ⊎_elim (λ k. rw k.0 (joined_some a a' b x k.1)) (λ k. later_some a a' b b' k.0 x k.1) h
+
+-- the other is asked where the one is Pending
+pub asks_after : {A B X : Type 0} (one : A → Gate → Poll (Option X) → A → Type 0) (other : B → Gate → Poll (Option X) → B → Type 0) (gate : Gate) (a : A) (b : B) (answer : Poll (Option X)) (a' : A) (b' : B)
+    → one a gate Pending a' → other b gate answer b' → AsksBoth one other gate a b answer a' b'
+asks_after one other gate a b Pending a' b' p q = (p, q)
+asks_after one other gate a b (Ready item) a' b' p q = inr (p, q)

@@ -2,10 +2,11 @@
 use Rattle.std.specs.List.{sum_by}
 use Rattle.std.specs.Option.{ForSome}
 use Rattle.std.specs.Prelude.{◌≡◌, ℕ, ◌+◌, ◌-◌, ◌*◌, ◌<◌, ◌≤◌, ◌⊎◌, ◌||◌, ◌++◌, Bool, false, IsTrue, List, [], ◌∷◌, length, take, drop, Option, None, Some, IsSome, Result, Ok, Err}
+use Rattle.rkt_base.specs.Poll.{IfReadyErr}
 use Rattle.rkt_base.specs.declared.poll.Poll.{Poll}
 use Rattle.rkt_base.specs.declared.poll.Poll.TheVariants.{Ready, Pending}
-use Rattle.rkt_stream.specs.Flow.{Flow}
-use Rattle.rkt_source.specs.Source.{Meaning, Errs, LeftOrRead, left_of, both}
+use Rattle.rkt_stream.specs.Flow.{Flow, Asked}
+use Rattle.rkt_source.specs.Source.{Meaning, Errs, left_of, both}
 use Rattle.rkt_source.specs.declared.source.Gate.{Gate}
 use Rattle.rkt_source.specs.declared.source.SourceError.{SourceError}
 use Rattle.rkt_source.specs.declared.source.SourceError.TheVariants.{SourceFault, Gone, TimedOut}
@@ -114,17 +115,20 @@ module _ {S I : Type 0} (flow : S → Flow I) (meaning : I → Meaning) where
   Advances a b old new (Ready (Ok k)) = (k ≤ length old) × ForSome (bytes_left a) (λ r. (take k new ≡ take k r) × (k ≤ length r) × (bytes_left b ≡ Some (drop k r)) × (k ≡ 0 → r ≡ []))
   Advances a b old new (Ready (Err e)) = ForSome (bytes_left a) (λ r. bytes_left b ≡ Some r)
 
--- the source that is read now is the one before or one that the stream gave, left alone or read under this Gate
-abbrev pub ReadsItem : {S I : Type 0} → (I → Gate → I → Type 0) → (S → I → Type 0) → Gate → Running S I → Option I → Type 0
-ReadsItem polled may_give gate a item = ForSome item (λ y. (x : _) × ((a.item ≡ Some x) ⊎ may_give a.stream x) × LeftOrRead polled gate x y)
+-- the source that is read now is the one before or one that the stream gave, read once under this Gate with this answer
+abbrev pub ReadsItem : {S I : Type 0} → (I → Gate → Poll (Result ℕ SourceError) → I → Type 0) → (S → I → Type 0) → Gate → Poll (Result ℕ SourceError) → Running S I → Option I → Type 0
+ReadsItem polled may_give gate answer a item = ForSome item (λ y. (x : _) × ((a.item ≡ Some x) ⊎ may_give a.stream x) × polled x gate answer y)
 
--- the source that is read now has refused a read under this Gate
-abbrev pub Refuses : {I : Type 0} → (I → Meaning) → (I → Gate → I → Type 0) → Gate → Option I → SourceError → Type 0
-Refuses meaning polled gate item e = (x : _) × (y : _) × (item ≡ Some y) × polled x gate y × Errs e (meaning x) (meaning y)
+-- the source that is read now has refused a read under this Gate with this error
+abbrev pub Refuses : {I : Type 0} → (I → Meaning) → (I → Gate → Poll (Result ℕ SourceError) → I → Type 0) → Gate → Option I → SourceError → Type 0
+Refuses meaning polled gate item e = (x : _) × (y : _) × (item ≡ Some y) × polled x gate (Ready (Err e)) y × Errs e (meaning x) (meaning y)
 
--- one read under this Gate: a fault is counted, and that a source is shut is kept, only where that source refused
-pub record ReadsFlat {S I : Type 0} (meaning : I → Meaning) (polled : I → Gate → I → Type 0) (may_give : S → I → Type 0) (gate : Gate) (a b : Flat S I) : Type 0 where
-  pub item : ReadsItem polled may_give gate a.running b.running.item
+-- one read under this Gate, which the stream is shown too: an error is that of the source that is read; a fault is counted, and
+-- that a source is shut is kept, only where that source refused
+pub record ReadsFlat {S I : Type 0} (meaning : I → Meaning) (asked : S → Gate → Poll (Option I) → S → Type 0) (polled : I → Gate → Poll (Result ℕ SourceError) → I → Type 0) (may_give : S → I → Type 0) (a : Flat S I) (gate : Gate) (answer : Poll (Result ℕ SourceError)) (b : Flat S I) : Type 0 where
+  pub stream : Asked asked gate a.running.stream b.running.stream
+  pub item : ReadsItem polled may_give gate answer a.running b.running.item
+  pub refuses : IfReadyErr answer (Refuses meaning polled gate b.running.item)
   pub faults : (b.faults ≡ a.faults) ⊎ ((b.faults ≡ a.faults + 1) × Refuses meaning polled gate b.running.item SourceFault)
   pub refused : (b.refused ≡ a.refused) ⊎ (Refuses meaning polled gate b.running.item Gone ⊎ Refuses meaning polled gate b.running.item TimedOut)
 

@@ -3,6 +3,7 @@ use Rattle.std.specs.Option.{ForSome}
 use Rattle.std.specs.Prelude.{◌≡◌, ℕ, ◌+◌, ◌<◌, ◌≤◌, ◌⊎◌, Bool, true, false, nat_eq, List, [], ◌∷◌, length, Option, None, Some, option_to_list}
 use Rattle.rkt_base.specs.declared.poll.Poll.{Poll}
 use Rattle.rkt_base.specs.declared.poll.Poll.TheVariants.{Ready, Pending}
+use Rattle.rkt_source.specs.declared.source.Gate.{Gate}
 
 pub record Flow (X : Type 0) : Type 0 where
   -- the items that it still gives, where it tells them
@@ -37,6 +38,18 @@ GivesOf before now Pending = (x : _) → now x → before x
 GivesOf before now (Ready None) = (x : _) → now x → before x
 GivesOf before now (Ready (Some item)) = before item × ((x : _) → now x → before x)
 
+-- any number of polls under this Gate lead from the first to the second
+pub data Asked {T X : Type 0} (polled : T → Gate → Poll (Option X) → T → Type 0) (gate : Gate) : T → T → Type 0 where
+  none : {t : T} → Asked polled gate t t
+  more : {t u v : T} {answer : Poll (Option X)} → Asked polled gate t u → polled u gate answer v → Asked polled gate t v
+
+-- the stream, where there is one, was asked under this Gate alone
+abbrev pub AskedOf : {T X : Type 0} → (T → Gate → Poll (Option X) → T → Type 0) → Gate → Option T → Option T → Type 0
+AskedOf polled gate None None = Unit {0}
+AskedOf polled gate None (Some u) = ⊥
+AskedOf polled gate (Some t) None = ⊥
+AskedOf polled gate (Some t) (Some u) = Asked polled gate t u
+
 -- items of two lists in turn, the first list's first; it ends where the one whose turn it is has none
 abbrev pub alternate : {X : Type 0} → List X → List X → List X
 alternate [] ys = []
@@ -48,6 +61,11 @@ abbrev pub Asks : {X : Type 0} → Flow X → Flow X → Flow X → Flow X → P
 Asks a a' b b' Pending = Flows a Pending a' × Flows b Pending b'
 Asks a a' b b' (Ready item) = ((b' ≡ b) × Flows a (Ready item) a') ⊎ (Flows a Pending a' × Flows b (Ready item) b')
 
+-- the one was asked under this Gate, and the other where the one is Pending
+abbrev pub AsksBoth : {A B X : Type 0} → (A → Gate → Poll (Option X) → A → Type 0) → (B → Gate → Poll (Option X) → B → Type 0) → Gate → A → B → Poll (Option X) → A → B → Type 0
+AsksBoth one other gate a b Pending a' b' = one a gate Pending a' × other b gate Pending b'
+AsksBoth one other gate a b (Ready item) a' b' = ((b' ≡ b) × one a gate (Ready item) a') ⊎ (one a gate Pending a' × other b gate (Ready item) b')
+
 -- what the two of them may give: an item is one that either might give
 abbrev pub AsksOf : {X : Type 0} → (X → Type 0) → (X → Type 0) → (X → Type 0) → (X → Type 0) → Poll (Option X) → Type 0
 AsksOf a a' b b' answer = GivesOf (λ x. a x ⊎ b x) (λ x. a' x ⊎ b' x) answer
@@ -58,6 +76,16 @@ pub record Joined (A B : Type 0) : Type 0 where
   -- the first is asked first
   pub turn : Bool
   pub ended : Bool
+
+module _ {A B X : Type 0} (first : A → Gate → Poll (Option X) → A → Type 0) (second : B → Gate → Poll (Option X) → B → Type 0) where
+  abbrev pub AsksAt : Bool → Joined A B → Gate → Poll (Option X) → Joined A B → Type 0
+  AsksAt true j gate answer k = (k.turn ≡ false) × AsksBoth first second gate j.first j.second answer k.first k.second
+  AsksAt false j gate answer k = (k.turn ≡ true) × AsksBoth second first gate j.second j.first answer k.second k.first
+
+  -- until it has ended, the one whose turn it is was asked, and where that is Pending the other
+  abbrev pub AsksJoined : Bool → Joined A B → Gate → Poll (Option X) → Joined A B → Type 0
+  AsksJoined true j gate answer k = (k ≡ j) × (answer ≡ Ready None)
+  AsksJoined false j gate answer k = AsksAt j.turn j gate answer k
 
 -- told where both tell and neither is ever Pending
 abbrev pub joined_rest : {X : Type 0} → Bool → Bool → Option (List X) → Option (List X) → Option (List X)

@@ -1,5 +1,8 @@
 //! Streams of items.
-ghost use Rattle.rkt_stream.specs.Flow.{Flow, Flows, GivesOf, Asks, AsksOf};
+ghost use Rattle.rkt_base.specs.declared.poll.Poll.{Poll};
+ghost use Rattle.rkt_source.specs.declared.source.Gate.{Gate};
+ghost use Rattle.rkt_stream.specs.Flow.{Flow, Flows, GivesOf, Asks, AsksBoth, AsksOf};
+ghost use Rattle.std.specs.Prelude.{Option};
 
 mod reader_stream;
 
@@ -18,8 +21,12 @@ pub trait Stream: Drop {
     /// Whether it might still give an item.
     ghost may_give: { Self → Self.Item → Type 0 } = { λ _ _. Unit {0} };
 
+    /// Of the stream before a poll, the Gate that it was shown, the answer, and the stream after it.
+    ghost polled: { Self → Gate → Poll (Option Self.Item) → Self → Type 0 } = { λ _ _ _ _. Unit {0} };
+
     /// The next item. Once it has answered None it answers None again.
     fn poll_next(&mut self, gate: Gate) -> Poll<Option<Self::Item>>
+        ensures polled { polled self.old gate result self.new }
         ensures flows { Flows (flow self.old) result (flow self.new) }
         ensures gives { GivesOf (may_give self.old) (may_give self.new) result };
 }
@@ -58,12 +65,15 @@ impl<T: Drop> One<T> {
 impl<T: Drop> Stream for One<T> {
     type Item = T;
 
-    ghost use Rattle.std.specs.Prelude.{◌≡◌, Some};
+    ghost use Rattle.std.specs.Prelude.{◌≡◌, None, Some};
+    ghost use Rattle.rkt_base.specs.declared.poll.Poll.TheVariants.{Ready};
     ghost use Rattle.rkt_stream.specs.Flow.{one_flow};
 
     ghost flow = { one_flow };
 
     ghost may_give = { λ s x. s.value ≡ Some x };
+
+    ghost polled = { λ s _ answer t. (answer ≡ Ready s.value) × (t.value ≡ None) };
 
     fn poll_next(&mut self, _gate: Gate) -> Poll<Option<T>> {
         let item = self.value.take();
@@ -118,11 +128,13 @@ impl<A: Stream, B: Stream<Item = A::Item>> Stream for Join<A, B> {
     type Item = A::Item;
 
     ghost use Rattle.std.specs.Prelude.{◌⊎◌};
-    ghost use Rattle.rkt_stream.specs.Flow.{join_flow};
+    ghost use Rattle.rkt_stream.specs.Flow.{AsksJoined, join_flow};
 
     ghost flow = { λ j. join_flow j.turn j.ended (A.flow j.first) (B.flow j.second) };
 
     ghost may_give = { λ j x. A.may_give j.first x ⊎ B.may_give j.second x };
+
+    ghost polled = { λ j gate answer k. AsksJoined A.polled B.polled j.ended j gate answer k };
 
     fn poll_next(&mut self, gate: Gate) -> Poll<Option<A::Item>> {
         if self.ended {
@@ -158,6 +170,7 @@ fn ask<A: Stream, B: Stream<Item = A::Item>>(
     other: &mut B,
     gate: Gate,
 ) -> Poll<Option<A::Item>>
+    ensures polled { AsksBoth A.polled B.polled gate one.old other.old result one.new other.new }
     ensures asks { Asks (A.flow one.old) (A.flow one.new) (B.flow other.old) (B.flow other.new) result }
     ensures gives { AsksOf (A.may_give one.old) (A.may_give one.new) (B.may_give other.old) (B.may_give other.new) result }
 {

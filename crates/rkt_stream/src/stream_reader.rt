@@ -2,6 +2,7 @@
 ghost use Rattle.std.specs.Option.{ForSome};
 ghost use Rattle.std.specs.Prelude.{◌≡◌, ◌+◌, ◌++◌, drop, length, min, take};
 ghost use Rattle.rkt_base.specs.declared.poll.Poll.TheVariants.{Ready};
+ghost use Rattle.rkt_stream.specs.Flow.{Asked};
 ghost use Rattle.rkt_stream.specs.Joining.{NextBytes};
 
 use crate::piece::Piece;
@@ -33,6 +34,7 @@ impl<T: Stream<Item = Vec<u8>>> Model for StreamReader<T> {
 
 impl<T: Stream<Item = Vec<u8>>> StreamReader<T> {
     ghost use Rattle.std.specs.Prelude.{[], None, Some};
+    ghost use Rattle.rkt_stream.specs.Flow.{AskedOf};
     ghost use Rattle.rkt_stream.specs.Joining.{Fills, SameJoining, joined_of};
 
     pub fn new(stream: T) -> StreamReader<T>
@@ -64,6 +66,7 @@ impl<T: Stream<Item = Vec<u8>>> StreamReader<T> {
         ensures same { SameJoining T.flow self.old self.new }
         ensures taken { self.new.taken ≡ self.old.taken }
         ensures fills { Fills T.flow self.old self.new result }
+        ensures asked { AskedOf T.polled gate self.old.stream self.new.stream }
     {
         if !self.piece.is_empty() {
             return Poll::Ready(());
@@ -84,6 +87,7 @@ impl<T: Stream<Item = Vec<u8>>> StreamReader<T> {
     // Copies the next bytes of the last item.
     fn give(&mut self, buf: &mut [u8]) -> usize
         ensures same { SameJoining T.flow self.old self.new }
+        ensures stream { self.new.stream ≡ self.old.stream }
         ensures count { result ≡ min (length buf.old) (length self.old.piece) }
         ensures taken { self.new.taken ≡ self.old.taken + result }
         ensures bytes { ForSome (joined_of T.flow self.old.begun) (λ w. take result buf.new ≡ take result (drop self.old.taken w)) }
@@ -96,7 +100,8 @@ impl<T: Stream<Item = Vec<u8>>> StreamReader<T> {
 
 // The next item that is not empty, or None at the end.
 fn next_bytes<T: Stream<Item = Vec<u8>>>(stream: &mut T, gate: Gate) -> Poll<Option<Vec<u8>>>
-    ensures { NextBytes (T.flow stream.old) (T.flow stream.new) result }
+    ensures next { NextBytes (T.flow stream.old) (T.flow stream.new) result }
+    ensures asked { Asked T.polled gate stream.old stream.new }
 {
     loop {
         match stream.poll_next(gate) {
@@ -121,12 +126,13 @@ impl<T: Stream<Item = Vec<u8>>> Shut for StreamReader<T> {
 
 impl<T: Stream<Item = Vec<u8>>> Source for StreamReader<T> {
     ghost use Rattle.std.specs.Prelude.{refl};
+    ghost use Rattle.rkt_stream.specs.Flow.{AskedOf};
     ghost use Rattle.rkt_stream.specs.Joining.{joining_meaning};
     ghost use Rattle.rkt_stream.specs.JoiningLaws.{pended_within};
 
     ghost meaning = { λ r. joining_meaning T.flow r };
 
-    ghost polled = { λ _ _ _. Unit {0} };
+    ghost polled = { λ s gate _ t. AskedOf T.polled gate s.stream t.stream };
 
     fn poll_read(&mut self, gate: Gate, buf: &mut [u8]) -> Poll<Result<usize, SourceError>> {
         if buf.is_empty() {

@@ -2,6 +2,7 @@
 ghost use Rattle.std.specs.Prelude.{◌≡◌, ◌<◌, ◌≤◌, ◌||◌, None, is_some, length};
 ghost use Rattle.rkt_base.specs.Poll.{IfReadyErr};
 ghost use Rattle.rkt_stream.specs.Flat.{IsFresh, GivesFresh, Goes, Advances, ReadsItem, Refuses};
+ghost use Rattle.rkt_stream.specs.Flow.{Asked};
 
 use crate::stream::{One, Stream};
 use crate::tally::Tally;
@@ -86,7 +87,8 @@ where
     requires room { 0 < length buf.old }
     requires fresh { GivesFresh S.flow S.Item.meaning S.may_give stream.old }
     ensures goes { Goes S.flow S.Item.meaning S.may_give gate.tripped (record { stream = stream.old; item = item.old }) (record { stream = stream.new; item = item.new }) }
-    ensures item { ReadsItem S.Item.polled S.may_give gate (record { stream = stream.old; item = item.old }) item.new }
+    ensures asked { Asked S.polled gate stream.old stream.new }
+    ensures item { ReadsItem S.Item.polled S.may_give gate result (record { stream = stream.old; item = item.old }) item.new }
     ensures answer { Advances S.flow S.Item.meaning (record { stream = stream.old; item = item.old }) (record { stream = stream.new; item = item.new }) buf.old buf.new result }
     ensures refuses { IfReadyErr result (Refuses S.Item.meaning S.Item.polled gate item.new) }
 {
@@ -140,7 +142,7 @@ where
 
     ghost meaning = { flat_meaning S.flow S.Item.meaning };
 
-    ghost polled = { λ a gate b. ReadsFlat S.Item.meaning S.Item.polled S.may_give gate a b };
+    ghost polled = { λ a gate answer b. ReadsFlat S.Item.meaning S.polled S.Item.polled S.may_give a gate answer b };
 
     fn poll_read(&mut self, gate: Gate, buf: &mut [u8]) -> Poll<Result<usize, SourceError>> {
         if buf.is_empty() {

@@ -1,11 +1,33 @@
-use Rattle.rkt_data.proofs.Taps.{ByGate-trans}
+use Rattle.std.proofs.Common.{Ok, Err}
+use Rattle.rkt_base.specs.declared.poll.Poll.TheVariants.{Ready, Pending}
+use Rattle.rkt_data.proofs.Taps.{ByGate-caused, ByGate-trans}
 use Rattle.rkt_data.proofs.into_bytes.finish.Goals as goal
 
+pub returns-in-Failed-clause-by_gate : goal.returns-in-Failed-clause-by_gate
+returns-in-Failed-clause-by_gate g c =
+    let draws = rw c.in-Failed.is at c.drain-count.ensures.draws in
+    ByGate-caused g.S.Source.polled c.args.gate c.in-Failed.e c.error_of.result _ _ c.error_of.ensures draws.by_gate
+
+pub returns-in-Waiting-clause-by_gate : goal.returns-in-Waiting-clause-by_gate
+returns-in-Waiting-clause-by_gate g c = let draws = rw c.in-Waiting.is at c.drain-count.ensures.draws in draws.by_gate
+
+pub returns-in-NoMemory-clause-by_gate : goal.returns-in-NoMemory-clause-by_gate
+returns-in-NoMemory-clause-by_gate g c = let draws = rw c.in-NoMemory.is at c.drain-count.ensures.draws in draws.by_gate
+
 pub returns-in-Pending-clause-by_gate : goal.returns-in-Pending-clause-by_gate
-returns-in-Pending-clause-by_gate g c = ByGate-trans g.S.Source.polled c.args.gate _ c.drain-count.new.pipe.opened.tap _ c.drain-count.ensures.draws.by_gate c.close.ensures.by_gate
+returns-in-Pending-clause-by_gate g c =
+    let draws = rw c.in-End.is at c.drain-count.ensures.draws in
+    ByGate-trans g.S.Source.polled c.args.gate Pending _ c.drain-count.new.pipe.opened.tap _ draws.by_gate c.in-Pending.ensures.by_gate
 
 pub returns-in-Ready-Err-clause-by_gate : goal.returns-in-Ready-Err-clause-by_gate
-returns-in-Ready-Err-clause-by_gate g c = ByGate-trans g.S.Source.polled c.args.gate _ c.drain-count.new.pipe.opened.tap _ c.drain-count.ensures.draws.by_gate c.close.ensures.by_gate
+returns-in-Ready-Err-clause-by_gate g c =
+    let draws = rw c.in-End.is at c.drain-count.ensures.draws in
+    let closed = rw c.in-Ready-Err.field-0-is at c.in-Ready-Err.ensures.by_gate in
+    ByGate-caused g.S.Source.polled c.args.gate c.in-Ready-Err.e _ _ _ c.error_of-in-Ready-Err.ensures
+    (ByGate-trans g.S.Source.polled c.args.gate (Ready (Err c.in-Ready-Err.e)) _ c.drain-count.new.pipe.opened.tap _ draws.by_gate closed)
 
 pub returns-in-Ready-Ok-clause-by_gate : goal.returns-in-Ready-Ok-clause-by_gate
-returns-in-Ready-Ok-clause-by_gate g c = ByGate-trans g.S.Source.polled c.args.gate _ c.drain-count.new.pipe.opened.tap _ c.drain-count.ensures.draws.by_gate c.close.ensures.by_gate
+returns-in-Ready-Ok-clause-by_gate g c =
+    let draws = rw c.in-End.is at c.drain-count.ensures.draws in
+    let closed = rw c.in-Ready-Ok.field-0-is at c.in-Ready-Ok.ensures.by_gate in
+    ByGate-trans g.S.Source.polled c.args.gate (Ready (Ok tt)) _ c.drain-count.new.pipe.opened.tap _ draws.by_gate closed

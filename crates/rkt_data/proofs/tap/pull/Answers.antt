@@ -5,20 +5,23 @@ use Rattle.rkt_data.proofs.tap.pull.Goals as goal
 
 pub loop-n-preserved : goal.loop-n-preserved
 loop-n-preserved g c =
-    let a = rw c.in-Ready-Ok.field-0-is at c.in-Ready-Ok.ensures.answer in (
+    let a = rw c.in-Ready-Ok.field-0-is at c.in-Ready-Ok.ensures.answer in
+    let read = rw c.in-Ready-Ok.field-0-is at c.in-Ready-Ok.ensures.polled in (
       Pulled-more c.in-Ready-Ok.k c.poll_read.new.buf _ c.loop-n.invariant.0 c.poll_read.ensures.kept a.1 (a.2 (simp (length-take, length-drop) (omega arith)))
           (omega (arith, a.0, c.poll_read.auto.buf)) (simp (length-append, length-take, length-drop) (omega (arith, a.0, c.poll_read.auto.buf))),
-      Polls.more c.loop-n.invariant.1 c.poll_read.ensures.polled,
+      Polls.more c.loop-n.invariant.1 (read (simp (length-take, length-drop) (omega arith))),
     )
 
 pub loop-n-init : goal.loop-n-init
 loop-n-init g c = (search rules, Polls.none)
 
 pub returns-in-Ready-Ok-eq0-clause-by_gate : goal.returns-in-Ready-Ok-eq0-clause-by_gate
-returns-in-Ready-Ok-eq0-clause-by_gate g c = Polls.more c.loop-n.invariant.1 c.poll_read.ensures.polled
+returns-in-Ready-Ok-eq0-clause-by_gate g c = let read = rw c.in-Ready-Ok-eq0.field-0-is at c.in-Ready-Ok-eq0.ensures.polled in
+    Polls.more c.loop-n.invariant.1 (read (simp (length-take, length-drop) (omega arith)))
 
 pub returns-in-Ready-Err-clause-by_gate : goal.returns-in-Ready-Err-clause-by_gate
-returns-in-Ready-Err-clause-by_gate g c = Polls.more c.loop-n.invariant.1 c.poll_read.ensures.polled
+returns-in-Ready-Err-clause-by_gate g c = let read = rw c.in-Ready-Err.field-0-is at c.in-Ready-Err.ensures.polled in
+    (c.loop-n.source, c.loop-n.invariant.1, read (simp (length-take, length-drop) (omega arith)))
 
 pub returns-in-Pending-clause-by_gate : goal.returns-in-Pending-clause-by_gate
-returns-in-Pending-clause-by_gate g c = Polls.more c.loop-n.invariant.1 c.poll_read.ensures.polled
+returns-in-Pending-clause-by_gate g c = (c.loop-n.source, c.loop-n.invariant.1, c.in-Pending.ensures.polled (simp (length-take, length-drop) (omega arith)))

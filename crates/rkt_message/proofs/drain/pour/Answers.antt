@@ -1,6 +1,6 @@
 use Rattle.std.proofs.Common.{◌≡◌, ◌∙◌, sym, subst, arith, length-drop, length-take, length-append}
 use Rattle.rkt_message.specs.Reading.{Takes}
-use Rattle.rkt_message.proofs.Readings.{BytesErr-after, BytesErr-read, Draws-nothing, Draws-read, Draws-start, StreamWaits-after, left_same}
+use Rattle.rkt_message.proofs.Readings.{ByGate-caused, BytesErr-after, BytesErr-read, Draws-nothing, Draws-read, Draws-start, StreamWaits-after, left_same}
 use Rattle.rkt_message.proofs.drain.pour.Goals as goal
 
 pub loop-n-init : goal.loop-n-init
@@ -8,16 +8,18 @@ loop-n-init g c = (Draws-start g.S.Source.meaning g.S.Source.polled c.args.gate 
 
 pub loop-n-preserved : goal.loop-n-preserved
 loop-n-preserved g c =
-    let a = rw c.in-Ready-Ok.field-0-is at c.in-Ready-Ok.ensures.answer in (
-      Draws-read c.loop-n.n c.in-Ready-Ok.k c.loop-n.room c.poll_read.new.buf _ c.loop-n.invariant.0 c.loop-n.invariant.1 (omega (arith, a.0, c.poll_read.auto.buf)) c.poll_read.ensures.follows c.poll_read.ensures.preset c.poll_read.ensures.by_gate a.1 (λ w t. (a.2 w t).0) a.3,
+    let a = rw c.in-Ready-Ok.field-0-is at c.in-Ready-Ok.ensures.answer in
+    let asks = rw c.in-Ready-Ok.field-0-is at c.in-Ready-Ok.ensures.by_gate in (
+      Draws-read c.loop-n.n c.in-Ready-Ok.k c.loop-n.room c.poll_read.new.buf _ c.loop-n.invariant.0 c.loop-n.invariant.1 (omega (arith, a.0, c.poll_read.auto.buf)) c.poll_read.ensures.follows c.poll_read.ensures.preset asks a.1 (λ w t. (a.2 w t).0) a.3,
       simp (length-append, length-take, length-drop) (omega (arith, a.0, c.poll_read.auto.buf)),
     )
 
 pub returns-in-Ready-Ok-eq0-clause-draws : goal.returns-in-Ready-Ok-eq0-clause-draws
 returns-in-Ready-Ok-eq0-clause-draws g c =
     let a = rw c.in-Ready-Ok-eq0.field-0-is at c.in-Ready-Ok-eq0.ensures.answer in
+    let asks = rw c.in-Ready-Ok-eq0.field-0-is at c.in-Ready-Ok-eq0.ensures.by_gate in
     let none : c.in-Ready-Ok-eq0.field-0-0 ≡ 0 = omega arith in
-    Draws-nothing c.loop-n.n c.loop-n.room c.poll_read.new.buf _ c.loop-n.invariant.0 c.loop-n.invariant.1 c.poll_read.ensures.follows c.poll_read.ensures.preset c.poll_read.ensures.by_gate (left_same _ _ _ none a.1) (subst (Takes g.S.Source.meaning c.loop-n.body.content c.poll_read.new.self.content) none a.3)
+    Draws-nothing c.loop-n.n c.loop-n.room c.poll_read.new.buf _ c.loop-n.invariant.0 c.loop-n.invariant.1 c.poll_read.ensures.follows c.poll_read.ensures.preset asks (left_same _ _ _ none a.1) (subst (Takes g.S.Source.meaning c.loop-n.body.content c.poll_read.new.self.content) none a.3)
 
 pub returns-in-Ready-Ok-eq0-clause-stops : goal.returns-in-Ready-Ok-eq0-clause-stops
 returns-in-Ready-Ok-eq0-clause-stops g c =
@@ -28,7 +30,8 @@ returns-in-Ready-Ok-eq0-clause-stops g c =
 pub returns-in-Ready-Err-clause-draws : goal.returns-in-Ready-Err-clause-draws
 returns-in-Ready-Err-clause-draws g c =
     let a = rw c.in-Ready-Err.field-0-is at c.in-Ready-Err.ensures.answer in
-    Draws-nothing c.loop-n.n c.loop-n.room c.poll_read.new.buf _ c.loop-n.invariant.0 c.loop-n.invariant.1 c.poll_read.ensures.follows c.poll_read.ensures.preset c.poll_read.ensures.by_gate a.1 a.2
+    let asks = rw c.in-Ready-Err.field-0-is at c.in-Ready-Err.ensures.by_gate in
+    Draws-nothing c.loop-n.n c.loop-n.room c.poll_read.new.buf _ c.loop-n.invariant.0 c.loop-n.invariant.1 c.poll_read.ensures.follows c.poll_read.ensures.preset (ByGate-caused g.S.Source.polled c.args.gate c.in-Ready-Err.e c.error_of.result _ _ c.error_of.ensures asks) a.1 a.2
 
 pub returns-in-Ready-Err-clause-stops : goal.returns-in-Ready-Err-clause-stops
 returns-in-Ready-Err-clause-stops g c =
@@ -39,7 +42,7 @@ returns-in-Ready-Err-clause-stops g c =
 
 pub returns-in-Pending-clause-draws : goal.returns-in-Pending-clause-draws
 returns-in-Pending-clause-draws g c =
-    Draws-nothing c.loop-n.n c.loop-n.room c.poll_read.new.buf _ c.loop-n.invariant.0 c.loop-n.invariant.1 c.poll_read.ensures.follows c.poll_read.ensures.preset c.poll_read.ensures.by_gate c.in-Pending.ensures.answer.1 c.in-Pending.ensures.answer.2
+    Draws-nothing c.loop-n.n c.loop-n.room c.poll_read.new.buf _ c.loop-n.invariant.0 c.loop-n.invariant.1 c.poll_read.ensures.follows c.poll_read.ensures.preset c.in-Pending.ensures.by_gate c.in-Pending.ensures.answer.1 c.in-Pending.ensures.answer.2
 
 pub returns-in-Pending-clause-stops : goal.returns-in-Pending-clause-stops
 returns-in-Pending-clause-stops g c =

@@ -1,30 +1,28 @@
-use Rattle.std.proofs.Common.{rules, refl, sym, ◌∙◌, inl, inr}
-use Rattle.rkt_cancel.proofs.Cancels.{in_grace, Runs-more}
+use Rattle.std.proofs.Common.{◌≡◌, ◌∙◌, ap, inl, inr, rules, Some}
+use Rattle.rkt_cancel.specs.Cancel.{advanced}
+use Rattle.rkt_cancel.proofs.Cancels.{Runs-more, arrives_steps, step_in_grace}
 use Rattle.rkt_cancel.proofs.cancel.CancellableIo.poll_with.Goals as goal
 
-pub returns-in-Active-clause-machine : goal.returns-in-Active-clause-machine
-returns-in-Active-clause-machine g c = rw (← c.self.view_is, ← c.advance-self-inside.ensures, c.in-Active.is) (refl, (c.f.result, search rules, c.within.ensures))
+pub f-requires : goal.f-requires
+f-requires g c = rw (ap (λ d. d.io) (c.self.view_is ∙ c.in-None.ensures.1)) (search rules)
 
-pub returns-in-Grace-clause-machine : goal.returns-in-Grace-clause-machine
-returns-in-Grace-clause-machine g c = rw (← c.self.view_is, ← c.advance-self-inside.ensures, c.in-Grace.is) (refl, (c.f-in-Grace.result, search rules, c.within-in-Grace.ensures))
+pub returns-in-None-clause-grace : goal.returns-in-None-clause-grace
+returns-in-None-clause-grace g c = λ saw e. step_in_grace c.args.gate c.args.self.now.stage c.self.inside.stage saw (inl (ap (λ d. d.stage) (c.self.view_is ∙ c.in-None.ensures.1))) e
 
-pub returns-in-Grace-clause-grace : goal.returns-in-Grace-clause-grace
-returns-in-Grace-clause-grace g c = λ saw e. in_grace c.args.gate c.self.inside.stage saw (sym c.advance-self-inside.ensures ∙ e)
+pub returns-in-None-clause-machine : goal.returns-in-None-clause-machine
+returns-in-None-clause-machine g c =
+    let stage : c.self.inside.stage ≡ advanced c.args.gate c.args.self.now.stage = ap (λ d. d.stage) (c.self.view_is ∙ c.in-None.ensures.1) in
+    let io : c.self.inside.io ≡ c.args.self.now.io = ap (λ d. d.io) (c.self.view_is ∙ c.in-None.ensures.1) in
+    inl (c.in-None.ensures.0, stage, (c.f.result, rw (← io) (search rules), c.within.ensures))
 
-pub returns-in-Active-clause-runs : goal.returns-in-Active-clause-runs
-returns-in-Active-clause-runs g c = rw (← c.self.view_is) (λ gates h. Runs-more _ gates _ _ _ h (inl c.advance-self-inside.ensures))
+pub returns-in-None-clause-runs : goal.returns-in-None-clause-runs
+returns-in-None-clause-runs g c = λ gates h. Runs-more _ gates _ _ _ h (inl (ap (λ d. d.stage) (c.self.view_is ∙ c.in-None.ensures.1)))
 
-pub returns-in-Grace-clause-runs : goal.returns-in-Grace-clause-runs
-returns-in-Grace-clause-runs g c = rw (← c.self.view_is) (λ gates h. Runs-more _ gates _ _ _ h (inl c.advance-self-inside.ensures))
+pub returns-in-Some-clause-grace : goal.returns-in-Some-clause-grace
+returns-in-Some-clause-grace g c = λ saw e. step_in_grace c.args.gate c.args.self.now.stage c.arrive.new.self.stage saw (arrives_steps g.I.Shut.shuts c.args.gate c.args.self.now c.arrive.new.self (Some c.in-Some.refusal) c.in-Some.ensures) e
 
-pub returns-then-is_late-clause-runs : goal.returns-then-is_late-clause-runs
-returns-then-is_late-clause-runs g c = rw (← c.self.view_is) (λ gates h. Runs-more _ gates _ _ _ h (inr (c.in-Mercy.saw, c.in-Mercy.cut, sym c.advance-self-inside.ensures ∙ c.in-Mercy.is, refl)))
+pub returns-in-Some-clause-machine : goal.returns-in-Some-clause-machine
+returns-in-Some-clause-machine g c = inr (c.in-Some.refusal, c.in-Some.ensures, c.withheld.ensures)
 
-pub returns-in-Pending-clause-runs : goal.returns-in-Pending-clause-runs
-returns-in-Pending-clause-runs g c = rw (← c.self.view_is) (λ gates h. Runs-more _ gates _ _ _ h (inl c.advance-self-inside.ensures))
-
-pub returns-in-Mercy-clause-runs : goal.returns-in-Mercy-clause-runs
-returns-in-Mercy-clause-runs g c = rw (← c.self.view_is) (λ gates h. Runs-more _ gates _ _ _ h (inr (c.in-Mercy.saw, c.in-Mercy.cut, sym c.advance-self-inside.ensures ∙ c.in-Mercy.is, refl)))
-
-pub returns-clause-runs : goal.returns-clause-runs
-returns-clause-runs g c = rw (← c.self.view_is) (λ gates h. Runs-more _ gates _ _ _ h (inl c.advance-self-inside.ensures))
+pub returns-in-Some-clause-runs : goal.returns-in-Some-clause-runs
+returns-in-Some-clause-runs g c = λ gates h. Runs-more _ gates _ _ _ h (arrives_steps g.I.Shut.shuts c.args.gate c.args.self.now c.arrive.new.self (Some c.in-Some.refusal) c.in-Some.ensures)

@@ -1,10 +1,15 @@
 use Rattle.std.proofs.Common.{◌≡◌, ◌∙◌, false, length, take, ap, sym, arith, rules, length-take-le}
 use Rattle.rkt_data.proofs.Drains.{Gathered-more, Completes-gathered}
-use Rattle.rkt_data.proofs.Taps.{ByGate-refl}
 use Rattle.rkt_data.proofs.into_bytes.IntoBytes.poll.Goals as goal
 
-pub returns-in-Some-clause-by_gate : goal.returns-in-Some-clause-by_gate
-returns-in-Some-clause-by_gate g c = ByGate-refl g.S.Source.polled c.args.gate c.args.self.now.stream.tap
+pub returns-in-Bytes-clause-by_gate : goal.returns-in-Bytes-clause-by_gate
+returns-in-Bytes-clause-by_gate g c = λ none. let ends = rw c.in-Bytes.is at c.finish-count.ensures.by_gate in rw (← c.self.view_is) ends
+
+pub returns-in-Waiting-clause-by_gate : goal.returns-in-Waiting-clause-by_gate
+returns-in-Waiting-clause-by_gate g c = λ none. let ends = rw c.in-Waiting.is at c.finish-count.ensures.by_gate in rw (← c.self.view_is) ends
+
+pub returns-in-Failed-clause-by_gate : goal.returns-in-Failed-clause-by_gate
+returns-in-Failed-clause-by_gate g c = λ none. let ends = rw c.in-Failed.is at c.finish-count.ensures.by_gate in rw (← c.self.view_is) ends
 
 pub invariant_of-self-in-Waiting : goal.invariant_of-self-in-Waiting
 invariant_of-self-in-Waiting g c =

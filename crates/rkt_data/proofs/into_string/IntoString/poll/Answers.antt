@@ -1,12 +1,16 @@
-use Rattle.std.proofs.Common.{◌≡◌, ◌≤◌, ◌∙◌, false, length, ap, refl, arith}
+use Rattle.std.proofs.Common.{◌≡◌, ◌≤◌, ◌∙◌, Ok, Err, false, length, ap, refl, arith}
+use Rattle.rkt_base.specs.declared.poll.Poll.TheVariants.{Ready, Pending}
 use Rattle.std.specs.Prelude.{string_bytes}
 use Rattle.rkt_data.proofs.Drains.{Gathered-drawn, Gathered-same, IsUsedUp-same, Completes-gathered, whole_same}
-use Rattle.rkt_data.proofs.Taps.{ByGate-refl, ByGate-trans, TapErrs-after}
+use Rattle.rkt_data.proofs.Taps.{ByGate-caused, ByGate-trans, TapErrs-after}
 use Rattle.rkt_data.proofs.TextLemmas.{resumed_bytes, TextErr-failed, TextErr-closed}
 use Rattle.rkt_data.proofs.into_string.IntoString.poll.Goals as goal
 
-pub returns-in-Some-clause-by_gate : goal.returns-in-Some-clause-by_gate
-returns-in-Some-clause-by_gate g c = ByGate-refl g.S.Source.polled c.args.gate c.args.self.now.stream.tap
+pub returns-in-Waiting-clause-by_gate : goal.returns-in-Waiting-clause-by_gate
+returns-in-Waiting-clause-by_gate g c = λ none. let texts = rw c.in-Waiting.is at c.read_text.ensures.texts in rw (← c.self.view_is) texts.0.by_gate
+
+pub returns-in-Failed-clause-by_gate : goal.returns-in-Failed-clause-by_gate
+returns-in-Failed-clause-by_gate g c = λ none. let texts = rw c.in-Failed.is at c.read_text.ensures.texts in rw (← c.self.view_is) texts.1.by_gate
 
 pub invariant_of-self : goal.invariant_of-self
 invariant_of-self g c =
@@ -30,19 +34,23 @@ returns-in-Failed-clause-answer g c = λ unfailed.
     rw (← c.self.view_is) (refl, undone, TextErr-failed c.self.inside.pipe c.read_text.new.pipe c.self.inside.from _ texts.0 c.in-Failed.e held.0 texts.1 (omega (arith, c.left-in-Failed.ensures.left)) texts.2)
 
 pub returns-in-Pending-clause-by_gate : goal.returns-in-Pending-clause-by_gate
-returns-in-Pending-clause-by_gate g c =
+returns-in-Pending-clause-by_gate g c = λ none.
     let texts = rw c.in-Text.is at c.read_text.ensures.texts in
-    rw (← c.self.view_is) (ByGate-trans g.S.Source.polled c.args.gate _ c.read_text.new.pipe.opened.tap _ texts.0.by_gate c.close.ensures.by_gate)
+    rw (← c.self.view_is) (ByGate-trans g.S.Source.polled c.args.gate Pending _ c.read_text.new.pipe.opened.tap _ texts.0.by_gate c.in-Pending.ensures.by_gate)
 
 pub returns-in-Ready-Err-clause-by_gate : goal.returns-in-Ready-Err-clause-by_gate
-returns-in-Ready-Err-clause-by_gate g c =
+returns-in-Ready-Err-clause-by_gate g c = λ none.
     let texts = rw c.in-Text.is at c.read_text.ensures.texts in
-    rw (← c.self.view_is) (ByGate-trans g.S.Source.polled c.args.gate _ c.read_text.new.pipe.opened.tap _ texts.0.by_gate c.close.ensures.by_gate)
+    let closed = rw c.in-Ready-Err.field-0-is at c.in-Ready-Err.ensures.by_gate in
+    rw (← c.self.view_is)
+    (ByGate-caused g.S.Source.polled c.args.gate c.in-Ready-Err.e _ _ _ c.error_of-e.ensures
+    (ByGate-trans g.S.Source.polled c.args.gate (Ready (Err c.in-Ready-Err.e)) _ c.read_text.new.pipe.opened.tap _ texts.0.by_gate closed))
 
 pub returns-in-Ready-Ok-clause-by_gate : goal.returns-in-Ready-Ok-clause-by_gate
-returns-in-Ready-Ok-clause-by_gate g c =
+returns-in-Ready-Ok-clause-by_gate g c = λ none.
     let texts = rw c.in-Text.is at c.read_text.ensures.texts in
-    rw (← c.self.view_is) (ByGate-trans g.S.Source.polled c.args.gate _ c.read_text.new.pipe.opened.tap _ texts.0.by_gate c.close.ensures.by_gate)
+    let closed = rw c.in-Ready-Ok.field-0-is at c.in-Ready-Ok.ensures.by_gate in
+    rw (← c.self.view_is) (ByGate-trans g.S.Source.polled c.args.gate (Ready (Ok tt)) _ c.read_text.new.pipe.opened.tap _ texts.0.by_gate closed)
 
 pub returns-in-Ready-Err-clause-answer : goal.returns-in-Ready-Err-clause-answer
 returns-in-Ready-Err-clause-answer g c = λ unfailed.

@@ -8,13 +8,15 @@ pub returns-then-self-clause-by_gate : goal.returns-then-self-clause-by_gate
 returns-then-self-clause-by_gate g c = ByGate-refl g.S.Source.polled c.args.gate c.args.self.now.opened.tap
 
 pub returns-in-Ready-Ok-clause-by_gate : goal.returns-in-Ready-Ok-clause-by_gate
-returns-in-Ready-Ok-clause-by_gate g c = rw (← c.self.view_is, c.in-Some.is) (Polls.more Polls.none c.poll_read.ensures.polled)
+returns-in-Ready-Ok-clause-by_gate g c = let read = rw c.in-Ready-Ok.field-0-is at c.in-Ready-Ok.ensures.polled in
+    rw (← c.self.view_is, c.in-Some.is) (Polls.more Polls.none (read (omega arith)))
 
 pub returns-in-Ready-Err-clause-by_gate : goal.returns-in-Ready-Err-clause-by_gate
-returns-in-Ready-Err-clause-by_gate g c = rw (← c.self.view_is, c.in-Some.is) (Polls.more Polls.none c.poll_read.ensures.polled)
+returns-in-Ready-Err-clause-by_gate g c = let read = rw c.in-Ready-Err.field-0-is at c.in-Ready-Err.ensures.polled in
+    rw (← c.self.view_is, c.in-Some.is) (_, Polls.none, read (omega arith))
 
 pub returns-in-Pending-clause-by_gate : goal.returns-in-Pending-clause-by_gate
-returns-in-Pending-clause-by_gate g c = rw (← c.self.view_is, c.in-Some.is) (Polls.more Polls.none c.poll_read.ensures.polled)
+returns-in-Pending-clause-by_gate g c = rw (← c.self.view_is, c.in-Some.is) (_, Polls.none, c.in-Pending.ensures.polled (omega arith))
 
 pub returns-in-Ready-Ok-clause-answer : goal.returns-in-Ready-Ok-clause-answer
 returns-in-Ready-Ok-clause-answer g c =

@@ -1,23 +1,29 @@
-use Rattle.std.proofs.Common.{◌≡◌, ◌+◌, ◌-◌, ◌≤◌, ◌<◌, ◌∙◌, length, take, drop, arith, ap, rules, length-take}
-use Rattle.rkt_data.specs.Tap.{Polls, tapped}
+use Rattle.std.proofs.Common.{◌≡◌, ◌+◌, ◌-◌, ◌≤◌, ◌<◌, ◌∙◌, length, take, drop, arith, ap, inr, rules, length-take}
+use Rattle.rkt_data.specs.Tap.{tapped}
 use Rattle.rkt_data.proofs.Streams.{front_read, source_read}
-use Rattle.rkt_data.proofs.Taps.{ByGate-refl}
+use Rattle.rkt_data.proofs.Taps.{AsksOnce-none}
 use Rattle.rkt_data.proofs.pipe.Pipe.read.Goals as goal
 
 pub returns-then-given-self-clause-by_gate : goal.returns-then-given-self-clause-by_gate
-returns-then-given-self-clause-by_gate g c = rw (← c.self.view_is) (ByGate-refl g.S.Source.polled c.args.gate (tapped c.self.inside.tap))
+returns-then-given-self-clause-by_gate g c = rw (← c.self.view_is) (AsksOnce-none g.S.Source.polled c.args.gate c.min-n.result (tapped c.self.inside.tap))
 
 pub returns-then-room-eq0-clause-by_gate : goal.returns-then-room-eq0-clause-by_gate
-returns-then-room-eq0-clause-by_gate g c = ByGate-refl g.S.Source.polled c.args.gate c.args.self.now.opened.tap
+returns-then-room-eq0-clause-by_gate g c = AsksOnce-none g.S.Source.polled c.args.gate 0 c.args.self.now.opened.tap
 
 pub returns-in-Ready-Ok-clause-by_gate : goal.returns-in-Ready-Ok-clause-by_gate
-returns-in-Ready-Ok-clause-by_gate g c = rw (← c.self.view_is, c.in-Some.is) (Polls.more Polls.none c.poll_read.ensures.polled)
+returns-in-Ready-Ok-clause-by_gate g c = let read = rw c.in-Ready-Ok.field-0-is at c.in-Ready-Ok.ensures.polled in
+    let room : 0 < length (take c.min-room.result c.args.buf.now) = rw length-take (omega (arith, c.min-room.ensures)) in
+    rw (← c.self.view_is, c.in-Some.is) (inr (read room))
 
 pub returns-in-Ready-Err-clause-by_gate : goal.returns-in-Ready-Err-clause-by_gate
-returns-in-Ready-Err-clause-by_gate g c = rw (← c.self.view_is, c.in-Some.is) (Polls.more Polls.none c.poll_read.ensures.polled)
+returns-in-Ready-Err-clause-by_gate g c = let read = rw c.in-Ready-Err.field-0-is at c.in-Ready-Err.ensures.polled in
+    let room : 0 < length (take c.min-room.result c.args.buf.now) = rw length-take (omega (arith, c.min-room.ensures)) in
+    rw (← c.self.view_is, c.in-Some.is) (read room)
 
 pub returns-in-Pending-clause-by_gate : goal.returns-in-Pending-clause-by_gate
-returns-in-Pending-clause-by_gate g c = rw (← c.self.view_is, c.in-Some.is) (Polls.more Polls.none c.poll_read.ensures.polled)
+returns-in-Pending-clause-by_gate g c =
+    let room : 0 < length (take c.min-room.result c.args.buf.now) = rw length-take (omega (arith, c.min-room.ensures)) in
+    rw (← c.self.view_is, c.in-Some.is) (c.in-Pending.ensures.polled room)
 
 pub returns-then-given-self-clause-answer : goal.returns-then-given-self-clause-answer
 returns-then-given-self-clause-answer g c =

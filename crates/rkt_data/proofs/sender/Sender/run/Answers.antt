@@ -17,7 +17,7 @@ invariant_of-self-2 g c =
     let pumps = rw old at c.pump-at.ensures.pumps in
     let some = HasRoom-resumed c.self.inside.buf c.in-Ok.buf c.self.invariant.3 c.in-Ok.ensures.some in
     rw (with_items_is c.in-Ok.buf c.pump-at.new.buf same) (
-      SentOf-pumped g.S.Source.meaning g.K.Sink.meaning g.S.Source.polled c.args.gate c.self.inside.pipe c.pump-at.new.pipe c.self.inside.sink c.pump-at.new.sink c.self.inside.begun.value c.self.inside.from _ _ c.self.invariant.0 pumps,
+      SentOf-pumped g.S.Source.meaning g.K.Sink.meaning c.args.gate c.self.inside.pipe c.pump-at.new.pipe c.self.inside.sink c.pump-at.new.sink c.self.inside.begun.value c.self.inside.from _ _ c.self.invariant.0 pumps,
       c.pump-at.ensures.order,
       c.pump-at.ensures.room,
       omega (arith, some, same),

@@ -19,5 +19,5 @@ returns g c =
     served_text g.A.Handler.Handler.may c.args.self.now c.args.request.now c.in-Some.position (string_bytes c.in_ok-text.text) _ _
     first
     (c.index-routes-position.result, slice_get_read _ _ _ _ refl within is, rw (c.set_route.ensures, ← c.index-routes-position.is) at c.in_ok-text.ensures)
-    (rw c.requires at c.in_ok-push.ensures.ok)
+    c.in_ok-calls.ensures
     c.text_page.ensures

@@ -1,4 +1,4 @@
-use Rattle.std.proofs.Common.{◌≡◌, ◌∙◌, arith, ap, refl}
+use Rattle.std.proofs.Common.{◌≡◌, ◌∙◌, arith, ap, inl, inr, refl}
 use Rattle.rkt_message.specs.declared.stage.Stage.TheVariants as stage
 use Rattle.rkt_message.proofs.ReadOnLemmas.{never_waited, reads_more, sends_on, waited_more, waited_still}
 use Rattle.rkt_message.proofs.Readings.{ByGate-refl}
@@ -7,6 +7,21 @@ use Rattle.rkt_message.proofs.pieces.Pieces.chunk.Goals as goal
 
 pub returns-in-Err-clause-by_gate : goal.returns-in-Err-clause-by_gate
 returns-in-Err-clause-by_gate g c = ByGate-refl _ _ _
+
+pub returns-in-Bytes-clause-by_gate : goal.returns-in-Bytes-clause-by_gate
+returns-in-Bytes-clause-by_gate g c = rw (← c.self.view_is) c.in-Bytes.ensures.by_gate
+
+pub returns-in-End-clause-by_gate : goal.returns-in-End-clause-by_gate
+returns-in-End-clause-by_gate g c = rw (← c.self.view_is) c.in-End.ensures.by_gate
+
+pub returns-then-waits-self-clause-by_gate : goal.returns-then-waits-self-clause-by_gate
+returns-then-waits-self-clause-by_gate g c = rw (← c.self.view_is) c.in-Waiting.ensures.by_gate
+
+pub returns-else-waits-self-clause-by_gate : goal.returns-else-waits-self-clause-by_gate
+returns-else-waits-self-clause-by_gate g c = rw (← c.self.view_is) (inl c.in-Waiting.ensures.by_gate)
+
+pub returns-in-Refused-clause-by_gate : goal.returns-in-Refused-clause-by_gate
+returns-in-Refused-clause-by_gate g c = rw (← c.self.view_is) (inr (_, c.in-Refused.ensures.by_gate))
 
 pub invariant_of-self : goal.invariant_of-self
 invariant_of-self g c =

@@ -1,8 +1,33 @@
-use Rattle.std.proofs.Common.{◌≡◌, ◌<◌, ◌∙◌, length, refl, sym, arith, true, false}
-use Rattle.std.proofs.lemmas.Bool.{eqb-false}
+use Rattle.std.proofs.Common.{◌≡◌, ◌<◌, ◌∙◌, length, refl, sym, arith, inl, inr, true, false}
+use Rattle.std.proofs.lemmas.Bool.{eqb-false, eqb-true}
 use Rattle.rkt_stream.proofs.Chains.{first_gives, second_answers, turn_over}
 use Rattle.rkt_source.proofs.Sources.{Keeps-refl}
 use Rattle.rkt_stream.proofs.chain.ChainSource.poll_read.Goals as goal
+
+pub returns-then-is_empty-clause-polled : goal.returns-then-is_empty-clause-polled
+returns-then-is_empty-clause-polled g c = λ room. absurd (omega (arith, room, eqb-true (length c.args.buf.now) 0 (sym c.is_empty.ensures ∙ c.if-is_empty.true)))
+
+pub returns-then-self-clause-polled : goal.returns-then-self-clause-polled
+returns-then-self-clause-polled g c = λ room. rw (← c.self.view_is, c.if-self.true) (refl, c.poll_read.ensures.polled room)
+
+pub returns-in-Ready-Ok-clause-polled : goal.returns-in-Ready-Ok-clause-polled
+returns-in-Ready-Ok-clause-polled g c = λ room.
+    let read = rw c.in-Ready-Ok.field-0-is at c.in-Ready-Ok.ensures.polled in
+    rw (← c.self.view_is, c.if-self.false) (inl (refl, read room, λ e. let none : c.in-Ready-Ok.n ≡ 0 = cc in c.in-Ready-Ok.n-test.1 none))
+
+pub returns-in-Ready-Ok-eq0-clause-polled : goal.returns-in-Ready-Ok-eq0-clause-polled
+returns-in-Ready-Ok-eq0-clause-polled g c = λ room.
+    let h = c.in-Ready-Ok-eq0 in
+    let read = rw (h.field-0-is, h.field-0-0-test) at h.ensures.polled in
+    rw (← c.self.view_is, c.if-self.false) (inr (refl, read room, c.poll_read-in-Ready-Ok-eq0.ensures.polled (omega (arith, c.poll_read-2.auto.buf, room))))
+
+pub returns-in-Ready-Err-clause-polled : goal.returns-in-Ready-Err-clause-polled
+returns-in-Ready-Err-clause-polled g c = λ room.
+    let read = rw c.in-Ready-Err.field-0-is at c.in-Ready-Err.ensures.polled in
+    rw (← c.self.view_is, c.if-self.false) (inl (refl, read room, λ e. absurd (cc)))
+
+pub returns-in-Pending-clause-polled : goal.returns-in-Pending-clause-polled
+returns-in-Pending-clause-polled g c = λ room. rw (← c.self.view_is, c.if-self.false) (inl (refl, c.in-Pending.ensures.polled room, λ e. absurd (cc)))
 
 pub returns-then-self-clause-answer : goal.returns-then-self-clause-answer
 returns-then-self-clause-answer g c =

@@ -1,4 +1,5 @@
 use Rattle.std.proofs.Common.{ℕ, ◌+◌, Option, None, Some}
+use Rattle.rkt_stream.specs.Flow.{Asked}
 use Rattle.rkt_stream.proofs.Flats.{Moves}
 use Rattle.rkt_stream.proofs.stream.reader_stream.read_on.Given as goal
 
@@ -7,7 +8,10 @@ one_if_some None = 0
 one_if_some (Some x) = 1
 
 abbrev pub invariant-loop-item : goal.invariant-loop-item
-invariant-loop-item g l = Moves g.S.Stream.flow g.S.Item.Source.meaning g.S.Stream.may_give l.gate.tripped (record { stream = l.fn.stream; item = l.fn.item }) (record { stream = l.stream; item = l.item })
+invariant-loop-item g l = record {
+  moves : Moves g.S.Stream.flow g.S.Item.Source.meaning g.S.Stream.may_give l.gate.tripped (record { stream = l.fn.stream; item = l.fn.item }) (record { stream = l.stream; item = l.item });
+  asked : Asked g.S.Stream.polled l.gate l.fn.stream l.stream;
+}
 
 abbrev pub decreases-loop-item : goal.decreases-loop-item
 decreases-loop-item g l = (g.S.Stream.flow l.stream).left + (g.S.Stream.flow l.stream).left + one_if_some l.item

@@ -1,23 +1,23 @@
 use Rattle.std.proofs.Common.{◌≡◌, ◌∙◌, length, sym}
 use Rattle.std.proofs.lemmas.Bool.{eqb-true}
-use Rattle.rkt_stream.proofs.Joinings.{Parts-item, Parts-over}
+use Rattle.rkt_stream.proofs.Joinings.{AskedOf-refl, Parts-item, Parts-over}
 use Rattle.rkt_stream.proofs.stream_reader.StreamReader.fill.Goals as goal
 
 pub invariant_of-self-in-Pending : goal.invariant_of-self-in-Pending
 invariant_of-self-in-Pending g c = λ w e.
     let p = rw c.in-Some.is at c.self.invariant in
-    rw c.in-Pending.ensures.1 (p w e)
+    rw c.in-Pending.ensures.next.1 (p w e)
 
 pub invariant_of-self-in-Ready-None : goal.invariant_of-self-in-Ready-None
 invariant_of-self-in-Ready-None g c = λ w e.
     let p = rw c.in-Some.is at c.self.invariant in
-    let n = rw c.in-Ready-None.field-0-is at c.in-Ready-None.ensures in
+    let n = rw c.in-Ready-None.field-0-is at c.in-Ready-None.ensures.next in
     rw n.1 (p w e)
 
 pub invariant_of-self-in-Ready-Some : goal.invariant_of-self-in-Ready-Some
 invariant_of-self-in-Ready-Some g c = λ w e.
     let p = rw c.in-Some.is at c.self.invariant in
-    let n = rw c.in-Ready-Some.field-0-is at c.in-Ready-Some.ensures in
+    let n = rw c.in-Ready-Some.field-0-is at c.in-Ready-Some.ensures.next in
     let none : length c.self.inside.piece ≡ 0 = eqb-true (length c.self.inside.piece) 0 (sym c.is_empty.ensures ∙ c.if-not-is_empty.false) in
     rw c.new.ensures (Parts-item c.self.inside.piece c.in-Ready-Some.bytes.items none (p w e) n.2)
 
@@ -29,5 +29,17 @@ returns-in-None-clause-fills g c = λ none w e.
 pub returns-in-Ready-None-clause-fills : goal.returns-in-Ready-None-clause-fills
 returns-in-Ready-None-clause-fills g c = λ none w e.
     let p = rw c.in-Some.is at c.self.invariant in
-    let n = rw c.in-Ready-None.field-0-is at c.in-Ready-None.ensures in
+    let n = rw c.in-Ready-None.field-0-is at c.in-Ready-None.ensures.next in
     Parts-over c.self.inside.piece none n.2 (p w e)
+
+pub returns-then-not-is_empty-clause-asked : goal.returns-then-not-is_empty-clause-asked
+returns-then-not-is_empty-clause-asked g c = AskedOf-refl g.T.Stream.polled c.args.gate c.args.self.now.stream
+
+pub returns-in-Pending-clause-asked : goal.returns-in-Pending-clause-asked
+returns-in-Pending-clause-asked g c = rw (← c.self.view_is, c.in-Some.is) c.in-Pending.ensures.asked
+
+pub returns-in-Ready-None-clause-asked : goal.returns-in-Ready-None-clause-asked
+returns-in-Ready-None-clause-asked g c = rw (← c.self.view_is, c.in-Some.is) c.in-Ready-None.ensures.asked
+
+pub returns-in-Ready-Some-clause-asked : goal.returns-in-Ready-Some-clause-asked
+returns-in-Ready-Some-clause-asked g c = rw (← c.self.view_is, c.in-Some.is) c.in-Ready-Some.ensures.asked

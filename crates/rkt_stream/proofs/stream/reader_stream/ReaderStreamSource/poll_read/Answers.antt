@@ -1,9 +1,10 @@
-use Rattle.std.proofs.Common.{le_trans, rules}
-use Rattle.rkt_stream.proofs.Flats.{ReadsFlat-refl, split_more}
+use Rattle.std.proofs.Common.{◌∙◌, length, sym, arith, le_trans, rules}
+use Rattle.std.proofs.lemmas.Bool.{eqb-true}
+use Rattle.rkt_stream.proofs.Flats.{split_more}
 use Rattle.rkt_stream.proofs.stream.reader_stream.ReaderStreamSource.poll_read.Goals as goal
 
 pub returns-then-is_empty-clause-polled : goal.returns-then-is_empty-clause-polled
-returns-then-is_empty-clause-polled g c = ReadsFlat-refl g.S.Item.Source.meaning g.S.Item.Source.polled g.S.Stream.may_give c.args.gate c.args.self.now
+returns-then-is_empty-clause-polled g c = λ room. absurd (omega (arith, room, eqb-true (length c.args.buf.now) 0 (sym c.is_empty.ensures ∙ c.if-is_empty.true)))
 
 pub invariant_of-self-in-Ready-Ok : goal.invariant_of-self-in-Ready-Ok
 invariant_of-self-in-Ready-Ok g c =
