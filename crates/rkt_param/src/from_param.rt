@@ -17,8 +17,8 @@ pub trait FromParam: Sized {
     /// Why a text spells none.
     type Error: Drop;
 
-    /// What a text may give.
-    ghost reads: { List ℕ → Result Self Self.Error → Type 0 };
+    /// What a text may give: any value and any error, where nothing is said.
+    ghost reads: { List ℕ → Result Self Self.Error → Type 0 } = { λ _ _. Unit {0} };
 
     fn from_param(alloc: Global, param: &str) -> Result<Self, Want<Self::Error>>
         ensures { UnlessNoMemory (reads param.now) result };

@@ -13,8 +13,8 @@ pub trait FromSegments: Sized {
     /// Why segments spell none.
     type Error: Drop;
 
-    /// What segments may give.
-    ghost reads: { List (List ℕ) → Result Self Self.Error → Type 0 };
+    /// What segments may give: any value and any error, where nothing is said.
+    ghost reads: { List (List ℕ) → Result Self Self.Error → Type 0 } = { λ _ _. Unit {0} };
 
     fn from_segments(alloc: Global, segments: Segments<'_>) -> Result<Self, Want<Self::Error>>
         ensures { UnlessNoMemory (reads segments.entry) result };

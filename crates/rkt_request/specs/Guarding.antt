@@ -1,5 +1,5 @@
 -- What a data guard means, and what one poll of its reading answers.
-use Rattle.std.specs.Prelude.{⊤, ℕ, ◌+◌, ◌<◌, ◌++◌, ◌∷◌, [], List, Result, Ok, Err}
+use Rattle.std.specs.Prelude.{⊤, ℕ, ◌+◌, ◌<◌, ◌++◌, ◌∷◌, [], List, Option, Some, None, Result, Ok, Err}
 use Rattle.rkt_base.specs.declared.poll.Poll.{Poll}
 use Rattle.rkt_base.specs.declared.poll.Poll.TheVariants.{Ready, Pending}
 use Rattle.rkt_source.specs.declared.source.Gate.{Gate}
@@ -17,8 +17,17 @@ pub record Guarding (V B G E R : Type 0) : Type 1 where
   pub begun : Seen V → B → List Gate → ℕ → R → Type 0
   -- what may be answered in the end, polled under these Gates
   pub may : Seen V → B → List Gate → Guarded B G E → Type 0
-  -- how often a reading may be Pending
-  pub pendings : Seen V → B → ℕ
+  -- how often a reading may be Pending, where it tells that
+  pub pendings : Seen V → B → Option ℕ
+
+-- a guard that says nothing: it may answer anything, and be Pending however often
+abbrev pub any_guard : {V B G E R : Type 0} → Guarding V B G E R
+any_guard = record { begun = λ request body gates n reading. ⊤; may = λ request body gates outcome. ⊤; pendings = λ request body. None }
+
+-- one Pending more, behind n of them, is within the bound, where there is one
+abbrev pub IsWithin : Option ℕ → ℕ → Type 0
+IsWithin None n = ⊤
+IsWithin (Some most) n = n < most
 
 module _ {V B G E R : Type 0} (D : Guarding V B G E R) where
   -- a reading that may be polled
@@ -28,7 +37,7 @@ module _ {V B G E R : Type 0} (D : Guarding V B G E R) where
   -- the answer of the last of these polls, of a reading that was Pending n times before; nothing is told of one that
   -- found no memory
   abbrev pub AnswersData : {W : Type 0} → Seen V → B → List Gate → ℕ → Poll (Result (Guarded B G E) W) → R → Type 0
-  AnswersData request body gates n Pending reading = (n < D.pendings request body) × D.begun request body gates (n + 1) reading
+  AnswersData request body gates n Pending reading = IsWithin (D.pendings request body) n × D.begun request body gates (n + 1) reading
   AnswersData request body gates n (Ready (Ok outcome)) reading = D.may request body gates outcome
   AnswersData request body gates n (Ready (Err e)) reading = ⊤
 

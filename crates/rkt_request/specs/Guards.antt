@@ -1,11 +1,11 @@
 -- What the data guards of this crate answer.
-use Rattle.std.specs.Prelude.{◌≡◌, ◌≢◌, ℕ, ◌+◌, ◌-◌, ◌≤◌, ◌++◌, ◌∷◌, [], false, List, Option, Some, None, Result, Ok, Err, if◌then◌else◌, String, Vec, codes}
+use Rattle.std.specs.Prelude.{◌≡◌, ◌≢◌, ℕ, ◌+◌, ◌-◌, ◌≤◌, ◌++◌, ◌∷◌, [], false, List, Option, Some, None, Result, Ok, Err, if◌then◌else◌, String, string_bytes, Vec, codes}
 use Rattle.std.specs.Option.{option_map_or}
 use Rattle.std.specs.declared.alloc.Global.{Global}
 use Rattle.rkt_base.specs.declared.poll.Poll.{Poll}
-use Rattle.rkt_base.specs.declared.poll.Poll.TheVariants.{Ready}
-use Rattle.rkt_data.specs.Body.{Body}
-use Rattle.rkt_data.specs.Gathering.{Gathering, GathersBytes}
+use Rattle.rkt_base.specs.declared.poll.Poll.TheVariants.{Ready, Pending}
+use Rattle.rkt_data.specs.Body.{Body, opened_tap}
+use Rattle.rkt_data.specs.Gathering.{Gathering, GathersBytes, reads_end}
 use Rattle.rkt_source.specs.Source.{Meaning}
 use Rattle.rkt_data.specs.Stream.{Follows, PullsAtMost}
 use Rattle.rkt_data.specs.Text.{AnswersText}
@@ -15,6 +15,7 @@ use Rattle.rkt_data.specs.declared.data_stream.ByteUnit.{ByteUnit}
 use Rattle.rkt_data.specs.declared.error.DataError.{DataError}
 use Rattle.rkt_data.specs.declared.error.DataError.TheVariants.{NoMemory}
 use Rattle.rkt_source.specs.declared.source.Gate.{Gate}
+use Rattle.rkt_source.specs.declared.source.SourceError.{SourceError}
 use Rattle.rkt_http.specs.Outcome.{MatchOutcome, IsErrorAnd}
 use Rattle.rkt_http.specs.declared.outcome.Outcome.{Outcome}
 use Rattle.rkt_http.specs.declared.outcome.Outcome.TheVariants.{Success, Error, Forward}
@@ -24,6 +25,9 @@ use Rattle.rkt_config.specs.Limits.{IsLimitOf}
 use Rattle.rkt_request.specs.Seen.{Seen}
 use Rattle.rkt_request.specs.declared.from_data.GuardError.{GuardError}
 use Rattle.rkt_request.specs.declared.from_data.GuardError.TheVariants.{Io, LimitExceeded}
+use Rattle.rkt_request.specs.declared.from_text.Parsed.{Parsed}
+use Rattle.rkt_request.specs.declared.from_text.TextError.{TextError}
+use Rattle.rkt_request.specs.declared.from_text.TextError.TheVariants as text_error
 
 abbrev pub bad_request : Status
 bad_request = record { code = 400 }
@@ -32,6 +36,10 @@ bad_request = record { code = 400 }
 abbrev pub IsLimit : {V : Type 0} → List ℕ → ℕ → Seen V → ℕ → Type 0
 IsLimit name otherwise request limit = (found : Option ByteUnit) × IsLimitOf request.config.limits name found × (limit ≡ option_map_or (λ unit. unit.0) found otherwise)
 
+-- the source that a body is read from: none, where all that it has is held
+abbrev pub read_of : {S : Type 0} → Body S → Option (Tapped S)
+read_of body = opened_tap body.complete body.tap
+
 -- how many polls of a source were Pending, and how many may be
 abbrev pub pended : {S : Type 0} → (S → Meaning) → Option (Tapped S) → ℕ
 pended meaning tap = option_map_or (λ t. (meaning t.now).pended) tap 0
@@ -39,11 +47,11 @@ pended meaning tap = option_map_or (λ t. (meaning t.now).pended) tap 0
 abbrev pub pendings : {S : Type 0} → (S → Meaning) → Option (Tapped S) → ℕ
 pendings meaning tap = option_map_or (λ t. (meaning t.now).pendings) tap 0
 
-module _ {S : Type 0} (meaning : S → Meaning) (polled : S → Gate → S → Type 0) where
-  -- reads under each of these Gates in turn lead a body's source from the first to the second
+module _ {S : Type 0} (meaning : S → Meaning) (polled : S → Gate → Poll (Result ℕ SourceError) → S → Type 0) where
+  -- reads under each of these Gates in turn, the last of each Pending, lead a body's source from the first to the second
   abbrev pub Leads : List Gate → Option (Tapped S) → Option (Tapped S) → Type 0
   Leads [] t u = u ≡ t
-  Leads (gate ∷ gates) t u = (v : Option (Tapped S)) × SameTap meaning gate.tripped t v × ByGate polled gate t v × Leads gates v u
+  Leads (gate ∷ gates) t u = (v : Option (Tapped S)) × SameTap meaning gate.tripped t v × ByGate polled gate Pending t v × Leads gates v u
 
   -- a state gathers the whole body up to this limit; it was polled under these Gates, and the source was Pending n
   -- times at least
@@ -53,8 +61,8 @@ module _ {S : Type 0} (meaning : S → Meaning) (polled : S → Gate → S → T
     pub from : reading.from ≡ 0
     pub failed : reading.failed ≡ None
     pub done : reading.done ≡ false
-    pub source : Leads gates body.tap reading.stream.tap
-    pub waited : n + pended meaning body.tap ≤ pended meaning reading.stream.tap
+    pub source : Leads gates (read_of body) reading.stream.tap
+    pub waited : n + pended meaning (read_of body) ≤ pended meaning reading.stream.tap
     pub bound : PullsAtMost meaning reading.stream
 
   -- the last of these polls has given an answer, which is not want of memory, as such a state answers
@@ -66,7 +74,7 @@ module _ {S : Type 0} (meaning : S → Meaning) (polled : S → Gate → S → T
     pub after : Gathering S
     pub reading : IsReading most body earlier 0 before
     pub follows : Follows meaning last.tripped before.stream after.stream
-    pub by_gate : ByGate polled last before.stream.tap after.stream.tap
+    pub by_gate : ByGate polled last (reads_end (Ready answer)) before.stream.tap after.stream.tap
     pub bound : PullsAtMost meaning after.stream
     pub answers : Answers before after (Ready answer)
     pub cause : answer ≢ Err NoMemory
@@ -77,27 +85,31 @@ or_bad_request (Ok x) = Success x
 or_bad_request (Err e) = Error (bad_request, Io e)
 
 -- the guard that reads a body by such a state, up to the limit of a name
-abbrev pub capped_guard : {V S X : Type 0} → (S → Meaning) → (S → Gate → S → Type 0) → (Gathering S → Gathering S → Poll (Result X DataError) → Type 0) → List ℕ → ℕ → Guarding V (Body S) X GuardError (Gathering S)
+abbrev pub capped_guard : {V S X : Type 0} → (S → Meaning) → (S → Gate → Poll (Result ℕ SourceError) → S → Type 0) → (Gathering S → Gathering S → Poll (Result X DataError) → Type 0) → List ℕ → ℕ → Guarding V (Body S) X GuardError (Gathering S)
 capped_guard {V} {S} {X} meaning polled Answers name otherwise = record {
   begun = λ request body gates n reading. (limit : ℕ) × IsLimit name otherwise request limit × IsReading meaning polled limit body gates n reading;
   may = λ request body gates outcome. (limit : ℕ) × IsLimit name otherwise request limit × ((answer : Result X DataError) × Ends meaning polled Answers limit body gates answer × (outcome ≡ or_bad_request answer));
-  pendings = λ request body. pendings meaning body.tap - pended meaning body.tap;
+  pendings = λ request body. Some (pendings meaning (read_of body) - pended meaning (read_of body));
 }
 
 -- the guards of a text and of bytes
-abbrev pub text_guard : {V S : Type 0} → (S → Meaning) → (S → Gate → S → Type 0) → Guarding V (Body S) (Capped (String Global)) GuardError (Gathering S)
+abbrev pub text_guard : {V S : Type 0} → (S → Meaning) → (S → Gate → Poll (Result ℕ SourceError) → S → Type 0) → Guarding V (Body S) (Capped (String Global)) GuardError (Gathering S)
 text_guard meaning polled = capped_guard meaning polled (AnswersText meaning) (codes "string") 8192
 
-abbrev pub bytes_guard : {V S : Type 0} → (S → Meaning) → (S → Gate → S → Type 0) → Guarding V (Body S) (Capped (Vec ℕ Global)) GuardError (Gathering S)
+abbrev pub bytes_guard : {V S : Type 0} → (S → Meaning) → (S → Gate → Poll (Result ℕ SourceError) → S → Type 0) → Guarding V (Body S) (Capped (Vec ℕ Global)) GuardError (Gathering S)
 bytes_guard meaning polled = capped_guard meaning polled (GathersBytes meaning) (codes "bytes") 8192
 
--- the guard that answers what f makes of another guard's outcome
-abbrev pub guard_by : {V B G H D E R : Type 0} → (Guarded B G D → Guarded B H E) → Guarding V B G D R → Guarding V B H E R
-guard_by {V} {B} {G} {H} {D} {E} {R} f inner = record {
+-- the guard that answers what this makes of another guard's outcome
+abbrev pub guard_by : {V B G H D E R : Type 0} → (Guarded B G D → Guarded B H E → Type 0) → Guarding V B G D R → Guarding V B H E R
+guard_by {V} {B} {G} {H} {D} {E} {R} Makes inner = record {
   begun = inner.begun;
-  may = λ request body gates outcome. (answer : Guarded B G D) × inner.may request body gates answer × (outcome ≡ f answer);
+  may = λ request body gates outcome. (answer : Guarded B G D) × inner.may request body gates answer × Makes answer outcome;
   pendings = inner.pendings;
 }
+
+-- where that is a function
+abbrev pub guard_map : {V B G H D E R : Type 0} → (Guarded B G D → Guarded B H E) → Guarding V B G D R → Guarding V B H E R
+guard_map f inner = guard_by (λ answer outcome. outcome ≡ f answer) inner
 
 -- a value that is complete, and else an error with 400 that says how much was read
 abbrev pub strict : {X F : Type 0} → Outcome (Capped X) (Status × GuardError) F → Outcome X (Status × GuardError) F
@@ -124,10 +136,21 @@ kept_value (Success x) = Success (Some x)
 kept_value (Error e) = Success None
 kept_value (Forward f) = Success None
 
+-- the value that a text gives, or its error with 400
+abbrev pub value_or_refusal : {P E F : Type 0} → Result P E → Outcome (Parsed P) (Status × TextError E) F
+value_or_refusal (Ok x) = Success (record { 0 = x })
+value_or_refusal (Err e) = Error (bad_request, text_error.Text e)
+
+-- what is made of the outcome of a text that gives a value or an error by these readings
+abbrev pub ParsedAs : {P E F : Type 0} → (List ℕ → Result P E → Type 0) → Outcome (String Global) (Status × GuardError) F → Outcome (Parsed P) (Status × TextError E) F → Type 0
+ParsedAs {P} {E} {F} Reads (Success text) outcome = (answer : Result P E) × Reads (string_bytes text) answer × (outcome ≡ value_or_refusal answer)
+ParsedAs Reads (Error e) outcome = outcome ≡ Error (e.0, text_error.Body e.1)
+ParsedAs Reads (Forward f) outcome = outcome ≡ Forward f
+
 -- the body as it is, at once
 abbrev pub body_guard : {V B E : Type 0} → Guarding V B B E (Option B)
 body_guard = record {
   begun = λ request body gates n reading. reading ≡ Some body;
   may = λ request body gates outcome. outcome ≡ Success body;
-  pendings = λ request body. 0;
+  pendings = λ request body. Some 0;
 }

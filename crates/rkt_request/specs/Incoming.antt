@@ -6,7 +6,7 @@ use Rattle.rkt_cookie.specs.Cookie.{Parts}
 use Rattle.rkt_cookie.specs.Jar.{JarParts, with_cookie}
 use Rattle.rkt_cookie.specs.Reading.{Reads, is_semicolon}
 use Rattle.rkt_http.specs.Headers.{Field, Group, added, values_of}
-use Rattle.rkt_uri.specs.Host.{Authority, IsHost, authority_of}
+use Rattle.rkt_uri.specs.Host.{SpellsHost}
 use Rattle.rkt_http.specs.Method.{method_of}
 use Rattle.rkt_uri.specs.Origin.{Target, Spells}
 use Rattle.rkt_http.specs.declared.method.Method.{Method}
@@ -33,10 +33,6 @@ field_of header = record { name = header.0; value = header.1 }
 -- the headers whose value is UTF-8, added one by one
 abbrev pub headers_of : List (List ℕ × List ℕ) → List Group
 headers_of headers = fold added [] (map field_of (filter (λ header. is_utf8 header.1) headers))
-
--- a text spells this host
-abbrev pub SpellsHost : List ℕ → Authority → Type 0
-SpellsHost text host = IsHost text × (host ≡ authority_of text)
 
 -- the pieces of a Cookie header: cut at the semicolons, without the white space round them
 abbrev pub cookie_pieces : List ℕ → List (List ℕ)

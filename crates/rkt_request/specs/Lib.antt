@@ -1,5 +1,6 @@
 pub mod Seen
 pub mod Lent
+pub mod LentLaws
 pub mod Incoming
 pub mod RequestHeaders
 pub mod FromRequest

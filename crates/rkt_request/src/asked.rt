@@ -2,9 +2,10 @@
 ghost use Rattle.std.specs.Prelude.{◌≡◌, ◌∷◌, [], IfOk, OnOk, IsUtf8, MatchOption, codes, unwrap_or};
 ghost use Rattle.rkt_cookie.specs.Reading.{Reads};
 ghost use Rattle.rkt_http.specs.Headers.{values_of};
+ghost use Rattle.rkt_uri.specs.Host.{SpellsHost};
 ghost use Rattle.rkt_uri.specs.Origin.{Spells};
 ghost use Rattle.rkt_uri.specs.declared.origin_place.Profile.TheVariants.{Request as OfRequest};
-ghost use Rattle.rkt_request.specs.Incoming.{AddsCookies, IsJar, SpellsHost, cookie_pieces, faults_of, headers_of, root};
+ghost use Rattle.rkt_request.specs.Incoming.{AddsCookies, IsJar, cookie_pieces, faults_of, headers_of, root};
 ghost use Rattle.rkt_request.specs.Seen.{MaybeReadAs, ReadAs, first_value};
 
 use crate::bad::Bad;
@@ -115,7 +116,7 @@ fn add_cookie(alloc: Global, jar: &mut CookieJar, piece: &str) -> Result<(), NoM
     ensures { OnOk result (AddsCookies (piece.now ∷ []) jar.old jar.new) }
 {
     match read_cookie(alloc, piece)? {
-        Some(cookie) => jar.add_original(alloc, cookie),
+        Some(cookie) => jar.add_original(cookie),
         None => Ok(()),
     }
 }

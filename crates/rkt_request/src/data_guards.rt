@@ -1,6 +1,6 @@
 //! The data guards that every application has.
 ghost use Rattle.std.specs.Prelude.{◌≡◌, ◌≢◌, ◌↔◌, [], Err, MatchResult};
-ghost use Rattle.rkt_request.specs.Guards.{guard_by, body_guard, strict, kept_answer, kept_value, or_bad_request, ErrsWith400, ErrsOrIsCut};
+ghost use Rattle.rkt_request.specs.Guards.{guard_map, body_guard, strict, kept_answer, kept_value, or_bad_request, ErrsWith400, ErrsOrIsCut};
 
 mod bytes;
 mod text;
@@ -99,7 +99,7 @@ impl<T: Types, G: FromData<T>> FromData<T> for Result<G, G::Error> {
 
     type Reading = G::Reading;
 
-    ghost guarding = { guard_by kept_answer G.guarding };
+    ghost guarding = { guard_map kept_answer G.guarding };
 
     fn from_data(request: &Request<'_, T>, body: Body0<T>) -> G::Reading {
         G::from_data(request, body)
@@ -126,7 +126,7 @@ impl<T: Types, G: FromData<T>> FromData<T> for Option<G> {
 
     type Reading = G::Reading;
 
-    ghost guarding = { guard_by kept_value G.guarding };
+    ghost guarding = { guard_map kept_value G.guarding };
 
     fn from_data(request: &Request<'_, T>, body: Body0<T>) -> G::Reading {
         G::from_data(request, body)

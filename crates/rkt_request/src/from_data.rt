@@ -20,9 +20,12 @@ pub enum GuardError {
     LimitExceeded { written: u64 },
 }
 
+/// What a data guard answers: its value, an error with a status, or the body `B`, left to another route with a status.
+pub type DataOutcome<G, E, B> = Outcome<G, (Status, E), (B, Status)>;
+
 /// A value that is read from the body of a request.
 pub trait FromData<T: HasBody>: Sized {
-    ghost use Rattle.rkt_request.specs.Guarding.{Guarding, CanRead, ReadsOn};
+    ghost use Rattle.rkt_request.specs.Guarding.{Guarding, CanRead, ReadsOn, any_guard};
 
     /// Why a body gives none.
     type Error: Drop;
@@ -30,8 +33,8 @@ pub trait FromData<T: HasBody>: Sized {
     /// How far the reading has come. One that has answered Ready is not polled again.
     type Reading: Drop;
 
-    /// What contracts see of the guard.
-    ghost guarding: { Guarding T.Value T.Body Self Self.Error Self.Reading };
+    /// What contracts see of the guard: nothing, where it says nothing.
+    ghost guarding: { Guarding T.Value T.Body Self Self.Error Self.Reading } = { any_guard };
 
     fn from_data(request: &Request<'_, T>, body: T::Body) -> Self::Reading
         ensures { guarding.begun request.now body [] 0 result };

@@ -10,7 +10,7 @@ mod copied;
 mod wrapped;
 
 use crate::ctx::Ctx;
-use crate::from_request::FromRequest;
+use crate::from_request::{FromRequest, GuardOutcome};
 use crate::head::Mounted;
 use crate::request::Request;
 use crate::types::Types;
@@ -30,7 +30,7 @@ impl<'a, T: Types> FromRequest<Request<'a, T>, Ctx<T>> for Method {
         _alloc: Global,
         request: &Request<'a, T>,
         _ctx: &mut Ctx<T>,
-    ) -> Result<Outcome<Method, (Status, Infallible), Status>, NoMemory> {
+    ) -> Result<GuardOutcome<Method, Infallible>, NoMemory> {
         Ok(Outcome::Success(request.method()))
     }
 }
@@ -44,7 +44,7 @@ impl<'a, T: Types> FromRequest<Request<'a, T>, Ctx<T>> for Mounted {
         _alloc: Global,
         request: &Request<'a, T>,
         _ctx: &mut Ctx<T>,
-    ) -> Result<Outcome<Mounted, (Status, Infallible), Status>, NoMemory> {
+    ) -> Result<GuardOutcome<Mounted, Infallible>, NoMemory> {
         match request.route() {
             Some(route) => Ok(Outcome::Success(route)),
             None => Ok(Outcome::Forward(Status::InternalServerError)),
@@ -61,7 +61,7 @@ impl<'a, T: Types> FromRequest<Request<'a, T>, Ctx<T>> for SocketAddr {
         _alloc: Global,
         request: &Request<'a, T>,
         _ctx: &mut Ctx<T>,
-    ) -> Result<Outcome<SocketAddr, (Status, Infallible), Status>, NoMemory> {
+    ) -> Result<GuardOutcome<SocketAddr, Infallible>, NoMemory> {
         match request.remote() {
             Some(address) => Ok(Outcome::Success(address)),
             None => Ok(Outcome::Forward(Status::InternalServerError)),
@@ -78,7 +78,7 @@ impl<'a, T: Types> FromRequest<Request<'a, T>, Ctx<T>> for IpAddr {
         _alloc: Global,
         request: &Request<'a, T>,
         _ctx: &mut Ctx<T>,
-    ) -> Result<Outcome<IpAddr, (Status, Infallible), Status>, NoMemory> {
+    ) -> Result<GuardOutcome<IpAddr, Infallible>, NoMemory> {
         match request.client_ip() {
             Some(address) => Ok(Outcome::Success(address)),
             None => Ok(Outcome::Forward(Status::InternalServerError)),
@@ -96,7 +96,7 @@ impl<'a, T: Types, const KEY: u32> FromRequest<Request<'a, T>, Ctx<T>>
         _alloc: Global,
         request: &Request<'a, T>,
         _ctx: &mut Ctx<T>,
-    ) -> Result<Outcome<State<'a, T::Value, KEY>, (Status, ()), Status>, NoMemory> {
+    ) -> Result<GuardOutcome<State<'a, T::Value, KEY>, ()>, NoMemory> {
         match State::get(request.managed()) {
             Some(state) => Ok(Outcome::Success(state)),
             None => Ok(Outcome::Error((Status::InternalServerError, ()))),

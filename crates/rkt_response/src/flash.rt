@@ -6,11 +6,9 @@ ghost use Rattle.rkt_cookie.specs.Jar.{addition};
 ghost use Rattle.rkt_cookie.specs.Reading.{first_piece};
 ghost use Rattle.rkt_response.specs.Flash.{ReadsFlash, SaysFlash, flash_cookie, flash_name, flash_text, flashing, with_flash};
 
-use crate::responder::Responder;
-use rkt_base::{NoMemory, Text, Want};
+use crate::responder::{Responder, ResponseResult};
+use rkt_base::{NoMemory, Text};
 use rkt_cookie::{Cookie, CookieJar};
-use rkt_http::Status;
-use rkt_message::Response;
 use rkt_request::{Ctx, Request, Types};
 use std::alloc::Global;
 use std::marker::Model;
@@ -108,7 +106,7 @@ impl<R: Drop> Flash<R> {
         ensures err { OnErr result (jar.new ≡ jar.old) }
     {
         let cookie = self.cookie(alloc)?;
-        jar.add(alloc, cookie)
+        jar.add(cookie)
     }
 
     /// The responder.
@@ -130,7 +128,7 @@ impl<T: Types, R: Responder<T> + Drop> Responder<T> for Flash<R> {
         alloc: Global,
         request: &Request<'_, T>,
         ctx: &mut Ctx<T>,
-    ) -> Result<Response<T::Stream>, Want<Status>> {
+    ) -> ResponseResult<T::Stream> {
         self.add_to(alloc, ctx.cookies_mut())?;
         self.into_inner().respond_to(alloc, request, ctx)
     }

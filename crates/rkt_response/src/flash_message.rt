@@ -7,7 +7,7 @@ use crate::flash::NAME;
 use rkt_base::{NoMemory, Text};
 use rkt_cookie::{Cookie, CookieJar};
 use rkt_http::{Outcome, Status};
-use rkt_request::{Ctx, FromRequest, Request, Types};
+use rkt_request::{Ctx, FromRequest, GuardOutcome, Request, Types};
 use std::alloc::Global;
 use std::marker::Model;
 
@@ -67,7 +67,7 @@ impl FlashMessage {
     {
         if !self.removed {
             let cookie = Cookie::new(alloc, NAME, "")?;
-            jar.remove(alloc, cookie)?;
+            jar.remove(cookie)?;
             self.removed = true;
         }
         Ok(())
@@ -118,7 +118,7 @@ impl<'a, T: Types> FromRequest<Request<'a, T>, Ctx<T>> for FlashMessage {
         alloc: Global,
         _request: &Request<'a, T>,
         ctx: &mut Ctx<T>,
-    ) -> Result<Outcome<FlashMessage, (Status, ()), Status>, NoMemory> {
+    ) -> Result<GuardOutcome<FlashMessage, ()>, NoMemory> {
         match FlashMessage::read(alloc, ctx.cookies())? {
             Some(message) => Ok(Outcome::Success(message)),
             None => Ok(Outcome::Error((Status::BadRequest, ()))),

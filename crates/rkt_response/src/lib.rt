@@ -7,5 +7,5 @@ pub mod responder;
 
 pub use flash::Flash;
 pub use flash_message::FlashMessage;
-pub use responder::{Debug, Redirect, Responder};
+pub use responder::{Debug, Redirect, Responder, ResponseResult};
 pub use rkt_message::{Body, Builder, Piece, PieceError, Pieces, Response, ToBytes, ToString};

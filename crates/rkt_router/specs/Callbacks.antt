@@ -1,15 +1,13 @@
 -- What handlers and catchers are handed, what they answer, and the laws that they keep.
 use Rattle.std.specs.Prelude.{◌≡◌, ℕ, List, Option, Ok, Err, ⊤}
 use Rattle.rkt_source.specs.declared.source.Gate.{Gate}
-use Rattle.rkt_grammar.specs.Grammar.{IsFrontOf}
 use Rattle.rkt_http.specs.declared.outcome.Outcome.{Outcome}
 use Rattle.rkt_http.specs.declared.outcome.Outcome.TheVariants.{Success, Error, Forward}
 use Rattle.rkt_http.specs.declared.status.Status.{Status}
-use Rattle.rkt_request.specs.Lent.{Kept}
+use Rattle.rkt_request.specs.Lent.{Kept, Grows}
 use Rattle.rkt_request.specs.Seen.{Seen}
 use Rattle.rkt_response.specs.Responder.{Answer}
 use Rattle.rkt_message.specs.Response.{ResponseOf}
-use Rattle.rkt_turn.specs.HandsBack.{HandsBack}
 use Rattle.rkt_router.specs.Calling.{Calling}
 
 -- what a handler is handed; V is the type of managed values, B that of bodies
@@ -26,15 +24,6 @@ Reply R B = Outcome (ResponseOf R) Status (B × Status)
 pub record Refused (V : Type 0) : Type 0 where
   pub status : Status
   pub request : Seen V
-
--- what a callback may do to what it is lent: originals and floor stay, the log and the cache grow, and the handle stays one
--- of its wire; C is the type of cached values
-pub record Grows {C : Type 0} (before after : Kept C) : Type 0 where
-  pub originals : after.jar.originals ≡ before.jar.originals
-  pub floor : after.jar.floor ≡ before.jar.floor
-  pub log : IsFrontOf before.jar.log after.jar.log
-  pub cache : IsFrontOf before.cache after.cache
-  pub shutdown : HandsBack before.shutdown after.shutdown
 
 -- a Forward gives back a body with the same bytes, where they are told
 abbrev pub GivesBack : {R B : Type 0} → (B → Option (List ℕ)) → B → Reply R B → Type 0

@@ -3,7 +3,8 @@ use Rattle.std.specs.Prelude.{◌≡◌, ℕ, List, Option, ⊤}
 use Rattle.rkt_http.specs.declared.outcome.Outcome.TheVariants.{Success}
 use Rattle.rkt_request.specs.Lent.{Kept}
 use Rattle.rkt_message.specs.Response.{empty_response}
-use Rattle.rkt_router.specs.CallbackLaws.{at_once_keeps, grows_same}
+use Rattle.rkt_router.specs.CallbackLaws.{at_once_keeps}
+use Rattle.rkt_request.specs.LentLaws.{grows_same}
 use Rattle.rkt_router.specs.Callbacks.{Handed, KeepsHandler, Reply, at_once}
 use Rattle.rkt_router.specs.Calling.{Calling}
 use Rattle.rkt_router.specs.declared.dummy.Dummy.{Dummy}

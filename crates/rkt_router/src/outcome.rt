@@ -1,5 +1,6 @@
 //! What a handler answers, made of what a responder does.
 ghost use Rattle.std.specs.Prelude.{◌≡◌, IfOk, OnErr, Ok, Err};
+ghost use Rattle.rkt_request.specs.Lent.{MayGrow};
 ghost use Rattle.rkt_router.specs.Callbacks.{MadeBy};
 
 use rkt_base::{NoMemory, Want};
@@ -20,6 +21,7 @@ pub fn from<T: Types, R: Responder<T>>(
 ) -> Result<RouteOutcome<T>, NoMemory>
     ensures answers { IfOk result (λ reply. MadeBy (λ answer. R.may responder request.now ctx.old answer ctx.new) reply) }
     ensures starves { OnErr result (R.starves responder request.now ctx.old ctx.new) }
+    ensures grows { MayGrow ctx.old ctx.new }
 {
     match responder.respond_to(alloc, request, ctx) {
         Ok(response) => Ok(Outcome::Success(response)),
@@ -39,6 +41,7 @@ pub fn try_from<T: Types, R: Responder<T> + Drop, E: Drop>(
         → IfOk result (λ reply. MadeBy (λ given. R.may responder request.now ctx.old given ctx.new) reply) }
     ensures none { (e : E) → value ≡ Err e
         → (result ≡ Ok (Outcome.Error record { code = 500 })) × (ctx.new ≡ ctx.old) }
+    ensures grows { MayGrow ctx.old ctx.new }
 {
     match value {
         Ok(responder) => from(alloc, request, ctx, responder),

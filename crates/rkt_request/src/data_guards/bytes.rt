@@ -1,5 +1,5 @@
 //! The bytes of a body.
-ghost use Rattle.rkt_request.specs.Guards.{bytes_guard, guard_by, strict};
+ghost use Rattle.rkt_request.specs.Guards.{bytes_guard, guard_map, strict};
 
 use super::{or_bad_request, strict};
 use crate::from_data::{FromData, GuardError};
@@ -44,7 +44,7 @@ impl<T: Types> FromData<T> for Vec<u8> {
 
     type Reading = IntoBytes<CancellableIo<T::Source>>;
 
-    ghost guarding = { guard_by strict ⟦<Capped<Vec<u8>> as FromData<T>>⟧.guarding };
+    ghost guarding = { guard_map strict ⟦<Capped<Vec<u8>> as FromData<T>>⟧.guarding };
 
     fn from_data(request: &Request<'_, T>, body: Body0<T>) -> IntoBytes<CancellableIo<T::Source>> {
         <Capped<Vec<u8>> as FromData<T>>::from_data(request, body)

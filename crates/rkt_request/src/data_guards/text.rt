@@ -1,5 +1,5 @@
 //! The text of a body.
-ghost use Rattle.rkt_request.specs.Guards.{text_guard, guard_by, strict};
+ghost use Rattle.rkt_request.specs.Guards.{text_guard, guard_map, strict};
 
 use super::{or_bad_request, strict};
 use crate::from_data::{FromData, GuardError};
@@ -42,7 +42,7 @@ impl<T: Types> FromData<T> for String {
 
     type Reading = IntoString<CancellableIo<T::Source>>;
 
-    ghost guarding = { guard_by strict ⟦<Capped<String> as FromData<T>>⟧.guarding };
+    ghost guarding = { guard_map strict ⟦<Capped<String> as FromData<T>>⟧.guarding };
 
     fn from_data(request: &Request<'_, T>, body: Body0<T>) -> IntoString<CancellableIo<T::Source>> {
         <Capped<String> as FromData<T>>::from_data(request, body)

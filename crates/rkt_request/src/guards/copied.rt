@@ -7,7 +7,7 @@ ghost use Rattle.rkt_request.specs.FromRequest.{Answers, or_forward};
 ghost use Rattle.rkt_request.specs.Seen.{IsAccept, IsContentType};
 
 use crate::ctx::Ctx;
-use crate::from_request::FromRequest;
+use crate::from_request::{FromRequest, GuardOutcome};
 use crate::request::Request;
 use crate::types::Types;
 use rkt_base::NoMemory;
@@ -25,7 +25,7 @@ impl<'a, T: Types> FromRequest<Request<'a, T>, Ctx<T>> for Origin {
         alloc: Global,
         request: &Request<'a, T>,
         _ctx: &mut Ctx<T>,
-    ) -> Result<Outcome<Origin, (Status, Infallible), Status>, NoMemory> {
+    ) -> Result<GuardOutcome<Origin, Infallible>, NoMemory> {
         Ok(Outcome::Success(request.uri().try_clone(alloc)?))
     }
 }
@@ -39,7 +39,7 @@ impl<'a, T: Types> FromRequest<Request<'a, T>, Ctx<T>> for Limits {
         _alloc: Global,
         request: &Request<'a, T>,
         _ctx: &mut Ctx<T>,
-    ) -> Result<Outcome<Limits, (Status, Infallible), Status>, NoMemory> {
+    ) -> Result<GuardOutcome<Limits, Infallible>, NoMemory> {
         Ok(Outcome::Success(request.limits().try_clone()?))
     }
 }
@@ -53,7 +53,7 @@ impl<'a, T: Types> FromRequest<Request<'a, T>, Ctx<T>> for Host {
         alloc: Global,
         request: &Request<'a, T>,
         _ctx: &mut Ctx<T>,
-    ) -> Result<Outcome<Host, (Status, Infallible), Status>, NoMemory> {
+    ) -> Result<GuardOutcome<Host, Infallible>, NoMemory> {
         match request.host() {
             Some(host) => Ok(Outcome::Success(host.try_clone(alloc)?)),
             None => Ok(Outcome::Forward(Status::InternalServerError)),
@@ -71,7 +71,7 @@ impl<'a, T: Types> FromRequest<Request<'a, T>, Ctx<T>> for ContentType {
         alloc: Global,
         request: &Request<'a, T>,
         _ctx: &mut Ctx<T>,
-    ) -> Result<Outcome<ContentType, (Status, Infallible), Status>, NoMemory> {
+    ) -> Result<GuardOutcome<ContentType, Infallible>, NoMemory> {
         match request.content_type() {
             Some(content_type) => Ok(Outcome::Success(content_type.try_clone(alloc)?)),
             None => Ok(Outcome::Forward(Status::InternalServerError)),
@@ -89,7 +89,7 @@ impl<'a, T: Types> FromRequest<Request<'a, T>, Ctx<T>> for Accept {
         alloc: Global,
         request: &Request<'a, T>,
         _ctx: &mut Ctx<T>,
-    ) -> Result<Outcome<Accept, (Status, Infallible), Status>, NoMemory> {
+    ) -> Result<GuardOutcome<Accept, Infallible>, NoMemory> {
         match request.accept() {
             Some(accept) => Ok(Outcome::Success(accept.try_clone(alloc)?)),
             None => Ok(Outcome::Forward(Status::InternalServerError)),

@@ -4,11 +4,9 @@ ghost use Rattle.rkt_media.specs.Media.{known_text, media_text};
 ghost use Rattle.rkt_media.specs.declared.known.Known.TheVariants.{JSON, XML, MsgPack, HTML, Text, CSS, JavaScript};
 ghost use Rattle.rkt_response.specs.Responder.{Changes, StarvesWithin, with_type};
 
-use crate::responder::Responder;
+use crate::responder::{Responder, ResponseResult};
 use crate::responder::making::with_known;
-use rkt_base::Want;
-use rkt_http::{ContentType, Known, Status};
-use rkt_message::Response;
+use rkt_http::{ContentType, Known};
 use rkt_request::{Ctx, Request, Types};
 use std::alloc::Global;
 
@@ -22,7 +20,7 @@ impl<T: Types, R: Responder<T>> Responder<T> for (ContentType, R) {
         alloc: Global,
         request: &Request<'_, T>,
         ctx: &mut Ctx<T>,
-    ) -> Result<Response<T::Stream>, Want<Status>> {
+    ) -> ResponseResult<T::Stream> {
         let (content_type, responder) = self;
         let mut response = responder.respond_to(alloc, request, ctx)?;
         response.set_header(content_type.header(alloc)?)?;
@@ -44,7 +42,7 @@ impl<T: Types, R: Responder<T>> Responder<T> for RawJson<R> {
         alloc: Global,
         request: &Request<'_, T>,
         ctx: &mut Ctx<T>,
-    ) -> Result<Response<T::Stream>, Want<Status>> {
+    ) -> ResponseResult<T::Stream> {
         with_known(Known::JSON, self.0, alloc, request, ctx)
     }
 }
@@ -63,7 +61,7 @@ impl<T: Types, R: Responder<T>> Responder<T> for RawXml<R> {
         alloc: Global,
         request: &Request<'_, T>,
         ctx: &mut Ctx<T>,
-    ) -> Result<Response<T::Stream>, Want<Status>> {
+    ) -> ResponseResult<T::Stream> {
         with_known(Known::XML, self.0, alloc, request, ctx)
     }
 }
@@ -82,7 +80,7 @@ impl<T: Types, R: Responder<T>> Responder<T> for RawMsgPack<R> {
         alloc: Global,
         request: &Request<'_, T>,
         ctx: &mut Ctx<T>,
-    ) -> Result<Response<T::Stream>, Want<Status>> {
+    ) -> ResponseResult<T::Stream> {
         with_known(Known::MsgPack, self.0, alloc, request, ctx)
     }
 }
@@ -101,7 +99,7 @@ impl<T: Types, R: Responder<T>> Responder<T> for RawHtml<R> {
         alloc: Global,
         request: &Request<'_, T>,
         ctx: &mut Ctx<T>,
-    ) -> Result<Response<T::Stream>, Want<Status>> {
+    ) -> ResponseResult<T::Stream> {
         with_known(Known::HTML, self.0, alloc, request, ctx)
     }
 }
@@ -120,7 +118,7 @@ impl<T: Types, R: Responder<T>> Responder<T> for RawText<R> {
         alloc: Global,
         request: &Request<'_, T>,
         ctx: &mut Ctx<T>,
-    ) -> Result<Response<T::Stream>, Want<Status>> {
+    ) -> ResponseResult<T::Stream> {
         with_known(Known::Text, self.0, alloc, request, ctx)
     }
 }
@@ -139,7 +137,7 @@ impl<T: Types, R: Responder<T>> Responder<T> for RawCss<R> {
         alloc: Global,
         request: &Request<'_, T>,
         ctx: &mut Ctx<T>,
-    ) -> Result<Response<T::Stream>, Want<Status>> {
+    ) -> ResponseResult<T::Stream> {
         with_known(Known::CSS, self.0, alloc, request, ctx)
     }
 }
@@ -158,7 +156,7 @@ impl<T: Types, R: Responder<T>> Responder<T> for RawJavaScript<R> {
         alloc: Global,
         request: &Request<'_, T>,
         ctx: &mut Ctx<T>,
-    ) -> Result<Response<T::Stream>, Want<Status>> {
+    ) -> ResponseResult<T::Stream> {
         with_known(Known::JavaScript, self.0, alloc, request, ctx)
     }
 }

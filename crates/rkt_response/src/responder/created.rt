@@ -4,8 +4,8 @@ ghost use Rattle.rkt_request.specs.FromRequest.{Answers};
 ghost use Rattle.rkt_message.specs.Response.{empty_response};
 ghost use Rattle.rkt_response.specs.Responder.{Changes, StarvesWithin, created_at};
 
-use crate::responder::Responder;
-use rkt_base::{NoMemory, Text, Want};
+use crate::responder::{Responder, ResponseResult};
+use rkt_base::{NoMemory, Text};
 use rkt_data::Source;
 use rkt_http::Status;
 use rkt_message::Response;
@@ -77,7 +77,7 @@ impl<T: Types, R: Responder<T>> Responder<T> for Created<R> {
         alloc: Global,
         request: &Request<'_, T>,
         ctx: &mut Ctx<T>,
-    ) -> Result<Response<T::Stream>, Want<Status>> {
+    ) -> ResponseResult<T::Stream> {
         let Created {
             location,
             responder,

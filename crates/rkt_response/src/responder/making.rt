@@ -1,10 +1,11 @@
 //! The responses that several responders answer.
 ghost use Rattle.std.specs.Prelude.{◌≡◌, IfOk};
 ghost use Rattle.rkt_media.specs.Media.{known_text};
+ghost use Rattle.rkt_request.specs.Lent.{MayGrow};
 ghost use Rattle.rkt_response.specs.Responder.{Changes, IfAnswered, IfStarved, StarvesWithin, streamed, typed_bytes, with_status, with_type};
 
-use crate::responder::Responder;
-use rkt_base::{NoMemory, Want};
+use crate::responder::{Responder, ResponseResult};
+use rkt_base::NoMemory;
 use rkt_data::Source;
 use rkt_http::{ContentType, Known, Status};
 use rkt_message::Response;
@@ -20,7 +21,7 @@ pub fn typed_bytes<S: Source>(
     ensures { IfOk result (λ response. response ≡ typed_bytes (known_text known) bytes.items) }
 {
     let mut response = Response::new(alloc);
-    response.set_header(ContentType::known(alloc, known)?.header(alloc)?)?;
+    response.set_header(ContentType::known_header(alloc, known)?)?;
     let size = bytes.len();
     response.set_sized_body(Some(size), bytes);
     Ok(response)
@@ -33,9 +34,10 @@ pub fn with_status<T: Types, R: Responder<T>>(
     alloc: Global,
     request: &Request<'_, T>,
     ctx: &mut Ctx<T>,
-) -> Result<Response<T::Stream>, Want<Status>>
+) -> ResponseResult<T::Stream>
     ensures answers { IfAnswered result (λ answer. Changes (with_status status.code) (R.may responder request.now ctx.old) answer ctx.new) }
     ensures starves { IfStarved result (R.starves responder request.now ctx.old ctx.new) }
+    ensures grows { MayGrow ctx.old ctx.new }
 {
     let mut response = responder.respond_to(alloc, request, ctx)?;
     response.set_status(status);
@@ -49,12 +51,13 @@ pub fn with_known<T: Types, R: Responder<T>>(
     alloc: Global,
     request: &Request<'_, T>,
     ctx: &mut Ctx<T>,
-) -> Result<Response<T::Stream>, Want<Status>>
+) -> ResponseResult<T::Stream>
     ensures answers { IfAnswered result (λ answer. Changes (with_type (known_text known)) (R.may responder request.now ctx.old) answer ctx.new) }
     ensures starves { IfStarved result (StarvesWithin (R.may responder request.now ctx.old) (R.starves responder request.now ctx.old) ctx.new) }
+    ensures grows { MayGrow ctx.old ctx.new }
 {
     let mut response = responder.respond_to(alloc, request, ctx)?;
-    response.set_header(ContentType::known(alloc, known)?.header(alloc)?)?;
+    response.set_header(ContentType::known_header(alloc, known)?)?;
     Ok(response)
 }
 
@@ -67,7 +70,7 @@ pub fn typed_stream<S: Source>(
     ensures { IfOk result (λ response. response ≡ with_type (known_text known) (streamed stream)) }
 {
     let mut response = Response::new(alloc);
-    response.set_header(ContentType::known(alloc, known)?.header(alloc)?)?;
+    response.set_header(ContentType::known_header(alloc, known)?)?;
     response.set_streamed_body(stream);
     Ok(response)
 }

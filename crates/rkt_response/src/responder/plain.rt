@@ -4,7 +4,7 @@ ghost use Rattle.rkt_request.specs.FromRequest.{Answers};
 ghost use Rattle.rkt_message.specs.Response.{empty_response};
 ghost use Rattle.rkt_response.specs.Responder.{answer_of_status, refusal};
 
-use crate::responder::Responder;
+use crate::responder::{Responder, ResponseResult};
 use rkt_base::Want;
 use rkt_data::SourceError;
 use rkt_http::Status;
@@ -20,7 +20,7 @@ impl<T: Types> Responder<T> for () {
         alloc: Global,
         _request: &Request<'_, T>,
         _ctx: &mut Ctx<T>,
-    ) -> Result<Response<T::Stream>, Want<Status>> {
+    ) -> ResponseResult<T::Stream> {
         Ok(Response::new(alloc))
     }
 }
@@ -33,7 +33,7 @@ impl<T: Types> Responder<T> for Status {
         alloc: Global,
         _request: &Request<'_, T>,
         _ctx: &mut Ctx<T>,
-    ) -> Result<Response<T::Stream>, Want<Status>> {
+    ) -> ResponseResult<T::Stream> {
         match self.code {
             100 | 200..=205 => {
                 let mut response = Response::new(alloc);
@@ -54,7 +54,7 @@ impl<T: Types> Responder<T> for SourceError {
         _alloc: Global,
         _request: &Request<'_, T>,
         _ctx: &mut Ctx<T>,
-    ) -> Result<Response<T::Stream>, Want<Status>> {
+    ) -> ResponseResult<T::Stream> {
         Err(Want::Refused(Status::InternalServerError))
     }
 }
@@ -79,7 +79,7 @@ impl<T: Types, E: Drop> Responder<T> for Debug<E> {
         _alloc: Global,
         _request: &Request<'_, T>,
         _ctx: &mut Ctx<T>,
-    ) -> Result<Response<T::Stream>, Want<Status>> {
+    ) -> ResponseResult<T::Stream> {
         Err(Want::Refused(Status::InternalServerError))
     }
 }

@@ -3,7 +3,7 @@ ghost use Rattle.rkt_uri.specs.Reference.{IsReference};
 ghost use Rattle.rkt_request.specs.FromRequest.{Answers};
 ghost use Rattle.rkt_response.specs.Responder.{answer_of_redirect};
 
-use crate::responder::Responder;
+use crate::responder::{Responder, ResponseResult};
 use rkt_base::{NoMemory, Want};
 use rkt_http::{Reference, Status};
 use rkt_message::Response;
@@ -90,7 +90,7 @@ impl<T: Types> Responder<T> for Redirect {
         alloc: Global,
         _request: &Request<'_, T>,
         _ctx: &mut Ctx<T>,
-    ) -> Result<Response<T::Stream>, Want<Status>> {
+    ) -> ResponseResult<T::Stream> {
         let Redirect { status, uri } = self;
         let Some(uri) = uri else {
             return Err(Want::Refused(Status::InternalServerError));

@@ -3,10 +3,9 @@ ghost use Rattle.std.specs.Prelude.{◌≡◌, Ok};
 ghost use Rattle.rkt_request.specs.FromRequest.{Answers};
 ghost use Rattle.rkt_response.specs.Responder.{Changes, status_alone, with_status};
 
-use crate::responder::Responder;
+use crate::responder::{Responder, ResponseResult};
 pub use crate::responder::created::Created;
 use crate::responder::making::with_status;
-use rkt_base::Want;
 use rkt_http::Status;
 use rkt_message::Response;
 use rkt_request::{Ctx, Request, Types};
@@ -22,7 +21,7 @@ impl<T: Types, R: Responder<T>> Responder<T> for (Status, R) {
         alloc: Global,
         request: &Request<'_, T>,
         ctx: &mut Ctx<T>,
-    ) -> Result<Response<T::Stream>, Want<Status>> {
+    ) -> ResponseResult<T::Stream> {
         with_status(self.0, self.1, alloc, request, ctx)
     }
 }
@@ -41,7 +40,7 @@ impl<T: Types, R: Responder<T>> Responder<T> for Custom<R> {
         alloc: Global,
         request: &Request<'_, T>,
         ctx: &mut Ctx<T>,
-    ) -> Result<Response<T::Stream>, Want<Status>> {
+    ) -> ResponseResult<T::Stream> {
         with_status(self.0, self.1, alloc, request, ctx)
     }
 }
@@ -60,7 +59,7 @@ impl<T: Types, R: Responder<T>> Responder<T> for Accepted<R> {
         alloc: Global,
         request: &Request<'_, T>,
         ctx: &mut Ctx<T>,
-    ) -> Result<Response<T::Stream>, Want<Status>> {
+    ) -> ResponseResult<T::Stream> {
         with_status(Status::Accepted, self.0, alloc, request, ctx)
     }
 }
@@ -79,7 +78,7 @@ impl<T: Types, R: Responder<T>> Responder<T> for BadRequest<R> {
         alloc: Global,
         request: &Request<'_, T>,
         ctx: &mut Ctx<T>,
-    ) -> Result<Response<T::Stream>, Want<Status>> {
+    ) -> ResponseResult<T::Stream> {
         with_status(Status::BadRequest, self.0, alloc, request, ctx)
     }
 }
@@ -98,7 +97,7 @@ impl<T: Types, R: Responder<T>> Responder<T> for Unauthorized<R> {
         alloc: Global,
         request: &Request<'_, T>,
         ctx: &mut Ctx<T>,
-    ) -> Result<Response<T::Stream>, Want<Status>> {
+    ) -> ResponseResult<T::Stream> {
         with_status(Status::Unauthorized, self.0, alloc, request, ctx)
     }
 }
@@ -117,7 +116,7 @@ impl<T: Types, R: Responder<T>> Responder<T> for Forbidden<R> {
         alloc: Global,
         request: &Request<'_, T>,
         ctx: &mut Ctx<T>,
-    ) -> Result<Response<T::Stream>, Want<Status>> {
+    ) -> ResponseResult<T::Stream> {
         with_status(Status::Forbidden, self.0, alloc, request, ctx)
     }
 }
@@ -136,7 +135,7 @@ impl<T: Types, R: Responder<T>> Responder<T> for NotFound<R> {
         alloc: Global,
         request: &Request<'_, T>,
         ctx: &mut Ctx<T>,
-    ) -> Result<Response<T::Stream>, Want<Status>> {
+    ) -> ResponseResult<T::Stream> {
         with_status(Status::NotFound, self.0, alloc, request, ctx)
     }
 }
@@ -155,7 +154,7 @@ impl<T: Types, R: Responder<T>> Responder<T> for Conflict<R> {
         alloc: Global,
         request: &Request<'_, T>,
         ctx: &mut Ctx<T>,
-    ) -> Result<Response<T::Stream>, Want<Status>> {
+    ) -> ResponseResult<T::Stream> {
         with_status(Status::Conflict, self.0, alloc, request, ctx)
     }
 }
@@ -172,7 +171,7 @@ impl<T: Types> Responder<T> for NoContent {
         alloc: Global,
         _request: &Request<'_, T>,
         _ctx: &mut Ctx<T>,
-    ) -> Result<Response<T::Stream>, Want<Status>> {
+    ) -> ResponseResult<T::Stream> {
         let mut response = Response::new(alloc);
         response.set_status(Status::NoContent);
         Ok(response)

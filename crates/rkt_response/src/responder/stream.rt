@@ -5,13 +5,12 @@ ghost use Rattle.rkt_media.specs.declared.known.Known.TheVariants.{Binary, Plain
 ghost use Rattle.rkt_request.specs.FromRequest.{Answers};
 ghost use Rattle.rkt_response.specs.Responder.{streamed, with_type};
 
-use crate::responder::Responder;
+use crate::responder::{Responder, ResponseResult};
 use crate::responder::making::typed_stream;
-use rkt_base::Want;
 use rkt_data::Source;
 pub use rkt_data::stream::ReaderStream;
 use rkt_data::stream::Stream;
-use rkt_http::{Known, Status};
+use rkt_http::Known;
 use rkt_message::Response;
 use rkt_request::{Ctx, Request, Types};
 use std::alloc::Global;
@@ -51,7 +50,7 @@ where
         alloc: Global,
         _request: &Request<'_, T>,
         _ctx: &mut Ctx<T>,
-    ) -> Result<Response<T::Stream>, Want<Status>> {
+    ) -> ResponseResult<T::Stream> {
         Ok(typed_stream(alloc, Known::Binary, T::Stream::from(self.0))?)
     }
 }
@@ -67,7 +66,7 @@ where
         alloc: Global,
         _request: &Request<'_, T>,
         _ctx: &mut Ctx<T>,
-    ) -> Result<Response<T::Stream>, Want<Status>> {
+    ) -> ResponseResult<T::Stream> {
         Ok(typed_stream(alloc, Known::Plain, T::Stream::from(self.0))?)
     }
 }
@@ -84,7 +83,7 @@ where
         alloc: Global,
         _request: &Request<'_, T>,
         _ctx: &mut Ctx<T>,
-    ) -> Result<Response<T::Stream>, Want<Status>> {
+    ) -> ResponseResult<T::Stream> {
         let mut response = Response::new(alloc);
         response.set_streamed_body(T::Stream::from(self));
         Ok(response)

@@ -8,11 +8,9 @@ ghost use Rattle.rkt_media.specs.declared.known.Known.TheVariants.{Plain};
 ghost use Rattle.rkt_request.specs.FromRequest.{Answers};
 ghost use Rattle.rkt_response.specs.Responder.{typed_bytes};
 
-use crate::responder::Responder;
+use crate::responder::{Responder, ResponseResult};
 use crate::responder::making::typed_bytes;
-use rkt_base::Want;
-use rkt_http::{Known, Status};
-use rkt_message::Response;
+use rkt_http::Known;
 use rkt_request::{Ctx, Request, Types};
 use std::alloc::Global;
 use std::borrow::CowStr;
@@ -27,7 +25,7 @@ impl<T: Types> Responder<T> for String {
         alloc: Global,
         _request: &Request<'_, T>,
         _ctx: &mut Ctx<T>,
-    ) -> Result<Response<T::Stream>, Want<Status>> {
+    ) -> ResponseResult<T::Stream> {
         Ok(typed_bytes(alloc, Known::Plain, self.into_bytes())?)
     }
 }
@@ -40,7 +38,7 @@ impl<'a, T: Types> Responder<T> for &'a str {
         alloc: Global,
         request: &Request<'_, T>,
         ctx: &mut Ctx<T>,
-    ) -> Result<Response<T::Stream>, Want<Status>> {
+    ) -> ResponseResult<T::Stream> {
         String::from_str(alloc, self)?.respond_to(alloc, request, ctx)
     }
 }
@@ -53,7 +51,7 @@ impl<T: Types> Responder<T> for BoxedStr {
         alloc: Global,
         request: &Request<'_, T>,
         ctx: &mut Ctx<T>,
-    ) -> Result<Response<T::Stream>, Want<Status>> {
+    ) -> ResponseResult<T::Stream> {
         self.into_string().respond_to(alloc, request, ctx)
     }
 }
@@ -66,7 +64,7 @@ impl<T: Types> Responder<T> for ArcStr {
         alloc: Global,
         request: &Request<'_, T>,
         ctx: &mut Ctx<T>,
-    ) -> Result<Response<T::Stream>, Want<Status>> {
+    ) -> ResponseResult<T::Stream> {
         self.as_str().respond_to(alloc, request, ctx)
     }
 }
@@ -79,7 +77,7 @@ impl<'a, T: Types> Responder<T> for CowStr<'a> {
         alloc: Global,
         request: &Request<'_, T>,
         ctx: &mut Ctx<T>,
-    ) -> Result<Response<T::Stream>, Want<Status>> {
+    ) -> ResponseResult<T::Stream> {
         self.into_owned(alloc)?.respond_to(alloc, request, ctx)
     }
 }

@@ -6,12 +6,11 @@ ghost use Rattle.either.specs.Either.{MatchEither};
 ghost use Rattle.rkt_request.specs.FromRequest.{Answers};
 ghost use Rattle.rkt_response.specs.Responder.{refusal};
 
-use crate::responder::Responder;
+use crate::responder::{Responder, ResponseResult};
 use either::{Either, Left, Right};
 use rkt_base::Want;
 use rkt_data::Capped;
 use rkt_http::Status;
-use rkt_message::Response;
 use rkt_request::{Ctx, Request, Types};
 use std::alloc::Global;
 
@@ -25,7 +24,7 @@ impl<T: Types, R: Responder<T>> Responder<T> for Option<R> {
         alloc: Global,
         request: &Request<'_, T>,
         ctx: &mut Ctx<T>,
-    ) -> Result<Response<T::Stream>, Want<Status>> {
+    ) -> ResponseResult<T::Stream> {
         match self {
             Some(responder) => responder.respond_to(alloc, request, ctx),
             None => Err(Want::Refused(Status::NotFound)),
@@ -43,7 +42,7 @@ impl<T: Types, R: Responder<T>, E: Responder<T>> Responder<T> for Result<R, E> {
         alloc: Global,
         request: &Request<'_, T>,
         ctx: &mut Ctx<T>,
-    ) -> Result<Response<T::Stream>, Want<Status>> {
+    ) -> ResponseResult<T::Stream> {
         match self {
             Ok(responder) => responder.respond_to(alloc, request, ctx),
             Err(responder) => responder.respond_to(alloc, request, ctx),
@@ -61,7 +60,7 @@ impl<T: Types, L: Responder<T>, R: Responder<T>> Responder<T> for Either<L, R> {
         alloc: Global,
         request: &Request<'_, T>,
         ctx: &mut Ctx<T>,
-    ) -> Result<Response<T::Stream>, Want<Status>> {
+    ) -> ResponseResult<T::Stream> {
         match self {
             Left(responder) => responder.respond_to(alloc, request, ctx),
             Right(responder) => responder.respond_to(alloc, request, ctx),
@@ -79,7 +78,7 @@ impl<T: Types, R: Responder<T>> Responder<T> for Box<R> {
         alloc: Global,
         request: &Request<'_, T>,
         ctx: &mut Ctx<T>,
-    ) -> Result<Response<T::Stream>, Want<Status>> {
+    ) -> ResponseResult<T::Stream> {
         Box::into_inner(self).respond_to(alloc, request, ctx)
     }
 }
@@ -94,7 +93,7 @@ impl<T: Types, R: Responder<T>> Responder<T> for Capped<R> {
         alloc: Global,
         request: &Request<'_, T>,
         ctx: &mut Ctx<T>,
-    ) -> Result<Response<T::Stream>, Want<Status>> {
+    ) -> ResponseResult<T::Stream> {
         self.into_inner().respond_to(alloc, request, ctx)
     }
 }

@@ -1,6 +1,7 @@
 use Rattle.std.proofs.Common.{subst, codes, ◌∙◌}
 use Rattle.rkt_http.specs.Headers.{values_of}
-use Rattle.rkt_request.specs.Incoming.{IsJar, SpellsHost}
+use Rattle.rkt_request.specs.Incoming.{IsJar}
+use Rattle.rkt_uri.specs.Host.{SpellsHost}
 use Rattle.rkt_request.specs.Seen.{MaybeReadAs, first_value}
 use Rattle.rkt_request.proofs.asked.read_fields.Goals as goal
 

@@ -4,7 +4,8 @@ use Rattle.rkt_http.specs.Method.{method_of}
 use Rattle.rkt_uri.specs.Origin.{Spells}
 use Rattle.rkt_http.specs.declared.method.Method.TheVariants.{Get}
 use Rattle.rkt_uri.specs.declared.origin_place.Profile.TheVariants.{Request as OfRequest}
-use Rattle.rkt_request.specs.Incoming.{IsJar, SpellsHost, faults_of, headers_of}
+use Rattle.rkt_request.specs.Incoming.{IsJar, faults_of, headers_of}
+use Rattle.rkt_uri.specs.Host.{SpellsHost}
 use Rattle.rkt_request.specs.Seen.{MaybeReadAs, ReadAs, first_value}
 use Rattle.rkt_request.proofs.request.Request.from_incoming.Goals as goal
 

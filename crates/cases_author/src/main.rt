@@ -1,0 +1,114 @@
+//! An application whose author says nothing of it to the prover, and what callers get of it. Each line of standard input says
+//! a case, and is written again with ` -> ` and its answer; empty lines and those that begin with `#` are headings.
+//!
+//! | Line | Answer |
+//! |---|---|
+//! | `token` | what the guard `Token` answers where the header is not there |
+//! | `token TEXT` | its answer where the header has the text, which may stand between quotes |
+//! | `hex PATH` | the first segment of the path, read to the base 16; `none` where there is none, or `refused` |
+//! | `depth PATH` | how many segments the path has, or `refused` where they are more than three |
+//! | `point TEXT` | the point that a body of this text spells, or the status of the error |
+//! | `loud TEXT` | the status of the response, or of the error, and the size of its body |
+//!
+//! Any other line answers `? line`.
+#![tactic(auto)]
+
+mod asked;
+mod author;
+
+use crate::asked::{
+    Setting, context, push_depth, push_loud, push_param, push_point, push_token, request, setting,
+    with_token,
+};
+use cases::{Answers, CaseError, answer_lines_if_made, first_word, plain};
+use rkt_base::NoMemory;
+use std::alloc::Global;
+use std::io;
+
+/// What requests are lent.
+#[derive(Drop)]
+struct Program {
+    setting: Setting,
+}
+
+impl Program {
+    fn new(alloc: Global) -> Result<Program, NoMemory> {
+        Ok(Program {
+            setting: setting(alloc)?,
+        })
+    }
+}
+
+fn answer_token(
+    alloc: Global,
+    out: &mut String,
+    setting: &Setting,
+    token: &str,
+) -> Result<(), CaseError> {
+    let mut ctx = context(alloc)?;
+    let mut request = request(alloc, setting, "/")?;
+    if !token.is_empty() {
+        with_token(alloc, &mut request, plain(token))?;
+    }
+    push_token(alloc, out, &request, &mut ctx)
+}
+
+fn answer_loud(
+    alloc: Global,
+    out: &mut String,
+    setting: &Setting,
+    text: &str,
+) -> Result<(), CaseError> {
+    let mut ctx = context(alloc)?;
+    let request = request(alloc, setting, "/")?;
+    push_loud(alloc, out, &request, &mut ctx, text)
+}
+
+fn answer_hex(
+    alloc: Global,
+    out: &mut String,
+    setting: &Setting,
+    path: &str,
+) -> Result<(), CaseError> {
+    let request = request(alloc, setting, path)?;
+    push_param(alloc, out, &request)
+}
+
+fn answer_depth(
+    alloc: Global,
+    out: &mut String,
+    setting: &Setting,
+    path: &str,
+) -> Result<(), CaseError> {
+    let request = request(alloc, setting, path)?;
+    push_depth(alloc, out, &request)
+}
+
+fn answer_point(
+    alloc: Global,
+    out: &mut String,
+    setting: &Setting,
+    text: &str,
+) -> Result<(), CaseError> {
+    let request = request(alloc, setting, "/")?;
+    push_point(alloc, out, &request, text)
+}
+
+impl Answers for Program {
+    fn answer(&mut self, alloc: Global, line: &str, out: &mut String) -> Result<(), CaseError> {
+        let (command, rest) = first_word(line);
+        match command {
+            "token" => answer_token(alloc, out, &self.setting, rest),
+            "hex" => answer_hex(alloc, out, &self.setting, rest),
+            "depth" => answer_depth(alloc, out, &self.setting, rest),
+            "point" => answer_point(alloc, out, &self.setting, rest),
+            "loud" => answer_loud(alloc, out, &self.setting, rest),
+            _ => Err(CaseError::Line),
+        }
+    }
+}
+
+fn main(rt: HostRuntime) -> io::Result<()> {
+    let alloc = rt.alloc();
+    answer_lines_if_made(&rt, alloc, Program::new(alloc))
+}
