@@ -1,10 +1,9 @@
 use crate::built::build;
-use crate::change::{change, set_header, set_raw_header};
-use crate::error::CaseError;
+use crate::change::{change, set_header};
 use crate::look::look;
 use crate::sending::send;
-use crate::shown::{Answer, response_text};
-use crate::words::first_word;
+use crate::shown::{Answer, push_response};
+use cases::{Answers, CaseError, first_word};
 use rkt_base::NoMemory;
 use std::alloc::Global;
 
@@ -23,24 +22,18 @@ impl Kept {
         }
     }
 
-    /// The one that was put aside, which leaves none.
-    fn take_aside(&mut self, alloc: Global) -> Answer {
-        std::mem::replace(&mut self.aside, Answer::new(alloc))
-    }
-
     /// Puts the response at hand aside, and begins with nothing set.
     fn put_aside(&mut self, alloc: Global) {
         self.aside = std::mem::replace(&mut self.response, Answer::new(alloc));
     }
 
-    fn merge(&mut self, alloc: Global) -> Result<(), NoMemory> {
-        let other = self.take_aside(alloc);
-        self.response.merge(other)
-    }
-
-    fn join(&mut self, alloc: Global) -> Result<(), NoMemory> {
-        let other = self.take_aside(alloc);
-        self.response.join(other)
+    /// Takes over what was put aside, which leaves none.
+    fn take_over(&mut self, alloc: Global, command: &str) -> Result<(), NoMemory> {
+        let other = std::mem::replace(&mut self.aside, Answer::new(alloc));
+        match command {
+            "merge" => self.response.merge(other),
+            _ => self.response.join(other),
+        }
     }
 }
 
@@ -49,60 +42,59 @@ fn change_kept(alloc: Global, kept: &mut Kept, command: &str, rest: &str) -> Res
     match command {
         "new" => kept.response = Answer::new(alloc),
         "aside" => kept.put_aside(alloc),
-        "merge" => kept.merge(alloc)?,
-        "join" => kept.join(alloc)?,
+        "merge" | "join" => kept.take_over(alloc, command)?,
         _ => return change(alloc, &mut kept.response, command, rest),
     }
     Ok(())
 }
 
-/// Changes what is kept, and answers the response at hand.
-fn changed(alloc: Global, kept: &mut Kept, command: &str, rest: &str) -> Result<String, CaseError> {
+/// Changes what is kept, and adds the response at hand.
+fn changed(
+    alloc: Global,
+    kept: &mut Kept,
+    command: &str,
+    rest: &str,
+    out: &mut String,
+) -> Result<(), CaseError> {
     change_kept(alloc, kept, command, rest)?;
-    response_text(alloc, &kept.response)
+    Ok(push_response(&kept.response, out)?)
 }
 
-fn built(alloc: Global, kept: &mut Kept, rest: &str) -> Result<String, CaseError> {
+fn built(alloc: Global, kept: &mut Kept, rest: &str, out: &mut String) -> Result<(), CaseError> {
     build(alloc, &mut kept.response, &mut kept.aside, rest)?;
-    response_text(alloc, &kept.response)
+    Ok(push_response(&kept.response, out)?)
 }
 
-/// Whether there was a header, and the response.
-fn there(alloc: Global, response: &Answer, there: bool) -> Result<String, CaseError> {
-    let text = response_text(alloc, response)?;
-    Ok(format!(in alloc; "{there:?} {text}")?)
-}
-
-fn header_set(alloc: Global, kept: &mut Kept, rest: &str) -> Result<String, CaseError> {
-    let was = set_header(alloc, &mut kept.response, rest)?;
-    there(alloc, &kept.response, was)
-}
-
-fn raw_header_set(alloc: Global, kept: &mut Kept, rest: &str) -> Result<String, CaseError> {
-    let was = set_raw_header(alloc, &mut kept.response, rest)?;
-    there(alloc, &kept.response, was)
+/// Sets a header, and adds whether there was one, and the response.
+fn header_set(
+    alloc: Global,
+    response: &mut Answer,
+    command: &str,
+    rest: &str,
+    out: &mut String,
+) -> Result<(), CaseError> {
+    let was = set_header(alloc, response, command, rest)?;
+    write!(out, "{was:?} ")?;
+    Ok(push_response(response, out)?)
 }
 
 /// Whether a command only looks, or reads.
 fn looks(command: &str) -> bool {
     matches!(command, "size" | "kind" | "cookies")
+        || matches!(command, "take" | "read" | "bytes" | "text")
 }
 
-fn reads(command: &str) -> bool {
-    matches!(command, "read" | "bytes" | "text" | "take")
-}
-
-/// What a case answers.
-pub fn answer(alloc: Global, kept: &mut Kept, line: &str) -> Result<String, CaseError> {
-    let (command, rest) = first_word(line);
-    if looks(command) || reads(command) {
-        return look(alloc, &mut kept.response, command, rest);
-    }
-    match command {
-        "send" => send(alloc, &mut kept.response, rest),
-        "build" => built(alloc, kept, rest),
-        "header" => header_set(alloc, kept, rest),
-        "raw_header" => raw_header_set(alloc, kept, rest),
-        _ => changed(alloc, kept, command, rest),
+impl Answers for Kept {
+    fn answer(&mut self, alloc: Global, line: &str, out: &mut String) -> Result<(), CaseError> {
+        let (command, rest) = first_word(line);
+        if looks(command) {
+            return look(alloc, &mut self.response, command, rest, out);
+        }
+        match command {
+            "send" => send(alloc, &mut self.response, rest, out),
+            "build" => built(alloc, self, rest, out),
+            "header" | "raw_header" => header_set(alloc, &mut self.response, command, rest, out),
+            _ => changed(alloc, self, command, rest, out),
+        }
     }
 }

@@ -1,10 +1,9 @@
 //! Lines that change the response at hand by a builder over it.
-use crate::error::CaseError;
 use crate::header::{header, named};
 use crate::shape::{sized, source};
 use crate::shown::Answer;
 use crate::stalling::Stalling;
-use crate::words::{code, first_word, size};
+use cases::{CaseError, first_word, parsed};
 use rkt_http::Status;
 use rkt_message::Builder;
 use std::alloc::Global;
@@ -82,36 +81,64 @@ fn build_body(
     }
 }
 
-/// Does what a line says to a builder.
+/// Takes over what was put aside.
+fn build_over(
+    alloc: Global,
+    builder: &mut Build,
+    other: &mut Answer,
+    command: &str,
+) -> Result<(), CaseError> {
+    let other = std::mem::replace(other, Answer::new(alloc));
+    match command {
+        "merge" => Ok(builder.merge(other)?),
+        _ => Ok(builder.join(other)?),
+    }
+}
+
+/// Sets the status or the size of chunks, or ends the builder a first time.
+fn build_value(builder: &mut Build, command: &str, text: &str) -> Result<(), CaseError> {
+    match command {
+        "status" => {
+            builder.status(Status::new(parsed::<u16>(text)?));
+        }
+        "chunk" => {
+            builder.max_chunk_size(parsed::<usize>(text)?);
+        }
+        _ => {
+            builder.finalize();
+        }
+    }
+    Ok(())
+}
+
+/// Does what a line says to a builder; `other` is the response that was put aside.
 fn build_on(
     alloc: Global,
     builder: &mut Build,
+    other: &mut Answer,
     command: &str,
     text: &str,
 ) -> Result<(), CaseError> {
     match command {
-        "status" => builder.status(Status { code: code(text)? }),
-        "chunk" => builder.max_chunk_size(size(text)?),
-        _ => return build_body(alloc, builder, command, text),
-    };
-    Ok(())
+        "status" | "chunk" | "twice" => build_value(builder, command, text),
+        "merge" | "join" => build_over(alloc, builder, other, command),
+        _ => build_body(alloc, builder, command, text),
+    }
 }
 
-/// Does what a line says to a builder, and ends it.
-fn built_so(
+/// Changes a response by a builder over it.
+fn build_so(
     alloc: Global,
-    mut builder: Build,
+    response: &mut Answer,
+    other: &mut Answer,
     command: &str,
     text: &str,
-) -> (Answer, Result<(), CaseError>) {
-    let done = build_on(alloc, &mut builder, command, text);
-    (builder.finalize(), done)
-}
-
-/// What a builder gives that is ended twice, the second time.
-fn ended_twice(mut builder: Build) -> Answer {
-    builder.finalize();
-    builder.finalize()
+) -> Result<(), CaseError> {
+    let base = std::mem::replace(response, Answer::default(alloc));
+    let mut builder = Answer::build_from(base);
+    let built = build_on(alloc, &mut builder, other, command, text);
+    *response = builder.finalize();
+    built
 }
 
 /// What a builder gives that is ended by `ok`.
@@ -119,42 +146,18 @@ fn ended_by_ok(mut builder: Build) -> Result<Answer, CaseError> {
     builder.ok()
 }
 
-/// Builds on a response.
-fn built(alloc: Global, response: &mut Answer, command: &str, text: &str) -> Result<(), CaseError> {
+fn end_by_ok(alloc: Global, response: &mut Answer) -> Result<(), CaseError> {
     let base = std::mem::replace(response, Answer::default(alloc));
-    let (answer, done) = built_so(alloc, Answer::build_from(base), command, text);
-    *response = answer;
-    done
-}
-
-fn ended(alloc: Global, response: &mut Answer, command: &str) -> Result<(), CaseError> {
-    let base = std::mem::replace(response, Answer::default(alloc));
-    *response = match command {
-        "new" => Answer::build(alloc).finalize(),
-        "twice" => ended_twice(Answer::build_from(base)),
-        _ => ended_by_ok(Builder::new(base))?,
-    };
+    *response = ended_by_ok(Builder::new(base))?;
     Ok(())
 }
 
-/// Takes over what was put aside.
-fn built_with(
-    response: &mut Answer,
-    alloc: Global,
-    command: &str,
-    other: Answer,
-) -> Result<(), CaseError> {
-    let base = std::mem::replace(response, Answer::default(alloc));
-    let mut builder = Answer::build_from(base);
-    let done = match command {
-        "merge" => builder.merge(other),
-        _ => builder.join(other),
-    };
-    *response = builder.finalize();
-    Ok(done?)
+/// Begins with what a builder gives that was told nothing.
+fn begin_anew(alloc: Global, response: &mut Answer) {
+    *response = Answer::build(alloc).finalize();
 }
 
-/// Changes a response by a builder over it; `other` is the one that was put aside.
+/// Changes a response by a builder over it, or begins with what one gives over nothing.
 pub fn build(
     alloc: Global,
     response: &mut Answer,
@@ -163,11 +166,11 @@ pub fn build(
 ) -> Result<(), CaseError> {
     let (command, text) = first_word(line);
     match command {
-        "new" | "twice" | "ok" => ended(alloc, response, command),
-        "merge" | "join" => {
-            let other = std::mem::replace(other, Answer::new(alloc));
-            built_with(response, alloc, command, other)
+        "new" => {
+            begin_anew(alloc, response);
+            Ok(())
         }
-        _ => built(alloc, response, command, text),
+        "ok" => end_by_ok(alloc, response),
+        _ => build_so(alloc, response, other, command, text),
     }
 }

@@ -1,22 +1,30 @@
 //! Lines that change the response at hand by its own calls.
-use crate::error::CaseError;
-use crate::header::{header, named};
+use crate::header::{NameAndValue, header, named};
 use crate::shape::{body_of, sized, source};
 use crate::shown::Answer;
-use crate::words::{code, first_word, size, text_of};
+use crate::words::text_of;
+use cases::{CaseError, first_word, parsed};
+use rkt_base::NoMemory;
 use rkt_http::Status;
 use std::alloc::Global;
 
-/// Sets a header, and answers whether there was one.
-pub fn set_header(alloc: Global, response: &mut Answer, text: &str) -> Result<bool, CaseError> {
-    let header = header(alloc, text)?;
-    Ok(response.set_header(header)?)
+fn set_named(response: &mut Answer, named: &NameAndValue) -> Result<bool, NoMemory> {
+    response.set_raw_header(named.name.as_str(), named.value.as_str())
 }
 
-/// The same of a name and a value.
-pub fn set_raw_header(alloc: Global, response: &mut Answer, text: &str) -> Result<bool, CaseError> {
+/// Sets a header, or a name and a value, and answers whether there was one.
+pub fn set_header(
+    alloc: Global,
+    response: &mut Answer,
+    command: &str,
+    text: &str,
+) -> Result<bool, CaseError> {
+    if command == "header" {
+        let header = header(alloc, text)?;
+        return Ok(response.set_header(header)?);
+    }
     let named = named(alloc, text)?;
-    Ok(response.set_raw_header(named.name.as_str(), named.value.as_str())?)
+    Ok(set_named(response, &named)?)
 }
 
 fn adjoin(alloc: Global, response: &mut Answer, text: &str) -> Result<(), CaseError> {
@@ -93,8 +101,8 @@ pub fn change(
     text: &str,
 ) -> Result<(), CaseError> {
     match command {
-        "status" => response.set_status(Status { code: code(text)? }),
-        "chunk" => response.set_max_chunk_size(size(text)?),
+        "status" => response.set_status(Status::new(parsed::<u16>(text)?)),
+        "chunk" => response.set_max_chunk_size(parsed::<usize>(text)?),
         "strip" => response.strip_body(),
         _ => return change_body(alloc, response, command, text),
     }

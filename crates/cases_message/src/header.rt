@@ -1,6 +1,6 @@
 //! Headers, as lines say them.
-use crate::error::CaseError;
-use crate::words::{pair, text_of};
+use crate::words::text_of;
+use cases::{CaseError, pair};
 use rkt_http::Header;
 use std::alloc::Global;
 
@@ -13,7 +13,7 @@ pub struct NameAndValue {
 
 /// The name and the value of `NAME=VALUE`.
 pub fn named(alloc: Global, text: &str) -> Result<NameAndValue, CaseError> {
-    let (name, value) = pair(text)?;
+    let (name, value) = pair(text, "=")?;
     Ok(NameAndValue {
         name: text_of(alloc, name)?,
         value: text_of(alloc, value)?,

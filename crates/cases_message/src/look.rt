@@ -1,13 +1,13 @@
 //! Lines that look at the response at hand, or read its body.
-use crate::error::CaseError;
-use crate::shown::{Answer, bytes_text, shown_text, word};
+use crate::shown::{Answer, push_bytes, push_text};
 use crate::stalling::Stalling;
-use crate::words::size;
+use cases::{CaseError, parsed};
 use rkt_base::{NoMemory, Poll};
 use rkt_cookie::Cookie;
 use rkt_data::{DataError, Gate, SourceError};
+use rkt_http::ContentType;
 use rkt_message::Body;
-use std::alloc::Global;
+use std::alloc::{AllocError, Global};
 
 pub const GATE: Gate = Gate {
     moment: 0,
@@ -25,159 +25,173 @@ fn source_error(error: SourceError) -> &'static str {
     }
 }
 
-/// The front of a buffer that a read has filled.
-fn read_text(alloc: Global, buf: &[u8], count: usize) -> Result<String, CaseError> {
-    let front = buf.get(..count).unwrap_or(&[]);
-    let text = bytes_text(alloc, front)?;
-    Ok(format!(in alloc; "{count}: {text}")?)
+/// Adds the front of a buffer that a read has filled.
+fn push_front(buf: &[u8], count: usize, out: &mut String) -> Result<(), NoMemory> {
+    write!(out, "{count}: ")?;
+    push_bytes(buf.get(..count).unwrap_or(&[]), out)
 }
 
-/// One read into a buffer.
-fn read_into(
-    alloc: Global,
-    body: &mut Body<Stalling>,
-    buf: &mut [u8],
-) -> Result<String, CaseError> {
+/// Adds what one read into a buffer answers.
+fn push_read(body: &mut Body<Stalling>, buf: &mut [u8], out: &mut String) -> Result<(), NoMemory> {
     match body.poll_read(GATE, buf) {
-        Poll::Ready(Ok(count)) => read_text(alloc, buf, count),
-        Poll::Ready(Err(error)) => word(alloc, source_error(error)),
-        Poll::Pending => word(alloc, "pending"),
+        Poll::Ready(Ok(count)) => push_front(buf, count, out),
+        Poll::Ready(Err(error)) => out.push_str(source_error(error)),
+        Poll::Pending => out.push_str("pending"),
     }
 }
 
-/// One read into a buffer of so many bytes.
-fn read(alloc: Global, response: &mut Answer, text: &str) -> Result<String, CaseError> {
-    let mut buf = vec![in alloc; 0u8; size(text)?]?;
-    read_into(alloc, response.body_mut(), buf.as_mut_slice())
+/// Reads once into a buffer of so many bytes.
+fn read(
+    alloc: Global,
+    response: &mut Answer,
+    text: &str,
+    out: &mut String,
+) -> Result<(), CaseError> {
+    let size = parsed::<usize>(text)?;
+    let mut buf = vec![in alloc; 0u8; size]?;
+    Ok(push_read(response.body_mut(), buf.as_mut_slice(), out)?)
 }
 
-/// What gathering came to, but for what it gathered.
-fn stopped_text(alloc: Global, error: Option<DataError>) -> Result<String, CaseError> {
+/// Adds why nothing was gathered.
+fn push_error(error: DataError, out: &mut String) -> Result<(), NoMemory> {
     match error {
-        Some(DataError::NotUtf8 { valid_up_to }) => {
-            Ok(format!(in alloc; "no text from {valid_up_to}")?)
-        }
-        Some(DataError::SourceFault) => word(alloc, "fault"),
-        Some(DataError::NoMemory) => Err(CaseError::NoMemory),
-        Some(_) => word(alloc, "other fault"),
-        None => word(alloc, "pending"),
+        DataError::NotUtf8 { valid_up_to } => write!(out, "no text from {valid_up_to}"),
+        DataError::SourceFault => out.push_str("fault"),
+        DataError::NoMemory => Err(AllocError),
+        _ => out.push_str("other fault"),
     }
 }
 
-/// Two answers, one behind the other.
-fn twice(
-    alloc: Global,
-    first: Result<String, CaseError>,
-    again: Result<String, CaseError>,
-) -> Result<String, CaseError> {
-    let (first, again) = (first?, again?);
-    Ok(format!(in alloc; "{first}, {again}")?)
-}
-
-fn bytes_answer(
-    alloc: Global,
+fn push_all_bytes(
     answer: Poll<Result<Vec<u8>, DataError>>,
-) -> Result<String, CaseError> {
+    out: &mut String,
+) -> Result<(), NoMemory> {
     match answer {
-        Poll::Ready(Ok(bytes)) => bytes_text(alloc, bytes.as_slice()),
-        Poll::Ready(Err(error)) => stopped_text(alloc, Some(error)),
-        Poll::Pending => stopped_text(alloc, None),
+        Poll::Ready(Ok(bytes)) => push_bytes(bytes.as_slice(), out),
+        Poll::Ready(Err(error)) => push_error(error, out),
+        Poll::Pending => out.push_str("pending"),
     }
 }
 
-fn text_answer(
-    alloc: Global,
+fn push_all_text(
     answer: Poll<Result<String, DataError>>,
-) -> Result<String, CaseError> {
+    out: &mut String,
+) -> Result<(), NoMemory> {
     match answer {
-        Poll::Ready(Ok(text)) => shown_text(alloc, text.as_str()),
-        Poll::Ready(Err(error)) => stopped_text(alloc, Some(error)),
-        Poll::Pending => stopped_text(alloc, None),
+        Poll::Ready(Ok(text)) => push_text(text.as_str(), out),
+        Poll::Ready(Err(error)) => push_error(error, out),
+        Poll::Pending => out.push_str("pending"),
     }
 }
 
-/// The bytes that are gathered, or what two polls answer; and the body, which is handed back.
-fn gathered_bytes(
+/// Adds the answers to two polls.
+fn push_bytes_twice(
+    first: Poll<Result<Vec<u8>, DataError>>,
+    again: Poll<Result<Vec<u8>, DataError>>,
+    out: &mut String,
+) -> Result<(), NoMemory> {
+    push_all_bytes(first, out)?;
+    out.push_str(", ")?;
+    push_all_bytes(again, out)
+}
+
+/// The same of text.
+fn push_text_twice(
+    first: Poll<Result<String, DataError>>,
+    again: Poll<Result<String, DataError>>,
+    out: &mut String,
+) -> Result<(), NoMemory> {
+    push_all_text(first, out)?;
+    out.push_str(", ")?;
+    push_all_text(again, out)
+}
+
+/// Adds the bytes that are gathered, or what two polls answer. Hands the body back.
+fn gather_bytes(
     alloc: Global,
     body: Body<Stalling>,
-) -> (Result<String, CaseError>, Body<Stalling>) {
+    out: &mut String,
+) -> (Result<(), NoMemory>, Body<Stalling>) {
     let mut all = body.to_bytes();
     let first = all.poll(alloc, GATE);
     if let Poll::Ready(Ok(_)) = first {
-        return (bytes_answer(alloc, first), all.into_body());
+        return (push_all_bytes(first, out), all.into_body());
     }
     let again = all.poll(alloc, GATE);
-    let (first, again) = (bytes_answer(alloc, first), bytes_answer(alloc, again));
-    (twice(alloc, first, again), all.into_body())
+    (push_bytes_twice(first, again, out), all.into_body())
 }
 
 /// The same of text.
-fn gathered_text(
+fn gather_text(
     alloc: Global,
     body: Body<Stalling>,
-) -> (Result<String, CaseError>, Body<Stalling>) {
+    out: &mut String,
+) -> (Result<(), NoMemory>, Body<Stalling>) {
     let mut all = body.to_string();
     let first = all.poll(alloc, GATE);
     if let Poll::Ready(Ok(_)) = first {
-        return (text_answer(alloc, first), all.into_body());
+        return (push_all_text(first, out), all.into_body());
     }
     let again = all.poll(alloc, GATE);
-    let (first, again) = (text_answer(alloc, first), text_answer(alloc, again));
-    (twice(alloc, first, again), all.into_body())
+    (push_text_twice(first, again, out), all.into_body())
 }
 
 /// Gathers the bytes of the body.
-fn bytes(alloc: Global, response: &mut Answer) -> Result<String, CaseError> {
+fn bytes(alloc: Global, response: &mut Answer, out: &mut String) -> Result<(), NoMemory> {
     let body = response.body_mut().take();
-    let (text, left) = gathered_bytes(alloc, body);
+    let (pushed, left) = gather_bytes(alloc, body, out);
     *response.body_mut() = left;
-    text
+    pushed
 }
 
 /// The same of text.
-fn text(alloc: Global, response: &mut Answer) -> Result<String, CaseError> {
+fn text(alloc: Global, response: &mut Answer, out: &mut String) -> Result<(), NoMemory> {
     let body = response.body_mut().take();
-    let (text, left) = gathered_text(alloc, body);
+    let (pushed, left) = gather_text(alloc, body, out);
     *response.body_mut() = left;
-    text
+    pushed
 }
 
 /// Moves the body out.
-fn take(alloc: Global, response: &mut Answer) -> Result<String, CaseError> {
-    let taken = response.body_mut().take();
-    let left = response.body().is_none();
-    Ok(format!(in alloc; "taken {:?}, left {:?}", taken.is_some(), !left)?)
+fn take(response: &mut Answer, out: &mut String) -> Result<(), NoMemory> {
+    let taken = response.body_mut().take().is_some();
+    let left = response.body().is_some();
+    write!(out, "taken {taken:?}, left {left:?}")
 }
 
-fn kind(alloc: Global, response: &Answer) -> Result<String, CaseError> {
+fn push_media(alloc: Global, kind: &ContentType, out: &mut String) -> Result<(), NoMemory> {
+    let text = kind.media_type().to_text(alloc)?;
+    out.push_str(text.as_str())
+}
+
+fn push_kind(alloc: Global, response: &Answer, out: &mut String) -> Result<(), NoMemory> {
     match response.content_type()? {
-        Some(kind) => word(alloc, kind.media_type().to_text(alloc)?.as_str()),
-        None => word(alloc, "none"),
+        Some(kind) => push_media(alloc, &kind, out),
+        None => out.push_str("none"),
     }
 }
 
-fn cookie_list(alloc: Global, cookies: &[Cookie]) -> Result<String, CaseError> {
-    let mut list = cookies.len().to_string(alloc)?;
-    for cookie in cookies {
-        push_cookie(alloc, &mut list, cookie)?;
-    }
-    Ok(list)
-}
-
-fn push_cookie(alloc: Global, list: &mut String, cookie: &Cookie) -> Result<(), NoMemory> {
+fn push_cookie(alloc: Global, cookie: &Cookie, out: &mut String) -> Result<(), NoMemory> {
     let text = cookie.encoded(alloc)?;
-    list.push_str("|")?;
-    list.push_str(text.as_str())
+    write!(out, "|{}", text.as_str())
 }
 
-fn cookies(alloc: Global, response: &Answer) -> Result<String, CaseError> {
+fn push_list(alloc: Global, cookies: &[Cookie], out: &mut String) -> Result<(), NoMemory> {
+    write!(out, "{}", cookies.len())?;
+    for cookie in cookies {
+        push_cookie(alloc, cookie, out)?;
+    }
+    Ok(())
+}
+
+fn push_cookies(alloc: Global, response: &Answer, out: &mut String) -> Result<(), NoMemory> {
     let cookies = response.cookies()?;
-    cookie_list(alloc, cookies.as_slice())
+    push_list(alloc, cookies.as_slice(), out)
 }
 
-fn size_text(alloc: Global, response: &mut Answer) -> Result<String, CaseError> {
+fn push_size(response: &mut Answer, out: &mut String) -> Result<(), NoMemory> {
     let size = response.body_mut().size();
-    Ok(format!(in alloc; "{size:?}")?)
+    write!(out, "{size:?}")
 }
 
 /// Reads the body in some way.
@@ -186,12 +200,12 @@ fn read_in_way(
     response: &mut Answer,
     command: &str,
     rest: &str,
-) -> Result<String, CaseError> {
+    out: &mut String,
+) -> Result<(), CaseError> {
     match command {
-        "read" => read(alloc, response, rest),
-        "bytes" => bytes(alloc, response),
-        "text" => text(alloc, response),
-        "take" => take(alloc, response),
+        "read" => read(alloc, response, rest, out),
+        "bytes" => Ok(bytes(alloc, response, out)?),
+        "text" => Ok(text(alloc, response, out)?),
         _ => Err(CaseError::Line),
     }
 }
@@ -202,11 +216,13 @@ pub fn look(
     response: &mut Answer,
     command: &str,
     rest: &str,
-) -> Result<String, CaseError> {
+    out: &mut String,
+) -> Result<(), CaseError> {
     match command {
-        "size" => size_text(alloc, response),
-        "kind" => kind(alloc, response),
-        "cookies" => cookies(alloc, response),
-        _ => read_in_way(alloc, response, command, rest),
+        "size" => Ok(push_size(response, out)?),
+        "kind" => Ok(push_kind(alloc, response, out)?),
+        "cookies" => Ok(push_cookies(alloc, response, out)?),
+        "take" => Ok(take(response, out)?),
+        _ => read_in_way(alloc, response, command, rest, out),
     }
 }

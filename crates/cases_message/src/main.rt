@@ -32,7 +32,6 @@
 mod answer;
 mod built;
 mod change;
-mod error;
 mod header;
 mod look;
 mod sending;
@@ -41,41 +40,11 @@ mod shown;
 mod stalling;
 mod words;
 
-use crate::answer::{Kept, answer};
-use std::alloc::Global;
+use crate::answer::Kept;
+use cases::answer_lines;
 use std::io;
-
-fn print_answer(rt: &impl Print, line: &str, text: &str) -> io::Result<()> {
-    println!(rt; "{line} -> {text}")
-}
-
-/// Empty lines and those that begin with `#` are headings, and are written as they are.
-fn is_heading(line: &str) -> bool {
-    line.is_empty() || line.starts_with('#')
-}
-
-/// Writes the line, and behind an arrow the answer where it is a case.
-fn print_line(rt: &impl Print, alloc: Global, kept: &mut Kept, line: &str) -> io::Result<()> {
-    if is_heading(line) {
-        return rt.println(line);
-    }
-    match answer(alloc, kept, line) {
-        Ok(text) => print_answer(rt, line, text.as_str()),
-        Err(error) => print_answer(rt, line, error.text()),
-    }
-}
-
-/// Writes each line and its answer.
-fn print_lines<R: Print + Input>(rt: &R, alloc: Global, kept: &mut Kept) -> io::Result<()> {
-    for line in rt.lines(alloc) {
-        let line = line?;
-        print_line(rt, alloc, kept, line.as_str())?;
-    }
-    Ok(())
-}
 
 fn main(rt: HostRuntime) -> io::Result<()> {
     let alloc = rt.alloc();
-    let mut kept = Kept::new(alloc);
-    print_lines(&rt, alloc, &mut kept)
+    answer_lines(&rt, alloc, Kept::new(alloc))
 }

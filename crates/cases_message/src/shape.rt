@@ -1,10 +1,10 @@
 //! Bodies, as lines say them.
-use crate::error::CaseError;
 use crate::stalling::Stalling;
-use crate::words::{bytes_of, count, first_piece, number, pair, size};
+use crate::words::{bytes_of, first_piece};
+use cases::{CaseError, pair, parsed};
 use rkt_data::MemorySource;
 use rkt_message::Body;
-use std::alloc::{AllocError, Global};
+use std::alloc::Global;
 
 /// What a line tells of a body beside its text.
 #[derive(Drop)]
@@ -32,18 +32,13 @@ impl Shape {
     }
 }
 
-/// Adds a number, and loses it where there is no memory.
-fn push(numbers: &mut Vec<u64>, number: u64) -> Result<(), AllocError> {
-    Ok(numbers.push(number)?)
-}
-
 /// Takes over an attribute of a source.
 fn set_source_attribute(shape: &mut Shape, name: &str, value: &str) -> Result<(), CaseError> {
     match name {
-        "step" => shape.step = size(value)?,
-        "row" => shape.row = count(value)?,
-        "waits" => shape.waits = number(value)?,
-        "fails" => push(&mut shape.fails, number(value)?)?,
+        "step" => shape.step = parsed::<usize>(value)?,
+        "row" => shape.row = parsed::<u32>(value)?,
+        "waits" => shape.waits = parsed::<u64>(value)?,
+        "fails" => shape.fails.push(parsed::<u64>(value)?)?,
         _ => return Err(CaseError::Line),
     }
     Ok(())
@@ -52,9 +47,9 @@ fn set_source_attribute(shape: &mut Shape, name: &str, value: &str) -> Result<()
 /// Takes over an attribute.
 fn set_attribute(shape: &mut Shape, name: &str, value: &str) -> Result<(), CaseError> {
     match name {
-        "position" => shape.position = size(value)?,
-        "size" => shape.size = Some(size(value)?),
-        "chunk" => shape.chunk = size(value)?,
+        "position" => shape.position = parsed::<usize>(value)?,
+        "size" => shape.size = Some(parsed::<usize>(value)?),
+        "chunk" => shape.chunk = parsed::<usize>(value)?,
         _ => return set_source_attribute(shape, name, value),
     }
     Ok(())
@@ -62,31 +57,26 @@ fn set_attribute(shape: &mut Shape, name: &str, value: &str) -> Result<(), CaseE
 
 /// Takes over the attribute that a piece says.
 fn set_piece(shape: &mut Shape, piece: &str) -> Result<(), CaseError> {
-    let (name, value) = pair(piece)?;
+    let (name, value) = pair(piece, "=")?;
     set_attribute(shape, name, value)
 }
 
-/// Takes over the attributes `NAME=VALUE; ..`.
+/// Takes over the attributes `NAME=VALUE; ..`, of which there may be none.
 fn set_pieces(shape: &mut Shape, text: &str) -> Result<(), CaseError> {
+    if text.is_empty() {
+        return Ok(());
+    }
     for piece in text.split("; ") {
         set_piece(shape, piece)?;
     }
     Ok(())
 }
 
-/// What stands behind the text of a body.
-fn shape_of(alloc: Global, text: &str) -> Result<Shape, CaseError> {
-    let mut shape = Shape::new(alloc);
-    if !text.is_empty() {
-        set_pieces(&mut shape, text)?;
-    }
-    Ok(shape)
-}
-
 /// The bytes of a body, and what stands behind them.
 pub fn sized(alloc: Global, line: &str) -> Result<(Vec<u8>, Shape), CaseError> {
     let (text, attributes) = first_piece(line);
-    let shape = shape_of(alloc, attributes)?;
+    let mut shape = Shape::new(alloc);
+    set_pieces(&mut shape, attributes)?;
     Ok((bytes_of(alloc, text)?, shape))
 }
 
@@ -116,12 +106,13 @@ fn sized_body(alloc: Global, line: &str) -> Result<Body<Stalling>, CaseError> {
 
 /// A body of a source.
 fn streamed_body(alloc: Global, line: &str) -> Result<Body<Stalling>, CaseError> {
-    Ok(Body::with_unsized(source(alloc, line)?))
+    let stream = source(alloc, line)?;
+    Ok(Body::with_unsized(stream))
 }
 
 /// The body that a line says.
-pub fn body_of(alloc: Global, line: &str, text: &str) -> Result<Body<Stalling>, CaseError> {
-    match line {
+pub fn body_of(alloc: Global, kind: &str, text: &str) -> Result<Body<Stalling>, CaseError> {
+    match kind {
         "none" => Ok(Body::none()),
         "default" => Ok(Body::default()),
         "unsized" => Ok(Body::unsized_none()),

@@ -1,67 +1,65 @@
 //! What a type reads of a text or of segments.
-use crate::error::CaseError;
-use crate::shown::{Shown, ShownError};
+use crate::shown::Shown;
+use cases::CaseError;
 use rkt_base::Want;
 use rkt_param::{FromParam, FromSegments};
 use rkt_uri::Segments;
 use std::alloc::Global;
-use std::fmt::Display;
+use std::fmt::{Debug, Display};
 
-fn refused<E: ShownError>(alloc: Global, error: &E) -> Result<String, CaseError> {
-    let error = E::shown_error(alloc, Some(error))?;
-    Ok(format!(in alloc; "refused {error}")?)
-}
-
-/// A value, or the error in its place.
-fn shown<P: Shown + Drop, E: ShownError + Drop>(
-    alloc: Global,
+/// Adds a value, or the error in its place.
+fn push_shown<P: Shown + Drop, E: Debug + Drop>(
     read: Result<P, Want<E>>,
-) -> Result<String, CaseError> {
+    out: &mut String,
+) -> Result<(), CaseError> {
     match read {
-        Ok(value) => value.shown(alloc),
-        Err(Want::Refused(error)) => refused(alloc, &error),
+        Ok(value) => Ok(value.show(out)?),
+        Err(Want::Refused(error)) => Ok(write!(out, "refused {error:?}")?),
         Err(Want::NoMemory) => Err(CaseError::NoMemory),
     }
 }
 
 /// The same of a value that prints.
-fn printed<P: Display + Drop, E: ShownError + Drop>(
-    alloc: Global,
+fn push_printed<P: Display + Drop, E: Debug + Drop>(
     read: Result<P, Want<E>>,
-) -> Result<String, CaseError> {
+    out: &mut String,
+) -> Result<(), CaseError> {
     match read {
-        Ok(value) => Ok(value.to_string(alloc)?),
-        Err(Want::Refused(error)) => refused(alloc, &error),
+        Ok(value) => Ok(write!(out, "{value}")?),
+        Err(Want::Refused(error)) => Ok(write!(out, "refused {error:?}")?),
         Err(Want::NoMemory) => Err(CaseError::NoMemory),
     }
 }
 
-/// What a text gives, through the bound, where the value prints.
+/// Adds what a text gives, through the bound, where the value prints.
 pub fn read<P: FromParam<Error = String> + Display + Drop>(
     alloc: Global,
     text: &str,
-) -> Result<String, CaseError> {
-    printed(alloc, P::from_param(alloc, text))
+    out: &mut String,
+) -> Result<(), CaseError> {
+    push_printed(P::from_param(alloc, text), out)
 }
 
-/// What a text gives, through the bound.
+/// Adds what a text gives, through the bound.
 pub fn read_shown<P: FromParam + Shown + Drop>(
     alloc: Global,
     text: &str,
-) -> Result<String, CaseError>
+    out: &mut String,
+) -> Result<(), CaseError>
 where
-    P::Error: ShownError,
+    P::Error: Debug,
 {
-    shown(alloc, P::from_param(alloc, text))
+    push_shown(P::from_param(alloc, text), out)
 }
 
-/// What segments give, through the bound.
+/// Adds what segments give, through the bound.
 pub fn read_segments<P: FromSegments + Shown + Drop>(
     alloc: Global,
     segments: Segments<'_>,
-) -> Result<String, CaseError>
+    out: &mut String,
+) -> Result<(), CaseError>
 where
-    P::Error: ShownError,
+    P::Error: Debug,
 {
-    shown(alloc, P::from_segments(alloc, segments))
+    push_shown(P::from_segments(alloc, segments), out)
 }

@@ -1,83 +1,118 @@
-use crate::app::Sample;
-use crate::bodies::body_answer;
-use crate::context::ctx_answer;
-use crate::error::CaseError;
-use crate::guards::guard;
-use crate::heads::{copy_answer, head_answer};
-use crate::kept::{Kept, Server, config, managed};
-use crate::params::{param, params, segment, segments};
+use crate::bodies::push_body_guard;
+use crate::context::{change_ctx, push_ctx};
+use crate::guards::push_guard;
+use crate::heads::answer_head;
+use crate::kept::{Kept, config, managed};
+use crate::params::{push_param, push_params, push_segment, push_segments};
 use crate::question::{Question, parse_question};
-use crate::requests::made_request;
-use crate::told::request_told;
-use crate::words::first_word;
+use crate::requests::{method_and_uri, take_steps};
+use crate::told::push_request;
+use cases::{Answers, CaseError, first_word};
+use rkt_http::{Method, Origin};
 use rkt_request::{Ctx, Request};
+use sample_app::{Sample, Server};
 use std::alloc::Global;
 
-fn done(alloc: Global) -> Result<String, CaseError> {
-    Ok(String::from_str(alloc, "done")?)
-}
-
-fn set_config(alloc: Global, server: &mut Server, text: &str) -> Result<String, CaseError> {
-    server.config = config(alloc, text)?;
-    done(alloc)
-}
-
-fn set_managed(alloc: Global, server: &mut Server, text: &str) -> Result<String, CaseError> {
-    server.managed = managed(alloc, text)?;
-    done(alloc)
-}
-
-/// What is asked of a request.
-fn asked(
+/// Adds what is asked of a request.
+fn push_asked(
     alloc: Global,
     request: &Request<'_, Sample>,
     ctx: &mut Ctx<Sample>,
     question: Question<'_>,
-) -> Result<String, CaseError> {
+    out: &mut String,
+) -> Result<(), CaseError> {
     match question {
-        Question::Tell => request_told(alloc, request),
-        Question::Segment(n) => segment(alloc, request, n),
-        Question::Segments(n) => segments(alloc, request, n),
-        Question::Param(n, name) => param(alloc, name, request, n),
-        Question::Params(n, name) => params(alloc, name, request, n),
-        Question::Guard(name) => guard(alloc, name, request, ctx),
+        Question::Tell => Ok(push_request(alloc, request, out)?),
+        Question::Segment(n) => Ok(push_segment(request, n, out)?),
+        Question::Segments(n) => Ok(push_segments(request, n, out)?),
+        Question::Param(n, name) => push_param(alloc, name, request, n, out),
+        Question::Params(n, name) => push_params(alloc, name, request, n, out),
+        Question::Guard(name) => push_guard(alloc, name, request, ctx, out),
+        Question::Body(text) => push_body_guard(alloc, request, text, out),
     }
+}
+
+/// Takes the steps of a request, and adds what is asked of it then.
+fn push_stepped(
+    alloc: Global,
+    request: &mut Request<'_, Sample>,
+    ctx: &mut Ctx<Sample>,
+    asked: (Question<'_>, &str),
+    out: &mut String,
+) -> Result<(), CaseError> {
+    take_steps(alloc, request, asked.1)?;
+    push_asked(alloc, request, ctx, asked.0, out)
+}
+
+/// Asks the request that begins so.
+fn ask(
+    alloc: Global,
+    kept: &mut Kept,
+    first: (Method, Origin),
+    asked: (Question<'_>, &str),
+    out: &mut String,
+) -> Result<(), CaseError> {
+    let mut request = kept.server.request(alloc, first.0, first.1)?;
+    push_stepped(alloc, &mut request, &mut kept.ctx, asked, out)
 }
 
 /// The answer to a question, by the request behind it.
-fn request_case(
+fn answer_question(
     alloc: Global,
     kept: &mut Kept,
     command: &str,
     text: &str,
-) -> Result<String, CaseError> {
-    let (question, text) = parse_question(command, text)?;
-    let request = made_request(alloc, &kept.server, text)?;
-    asked(alloc, &request, &mut kept.ctx, question)
+    out: &mut String,
+) -> Result<(), CaseError> {
+    let asked = parse_question(command, text)?;
+    let first = method_and_uri(alloc, asked.1)?;
+    ask(alloc, kept, first, asked, out)
 }
 
-/// What is asked of a head or of a body.
-fn read_case(
+/// Changes what is lent to each request.
+fn set(alloc: Global, server: &mut Server, command: &str, text: &str) -> Result<(), CaseError> {
+    match command {
+        "config" => server.config = config(alloc, text)?,
+        _ => server.managed = managed(alloc, text)?,
+    }
+    Ok(())
+}
+
+fn answer_set(
     alloc: Global,
-    kept: &mut Kept,
+    server: &mut Server,
     command: &str,
     text: &str,
-) -> Result<String, CaseError> {
+    out: &mut String,
+) -> Result<(), CaseError> {
+    set(alloc, server, command, text)?;
+    Ok(out.push_str("done")?)
+}
+
+fn answer_ctx(
+    alloc: Global,
+    ctx: &mut Ctx<Sample>,
+    text: &str,
+    out: &mut String,
+) -> Result<(), CaseError> {
+    let (command, text) = first_word(text);
     match command {
-        "head" => head_answer(alloc, &kept.server, text),
-        "copy" => copy_answer(alloc, text),
-        "body" => body_answer(alloc, &kept.server, text),
-        _ => request_case(alloc, kept, command, text),
+        "cache" | "tell" | "parts" => push_ctx(alloc, ctx, command, text, out),
+        _ => {
+            change_ctx(alloc, ctx, command, text)?;
+            Ok(out.push_str("done")?)
+        }
     }
 }
 
-/// What a case answers.
-pub fn answer(alloc: Global, kept: &mut Kept, line: &str) -> Result<String, CaseError> {
-    let (command, text) = first_word(line);
-    match command {
-        "config" => set_config(alloc, &mut kept.server, text),
-        "managed" => set_managed(alloc, &mut kept.server, text),
-        "ctx" => ctx_answer(alloc, &mut kept.ctx, text),
-        _ => read_case(alloc, kept, command, text),
+impl Answers for Kept {
+    fn answer(&mut self, alloc: Global, line: &str, out: &mut String) -> Result<(), CaseError> {
+        let (command, text) = first_word(line);
+        match command {
+            "config" | "managed" => answer_set(alloc, &mut self.server, command, text, out),
+            "ctx" => answer_ctx(alloc, &mut self.ctx, text, out),
+            "head" | "copy" => answer_head(alloc, &self.server, command, text, out),
+            _ => answer_question(alloc, self, command, text, out),
+        }
     }
 }

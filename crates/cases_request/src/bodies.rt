@@ -1,16 +1,15 @@
 //! Guards of bodies, by the names of their types.
-use crate::app::Sample;
-use crate::error::CaseError;
-use crate::kept::{Server, gate_at};
-use crate::requests::made_request;
-use crate::shown::{Shown, ShownError};
-use crate::words::{first_word, long, number, unescaped};
-use rkt_base::{NoMemory, Poll};
+use crate::shown::{Shown, show_error, show_forward, show_named};
+use crate::words::unescaped;
+use cases::{CaseError, first_word, numbers, parsed};
+use rkt_base::Poll;
 use rkt_data::{CancellableIo, Capped, Data, MemorySource};
 use rkt_http::{Outcome, Status};
 use rkt_request::{Body0, FromData, GuardError, Request};
+use sample_app::{Sample, gate_at};
 use std::alloc::Global;
 use std::convert::Infallible;
+use std::fmt::Debug;
 
 type Answer<G, E> = Outcome<G, (Status, E), (Body0<Sample>, Status)>;
 
@@ -28,104 +27,98 @@ fn polled<G: FromData<Sample>>(
     }
 }
 
-fn guarded<G: FromData<Sample> + Shown + Drop>(
+fn push_guarded<G: FromData<Sample> + Shown + Drop>(
     alloc: Global,
     request: &Request<'_, Sample>,
     body: Body0<Sample>,
-) -> Result<String, CaseError>
+    out: &mut String,
+) -> Result<(), CaseError>
 where
-    G::Error: ShownError,
+    G::Error: Debug,
 {
-    let outcome = polled::<G>(alloc, request, body)?;
-    outcome.shown(alloc)
+    match polled::<G>(alloc, request, body)? {
+        Outcome::Success(value) => show_named(alloc, "Success", &value, out),
+        Outcome::Error((status, error)) => Ok(show_error(status, &error, out)?),
+        Outcome::Forward((_body, status)) => Ok(show_forward(status, out)?),
+    }
 }
 
-/// What a body has to read first.
-fn peeked(alloc: Global, body: &mut Body0<Sample>) -> Result<String, CaseError> {
+/// Adds what a body has to read first.
+fn push_peeked(body: &mut Body0<Sample>, out: &mut String) -> Result<(), CaseError> {
     match body.peek(gate_at(0), 9) {
-        Poll::Ready(bytes) => Ok(format!(in alloc; "peeked {bytes:?}")?),
+        Poll::Ready(bytes) => Ok(write!(out, "peeked {bytes:?}")?),
         Poll::Pending => Err(CaseError::Line),
     }
 }
 
-/// A body that is handed on.
-fn handed_on(
+/// Adds a body that is handed on.
+fn push_handed_on(
     alloc: Global,
     request: &Request<'_, Sample>,
     body: Body0<Sample>,
-) -> Result<String, CaseError> {
+    out: &mut String,
+) -> Result<(), CaseError> {
     let outcome: Answer<Body0<Sample>, Infallible> = polled(alloc, request, body)?;
     match outcome {
-        Outcome::Success(mut body) => peeked(alloc, &mut body),
+        Outcome::Success(mut body) => push_peeked(&mut body, out),
         _ => Err(CaseError::Line),
     }
 }
 
-fn whole_guard(
+fn push_guard(
     alloc: Global,
     name: &str,
     request: &Request<'_, Sample>,
     body: Body0<Sample>,
-) -> Result<String, CaseError> {
+    out: &mut String,
+) -> Result<(), CaseError> {
     match name {
-        "Data" => handed_on(alloc, request, body),
-        "String" => guarded::<String>(alloc, request, body),
-        "Vec<u8>" => guarded::<Vec<u8>>(alloc, request, body),
-        _ => other_guard(alloc, name, request, body),
+        "Data" => push_handed_on(alloc, request, body, out),
+        "String" => push_guarded::<String>(alloc, request, body, out),
+        "Vec<u8>" => push_guarded::<Vec<u8>>(alloc, request, body, out),
+        _ => push_other_guard(alloc, name, request, body, out),
     }
 }
 
-fn other_guard(
+fn push_other_guard(
     alloc: Global,
     name: &str,
     request: &Request<'_, Sample>,
     body: Body0<Sample>,
-) -> Result<String, CaseError> {
+    out: &mut String,
+) -> Result<(), CaseError> {
     match name {
-        "Capped<String>" => guarded::<Capped<String>>(alloc, request, body),
-        "Capped<Vec<u8>>" => guarded::<Capped<Vec<u8>>>(alloc, request, body),
-        "Option<String>" => guarded::<Option<String>>(alloc, request, body),
-        "Result<String>" => guarded::<Result<String, GuardError>>(alloc, request, body),
+        "Capped<String>" => push_guarded::<Capped<String>>(alloc, request, body, out),
+        "Capped<Vec<u8>>" => push_guarded::<Capped<Vec<u8>>>(alloc, request, body, out),
+        "Option<String>" => push_guarded::<Option<String>>(alloc, request, body, out),
+        "Result<String>" => push_guarded::<Result<String, GuardError>>(alloc, request, body, out),
         _ => Err(CaseError::Line),
     }
-}
-
-/// The numbers that are parted by commas, or none.
-fn reads(alloc: Global, list: &str) -> Result<Vec<u64>, CaseError> {
-    let mut reads = Vec::new(alloc);
-    if list == "-" {
-        return Ok(reads);
-    }
-    for word in list.split(',') {
-        push_read(&mut reads, word)?;
-    }
-    Ok(reads)
-}
-
-fn push_read(reads: &mut Vec<u64>, word: &str) -> Result<(), CaseError> {
-    let read = long(word)?;
-    Ok(reads.push(read)?)
-}
-
-fn body_of(alloc: Global, source: MemorySource) -> Result<Body0<Sample>, NoMemory> {
-    Data::from_source(alloc, CancellableIo::new(source))
 }
 
 /// The source of `CHUNK FAILS BYTES`.
 fn source(alloc: Global, text: &str) -> Result<MemorySource, CaseError> {
     let (chunk, rest) = first_word(text);
     let (fails, bytes) = first_word(rest);
-    let chunk = number(chunk)?;
-    let fails = reads(alloc, fails)?;
+    let chunk = parsed::<usize>(chunk)?;
+    let fails = numbers(alloc, fails)?;
     let bytes = unescaped(alloc, bytes)?;
     Ok(MemorySource::new(bytes, chunk, fails))
 }
 
-/// The outcome of the guard of `TYPE CHUNK FAILS BYTES`.
-pub fn body_answer(alloc: Global, server: &Server, line: &str) -> Result<String, CaseError> {
-    let (name, text) = first_word(line);
+fn body_of(alloc: Global, text: &str) -> Result<Body0<Sample>, CaseError> {
     let source = source(alloc, text)?;
-    let request = made_request(alloc, server, "POST /echo")?;
-    let body = body_of(alloc, source)?;
-    whole_guard(alloc, name, &request, body)
+    Ok(Data::from_source(alloc, CancellableIo::new(source))?)
+}
+
+/// Adds the outcome of the guard of `TYPE CHUNK FAILS BYTES`.
+pub fn push_body_guard(
+    alloc: Global,
+    request: &Request<'_, Sample>,
+    line: &str,
+    out: &mut String,
+) -> Result<(), CaseError> {
+    let (name, text) = first_word(line);
+    let body = body_of(alloc, text)?;
+    push_guard(alloc, name, request, body, out)
 }

@@ -1,106 +1,92 @@
 //! Cases of a context, which is kept from line to line.
-use crate::app::{Sample, Stopped};
-use crate::error::CaseError;
-use crate::kept::{gate_at, new_context};
-use crate::words::{byte, first_word, long, pair};
-use rkt_cookie::{Cookie, CookieJar};
+use crate::kept::new_context;
+use cases::{CaseError, first_word, pair, parsed};
+use rkt_base::NoMemory;
+use rkt_cookie::Cookie;
 use rkt_http::Key;
 use rkt_request::Ctx;
+use sample_app::{Sample, Stopped, gate_at};
 use std::alloc::Global;
 use std::mem;
 
-fn done(alloc: Global) -> Result<String, CaseError> {
-    Ok(String::from_str(alloc, "done")?)
-}
-
-/// The number that is cached under a key.
-fn cache(alloc: Global, ctx: &mut Ctx<Sample>, text: &str) -> Result<String, CaseError> {
-    let (key, value) = first_word(text);
-    let key = Key(u32::from(byte(key)?));
-    let value = byte(value)?;
-    let cached = ctx.local_cache(key, || value)?;
-    Ok(cached.to_string(alloc)?)
-}
-
-fn add(alloc: Global, ctx: &mut Ctx<Sample>, text: &str) -> Result<String, CaseError> {
+fn add(alloc: Global, ctx: &mut Ctx<Sample>, text: &str) -> Result<(), CaseError> {
     let (name, value) = pair(text, "=")?;
     let cookie = Cookie::new(alloc, name, value)?;
-    ctx.cookies_mut().add(alloc, cookie)?;
-    done(alloc)
+    Ok(ctx.cookies_mut().add(cookie)?)
 }
 
-fn told(alloc: Global, ctx: &Ctx<Sample>) -> Result<String, CaseError> {
-    let (cached, changes) = (ctx.cached(), ctx.cookies().log().len());
-    let moment = ctx.gate().moment;
-    Ok(format!(in alloc; "cached={cached} changes={changes} moment={moment}")?)
-}
-
-fn push_cached(alloc: Global, list: &mut String, cache: &[(Key, u8)]) -> Result<(), CaseError> {
-    for (key, value) in cache {
-        let text = format!(in alloc; " {}={value}", key.0)?;
-        list.push_str(text.as_str())?;
-    }
-    Ok(())
-}
-
-/// What was changed in a jar, and which word the wire's handle has seen.
-fn counts(alloc: Global, jar: &CookieJar, seen: u64) -> Result<String, CaseError> {
-    let changes = jar.log().len();
-    Ok(format!(in alloc; "changes={changes} seen={seen} cached")?)
-}
-
-fn parts(alloc: Global, ctx: Ctx<Sample>) -> Result<String, CaseError> {
-    let (jar, cache, shutdown) = ctx.into_parts();
-    let mut list = counts(alloc, &jar, shutdown.seen())?;
-    push_cached(alloc, &mut list, cache.as_slice())?;
-    Ok(list)
-}
-
-/// Takes the context apart, and leaves a new one in its place.
-fn take_apart(alloc: Global, ctx: &mut Ctx<Sample>) -> Result<String, CaseError> {
-    let other = new_context(alloc)?;
-    parts(alloc, mem::replace(ctx, other))
-}
-
-fn renew(alloc: Global, ctx: &mut Ctx<Sample>) -> Result<String, CaseError> {
-    *ctx = new_context(alloc)?;
-    done(alloc)
-}
-
-fn set_gate(alloc: Global, ctx: &mut Ctx<Sample>, text: &str) -> Result<String, CaseError> {
-    let moment = long(text)?;
-    ctx.set_gate(gate_at(moment));
-    done(alloc)
-}
-
-fn notify(alloc: Global, ctx: &mut Ctx<Sample>) -> Result<String, CaseError> {
-    ctx.shutdown().notify(Stopped);
-    done(alloc)
-}
-
-/// What a context answers that is changed.
-fn change(
+/// Changes a context.
+pub fn change_ctx(
     alloc: Global,
     ctx: &mut Ctx<Sample>,
     command: &str,
     text: &str,
-) -> Result<String, CaseError> {
+) -> Result<(), CaseError> {
     match command {
-        "cache" => cache(alloc, ctx, text),
-        "add" => add(alloc, ctx, text),
-        "gate" => set_gate(alloc, ctx, text),
-        "notify" => notify(alloc, ctx),
-        _ => Err(CaseError::Line),
+        "new" => *ctx = new_context(alloc)?,
+        "add" => add(alloc, ctx, text)?,
+        "gate" => ctx.set_gate(gate_at(parsed::<u64>(text)?)),
+        "notify" => ctx.shutdown().notify(Stopped),
+        _ => return Err(CaseError::Line),
     }
+    Ok(())
 }
 
-/// What a context answers to a command.
-pub fn ctx_answer(alloc: Global, ctx: &mut Ctx<Sample>, line: &str) -> Result<String, CaseError> {
-    let (command, text) = first_word(line);
+/// Adds the number that is cached under a key.
+fn push_cached(ctx: &mut Ctx<Sample>, text: &str, out: &mut String) -> Result<(), CaseError> {
+    let (key, value) = first_word(text);
+    let key = Key(u32::from(parsed::<u8>(key)?));
+    let value = parsed::<u8>(value)?;
+    let cached = ctx.local_cache(key, || value)?;
+    Ok(write!(out, "{cached}")?)
+}
+
+fn push_told(ctx: &Ctx<Sample>, out: &mut String) -> Result<(), NoMemory> {
+    let (cached, changes) = (ctx.cached(), ctx.cookies().log().len());
+    let moment = ctx.gate().moment;
+    write!(out, "cached={cached} changes={changes} moment={moment}")
+}
+
+fn push_entry(key: Key, value: u8, out: &mut String) -> Result<(), NoMemory> {
+    write!(out, " {}={value}", key.0)
+}
+
+/// Adds what was changed in a jar, which word the wire's handle has seen, and what was cached.
+fn push_counts(
+    changes: usize,
+    seen: u64,
+    cache: &[(Key, u8)],
+    out: &mut String,
+) -> Result<(), NoMemory> {
+    write!(out, "changes={changes} seen={seen} cached")?;
+    for (key, value) in cache {
+        push_entry(*key, *value, out)?;
+    }
+    Ok(())
+}
+
+fn push_parts(ctx: Ctx<Sample>, out: &mut String) -> Result<(), NoMemory> {
+    let (jar, cache, shutdown) = ctx.into_parts();
+    push_counts(jar.log().len(), shutdown.seen(), cache.as_slice(), out)
+}
+
+/// Takes the context apart, and leaves a new one in its place.
+fn take_apart(alloc: Global, ctx: &mut Ctx<Sample>, out: &mut String) -> Result<(), NoMemory> {
+    let other = new_context(alloc)?;
+    push_parts(mem::replace(ctx, other), out)
+}
+
+/// Adds what a context answers that is asked.
+pub fn push_ctx(
+    alloc: Global,
+    ctx: &mut Ctx<Sample>,
+    command: &str,
+    text: &str,
+    out: &mut String,
+) -> Result<(), CaseError> {
     match command {
-        "new" => renew(alloc, ctx),
-        "tell" => told(alloc, ctx),
-        "parts" => take_apart(alloc, ctx),
-        _ => change(alloc, ctx, command, text),
+        "cache" => push_cached(ctx, text, out),
+        "tell" => Ok(push_told(ctx, out)?),
+        _ => Ok(take_apart(alloc, ctx, out)?),
     }
 }

@@ -1,14 +1,13 @@
 //! Heads, as lines say them.
-use crate::app::Sample;
-use crate::error::CaseError;
-use crate::kept::Server;
-use crate::requests::address;
-use crate::told::{push_request, push_text};
-use crate::words::{field, first_piece, first_word, unescaped};
+use crate::told::{push_field, push_request};
+use crate::words::{field, first_piece, unescaped};
+use cases::{CaseError, first_word, parsed};
 use rkt_base::{NoMemory, Seq, Text};
 use rkt_cookie::CookieJar;
 use rkt_request::{Head, Incoming, Request};
+use sample_app::{Sample, Server};
 use std::alloc::Global;
+use std::net::SocketAddr;
 
 /// The head of `METHOD TARGET`.
 fn first(alloc: Global, text: &str) -> Result<Head, NoMemory> {
@@ -34,80 +33,92 @@ fn take_header(alloc: Global, head: &mut Head, text: &str) -> Result<(), CaseErr
 
 fn take_field(alloc: Global, head: &mut Head, text: &str) -> Result<(), CaseError> {
     match text.strip_prefix("from ") {
-        Some(word) => head.remote = Some(address(word)?),
+        Some(word) => head.remote = Some(parsed::<SocketAddr>(word)?),
         None => take_header(alloc, head, text)?,
     }
     Ok(())
 }
 
-/// The head of `METHOD TARGET | FIELD | ..`.
-fn made_head(alloc: Global, text: &str) -> Result<Head, CaseError> {
-    let mut head = first(alloc, first_piece(text))?;
+fn take_fields(alloc: Global, head: &mut Head, text: &str) -> Result<(), CaseError> {
     for field in text.split(" | ").skip(1) {
-        take_field(alloc, &mut head, field)?;
+        take_field(alloc, head, field)?;
     }
-    Ok(head)
+    Ok(())
 }
 
 /// Adds the cookies that came.
-fn push_cookies(alloc: Global, list: &mut String, jar: &CookieJar) -> Result<(), CaseError> {
+fn push_cookies(jar: &CookieJar, out: &mut String) -> Result<(), NoMemory> {
+    out.push_str(" cookies")?;
     for cookie in jar.iter() {
-        push_pair(alloc, list, (cookie.name(), cookie.value()))?;
+        push_field(cookie.name(), &cookie.value(), out)?;
     }
     Ok(())
 }
 
-fn push_pair(alloc: Global, list: &mut String, pair: (&str, &str)) -> Result<(), CaseError> {
-    let (name, value) = pair;
-    let text = format!(in alloc; " {name}={value:?}")?;
-    push_text(list, text.as_str())
+/// Adds what a head has made.
+fn push_incoming(
+    alloc: Global,
+    asked: &Incoming<'_, Sample>,
+    out: &mut String,
+) -> Result<(), CaseError> {
+    write!(out, "faults={:?} ", asked.faults.as_slice())?;
+    push_request(alloc, &asked.request, out)?;
+    Ok(push_cookies(&asked.jar, out)?)
 }
 
-/// What a head has made.
-fn told(alloc: Global, asked: &Incoming<'_, Sample>) -> Result<String, CaseError> {
-    let faults = asked.faults.as_slice();
-    let mut list = format!(in alloc; "faults={faults:?} ")?;
-    push_request(alloc, &mut list, &asked.request)?;
-    push_text(&mut list, " cookies")?;
-    push_cookies(alloc, &mut list, &asked.jar)?;
-    Ok(list)
-}
-
-/// What the request of a head tells, its faults, and the cookies that came.
-pub fn head_answer(alloc: Global, server: &Server, text: &str) -> Result<String, CaseError> {
-    let head = made_head(alloc, text)?;
+fn push_read(
+    alloc: Global,
+    server: &Server,
+    head: &Head,
+    out: &mut String,
+) -> Result<(), CaseError> {
     let asked: Incoming<'_, Sample> = Request::from_incoming(
         alloc,
-        &head,
+        head,
         &server.config,
         &server.managed,
     )?;
-    told(alloc, &asked)
+    push_incoming(alloc, &asked, out)
 }
 
-fn push_field(alloc: Global, list: &mut String, name: &str, value: &[u8]) -> Result<(), CaseError> {
-    let text = format!(in alloc; " {name}={value:?}")?;
-    push_text(list, text.as_str())
-}
-
-fn push_fields(alloc: Global, list: &mut String, head: &Head) -> Result<(), CaseError> {
+/// Adds a head, part by part.
+fn push_parts(head: &Head, out: &mut String) -> Result<(), CaseError> {
+    let (method, target) = (head.method.as_str(), head.target.as_str());
+    write!(out, "{method} {target} from {:?}", head.remote)?;
     for (name, value) in head.headers.as_slice() {
-        push_field(alloc, list, name.as_str(), value.as_slice())?;
+        push_field(name.as_str(), &value.as_slice(), out)?;
     }
     Ok(())
 }
 
-/// A head, part by part.
-fn parts(alloc: Global, head: &Head) -> Result<String, CaseError> {
-    let (method, target) = (head.method.as_str(), head.target.as_str());
-    let mut list = format!(in alloc; "{method} {target} from {:?}", head.remote)?;
-    push_fields(alloc, &mut list, head)?;
-    Ok(list)
+fn push_copied(alloc: Global, head: &Head, out: &mut String) -> Result<(), CaseError> {
+    let copy = head.try_clone(alloc)?;
+    push_parts(&copy, out)
 }
 
-/// A copy of a head.
-pub fn copy_answer(alloc: Global, text: &str) -> Result<String, CaseError> {
-    let head = made_head(alloc, text)?;
-    let copy = head.try_clone(alloc)?;
-    parts(alloc, &copy)
+/// Takes the fields of a head, and adds a copy of it, or what its request tells, its faults, and the cookies that came.
+fn push_filled(
+    alloc: Global,
+    server: &Server,
+    head: &mut Head,
+    asked: (&str, &str),
+    out: &mut String,
+) -> Result<(), CaseError> {
+    take_fields(alloc, head, asked.1)?;
+    match asked.0 {
+        "copy" => push_copied(alloc, head, out),
+        _ => push_read(alloc, server, head, out),
+    }
+}
+
+/// Answers `copy` or `head`, with the head of `METHOD TARGET | FIELD | ..`.
+pub fn answer_head(
+    alloc: Global,
+    server: &Server,
+    command: &str,
+    text: &str,
+    out: &mut String,
+) -> Result<(), CaseError> {
+    let mut head = first(alloc, first_piece(text))?;
+    push_filled(alloc, server, &mut head, (command, text), out)
 }

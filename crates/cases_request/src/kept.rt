@@ -1,21 +1,11 @@
 //! What is kept from line to line.
-use crate::app::{Sample, Stopped};
-use crate::error::CaseError;
-use crate::words::{byte, pair};
+use cases::{CaseError, pair, parsed};
 use rkt_base::NoMemory;
 use rkt_cookie::CookieJar;
-use rkt_data::Gate;
 use rkt_http::Key;
 use rkt_request::{Config, ConfigTable, Ctx, Managed};
-use rkt_turn::TripWire;
+use sample_app::{Sample, Server, context};
 use std::alloc::Global;
-
-/// What a server lends to each request.
-#[derive(Drop)]
-pub struct Server {
-    pub config: Config,
-    pub managed: Managed<u8>,
-}
 
 #[derive(Drop)]
 pub struct Kept {
@@ -23,34 +13,14 @@ pub struct Kept {
     pub ctx: Ctx<Sample>,
 }
 
-/// A Gate without a trip.
-pub fn gate_at(moment: u64) -> Gate {
-    Gate {
-        moment,
-        tripped: None,
-        grace: 2,
-        mercy: 3,
-    }
-}
-
 /// A context with nothing in it.
 pub fn new_context(alloc: Global) -> Result<Ctx<Sample>, NoMemory> {
-    let (_wire, shutdown) = TripWire::<Stopped>::new(alloc)?;
-    Ok(Ctx::new(alloc, CookieJar::new(alloc), shutdown, gate_at(0)))
-}
-
-impl Server {
-    fn new(alloc: Global) -> Result<Server, NoMemory> {
-        Ok(Server {
-            config: Config::default(alloc)?,
-            managed: Managed::new(alloc),
-        })
-    }
+    context(alloc, CookieJar::new(alloc))
 }
 
 impl Kept {
-    /// The default configuration, and nothing managed.
-    pub fn new(alloc: Global) -> Result<Kept, CaseError> {
+    /// The default configuration, nothing managed, and a context with nothing in it.
+    pub fn new(alloc: Global) -> Result<Kept, NoMemory> {
         let server = Server::new(alloc)?;
         Ok(Kept {
             server,
@@ -68,17 +38,17 @@ fn set_entry(table: &mut ConfigTable, entry: &str) -> Result<(), CaseError> {
     Ok(table.set(name, text)?)
 }
 
-fn table(alloc: Global, text: &str) -> Result<ConfigTable, CaseError> {
-    let mut table = ConfigTable::new(alloc);
+fn set_entries(table: &mut ConfigTable, text: &str) -> Result<(), CaseError> {
     for entry in text.split("; ") {
-        set_entry(&mut table, entry)?;
+        set_entry(table, entry)?;
     }
-    Ok(table)
+    Ok(())
 }
 
 /// The configuration of `NAME=TEXT; ..`.
 pub fn config(alloc: Global, text: &str) -> Result<Config, CaseError> {
-    let table = table(alloc, text)?;
+    let mut table = ConfigTable::new(alloc);
+    set_entries(&mut table, text)?;
     Ok(Config::from_table(alloc, &table)?)
 }
 
@@ -88,15 +58,20 @@ fn manage(managed: &mut Managed<u8>, entry: &str) -> Result<(), CaseError> {
         return Ok(());
     }
     let (key, value) = pair(entry, "=")?;
-    let key = Key(u32::from(byte(key)?));
-    Ok(managed.set(key, byte(value)?)?)
+    let key = Key(u32::from(parsed::<u8>(key)?));
+    Ok(managed.set(key, parsed::<u8>(value)?)?)
+}
+
+fn manage_each(managed: &mut Managed<u8>, text: &str) -> Result<(), CaseError> {
+    for entry in text.split("; ") {
+        manage(managed, entry)?;
+    }
+    Ok(())
 }
 
 /// The managed values of `KEY=NUMBER; ..`.
 pub fn managed(alloc: Global, text: &str) -> Result<Managed<u8>, CaseError> {
     let mut managed = Managed::new(alloc);
-    for entry in text.split("; ") {
-        manage(&mut managed, entry)?;
-    }
+    manage_each(&mut managed, text)?;
     Ok(managed)
 }

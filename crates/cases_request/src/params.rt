@@ -1,123 +1,115 @@
 //! Parameters of requests, by the names of their types.
-use crate::app::Sample;
-use crate::error::CaseError;
-use crate::shown::{Shown, ShownError};
-use rkt_base::Want;
+use crate::shown::Shown;
+use cases::CaseError;
+use rkt_base::{NoMemory, Want};
 use rkt_http::{PathBuf, PathError, Segments};
 use rkt_request::{FromParam, FromSegments, Request};
+use sample_app::Sample;
 use std::alloc::Global;
+use std::fmt::Debug;
 
-fn none(alloc: Global) -> Result<String, CaseError> {
-    Ok(String::from_str(alloc, "none")?)
-}
-
-fn refused<E: ShownError>(alloc: Global, error: &E) -> Result<String, CaseError> {
-    let error = E::shown_error(alloc, Some(error))?;
-    Ok(format!(in alloc; "refused {error}")?)
-}
-
-/// A value, or the error in its place.
-fn value_or_error<P: Shown + Drop, E: ShownError + Drop>(
+/// Adds a value, or the error in its place.
+fn push_read<P: Shown + Drop, E: Debug + Drop>(
     alloc: Global,
     read: Result<P, Want<E>>,
-) -> Result<String, CaseError> {
+    out: &mut String,
+) -> Result<(), CaseError> {
     match read {
-        Ok(value) => value.shown(alloc),
-        Err(Want::Refused(error)) => refused(alloc, &error),
+        Ok(value) => value.show(alloc, out),
+        Err(Want::Refused(error)) => Ok(write!(out, "refused {error:?}")?),
         Err(Want::NoMemory) => Err(CaseError::NoMemory),
     }
 }
 
-/// What a segment gives, through the bound.
-fn read<P: FromParam + Shown + Drop>(
+/// Adds what a segment gives, through the bound.
+fn push_one<P: FromParam + Shown + Drop>(
     alloc: Global,
     request: &Request<'_, Sample>,
     n: usize,
-) -> Result<String, CaseError>
+    out: &mut String,
+) -> Result<(), CaseError>
 where
-    P::Error: ShownError,
+    P::Error: Debug,
 {
     match request.param::<P>(alloc, n) {
-        Some(read) => value_or_error(alloc, read),
-        None => none(alloc),
+        Some(read) => push_read(alloc, read, out),
+        None => Ok(out.push_str("none")?),
     }
 }
 
-/// What a segment gives as a value of a type.
-pub fn param(
+/// Adds what a segment gives as a value of a type.
+pub fn push_param(
     alloc: Global,
     name: &str,
     request: &Request<'_, Sample>,
     n: usize,
-) -> Result<String, CaseError> {
+    out: &mut String,
+) -> Result<(), CaseError> {
     match name {
-        "String" => read::<String>(alloc, request, n),
-        "u8" => read::<u8>(alloc, request, n),
-        "Option<u8>" => read::<Option<u8>>(alloc, request, n),
-        "PathBuf" => read::<PathBuf>(alloc, request, n),
+        "String" => push_one::<String>(alloc, request, n, out),
+        "u8" => push_one::<u8>(alloc, request, n, out),
+        "Option<u8>" => push_one::<Option<u8>>(alloc, request, n, out),
+        "PathBuf" => push_one::<PathBuf>(alloc, request, n, out),
         _ => Err(CaseError::Line),
     }
 }
 
-/// What the segments from one on give, through the bound.
-fn read_from<P: FromSegments + Shown + Drop>(
+/// Adds what the segments from one on give, through the bound.
+fn push_from<P: FromSegments + Shown + Drop>(
     alloc: Global,
     request: &Request<'_, Sample>,
     n: usize,
-) -> Result<String, CaseError>
+    out: &mut String,
+) -> Result<(), CaseError>
 where
-    P::Error: ShownError,
+    P::Error: Debug,
 {
-    value_or_error(alloc, request.segments::<P>(alloc, n..))
+    push_read(alloc, request.segments::<P>(alloc, n..), out)
 }
 
-/// What the segments from one on give as a value of a type.
-pub fn params(
+/// Adds what the segments from one on give as a value of a type.
+pub fn push_params(
     alloc: Global,
     name: &str,
     request: &Request<'_, Sample>,
     n: usize,
-) -> Result<String, CaseError> {
+    out: &mut String,
+) -> Result<(), CaseError> {
     match name {
-        "PathBuf" => read_from::<PathBuf>(alloc, request, n),
-        "Option<PathBuf>" => read_from::<Option<PathBuf>>(alloc, request, n),
-        "Result<PathBuf>" => read_from::<Result<PathBuf, PathError>>(alloc, request, n),
-        "Vec<String>" => read_from::<Vec<String>>(alloc, request, n),
+        "PathBuf" => push_from::<PathBuf>(alloc, request, n, out),
+        "Option<PathBuf>" => push_from::<Option<PathBuf>>(alloc, request, n, out),
+        "Result<PathBuf>" => push_from::<Result<PathBuf, PathError>>(alloc, request, n, out),
+        "Vec<String>" => push_from::<Vec<String>>(alloc, request, n, out),
         _ => Err(CaseError::Line),
     }
 }
 
-pub fn segment(
-    alloc: Global,
+pub fn push_segment(
     request: &Request<'_, Sample>,
     n: usize,
-) -> Result<String, CaseError> {
+    out: &mut String,
+) -> Result<(), NoMemory> {
     match request.routed_segment(n) {
-        Some(segment) => Ok(format!(in alloc; "{segment:?}")?),
-        None => none(alloc),
+        Some(segment) => write!(out, "{segment:?}"),
+        None => out.push_str("none"),
     }
 }
 
-fn push_segment(list: &mut String, segment: &str) -> Result<(), CaseError> {
-    list.push('|')?;
-    Ok(list.push_str(segment)?)
-}
-
-fn push_segments(list: &mut String, segments: Segments<'_>) -> Result<(), CaseError> {
+fn push_each(segments: Segments<'_>, out: &mut String) -> Result<(), NoMemory> {
     for n in 0..segments.len() {
-        push_segment(list, segments.get(n).unwrap_or(""))?;
+        let segment = segments.get(n).unwrap_or("");
+        write!(out, "|{segment}")?;
     }
     Ok(())
 }
 
-/// How many segments there are from one on, and each behind a bar.
-pub fn segments(
-    alloc: Global,
+/// Adds how many segments there are from one on, and each behind a bar.
+pub fn push_segments(
     request: &Request<'_, Sample>,
     n: usize,
-) -> Result<String, CaseError> {
+    out: &mut String,
+) -> Result<(), NoMemory> {
     let segments = request.routed_segments(n..);
-    let mut list = segments.len().to_string(alloc)?;
-    push_segments(&mut list, segments)?;
-    Ok(list)
+    write!(out, "{}", segments.len())?;
+    push_each(segments, out)
 }

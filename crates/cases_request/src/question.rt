@@ -1,6 +1,5 @@
 //! What a line asks of a request.
-use crate::error::CaseError;
-use crate::words::{first_word, number};
+use cases::{CaseError, first_word, parsed};
 
 #[derive(Clone, Copy)]
 pub enum Question<'a> {
@@ -12,6 +11,8 @@ pub enum Question<'a> {
     Params(usize, &'a str),
     /// The guard of the type of this name.
     Guard(&'a str),
+    /// The guard of a body, `TYPE CHUNK FAILS BYTES`.
+    Body(&'a str),
 }
 
 fn guard(text: &str) -> (Question<'_>, &str) {
@@ -30,7 +31,7 @@ fn typed<'a>(command: &str, n: usize, text: &'a str) -> Result<(Question<'a>, &'
 
 fn numbered<'a>(command: &str, text: &'a str) -> Result<(Question<'a>, &'a str), CaseError> {
     let (word, rest) = first_word(text);
-    let n = number(word)?;
+    let n = parsed::<usize>(word)?;
     match command {
         "segment" => Ok((Question::Segment(n), rest)),
         "segments" => Ok((Question::Segments(n), rest)),
@@ -38,7 +39,7 @@ fn numbered<'a>(command: &str, text: &'a str) -> Result<(Question<'a>, &'a str),
     }
 }
 
-/// The question of a line, and the request that stands behind it.
+/// The question of a line, and the request that it is asked of.
 pub fn parse_question<'a>(
     command: &str,
     text: &'a str,
@@ -46,6 +47,7 @@ pub fn parse_question<'a>(
     match command {
         "tell" => Ok((Question::Tell, text)),
         "guard" => Ok(guard(text)),
+        "body" => Ok((Question::Body(text), "POST /echo")),
         _ => numbered(command, text),
     }
 }

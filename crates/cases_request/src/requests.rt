@@ -1,11 +1,9 @@
 //! Requests, as lines say them.
-use crate::app::Sample;
-use crate::error::CaseError;
-use crate::kept::Server;
-use crate::words::{field, first_piece, first_word, number};
-use rkt_base::NoMemory;
+use crate::words::{field, first_piece};
+use cases::{CaseError, first_word, parsed};
 use rkt_http::{Header, Host, Method, Origin};
 use rkt_request::{Mounted, Request};
+use sample_app::Sample;
 use std::alloc::Global;
 use std::net::SocketAddr;
 
@@ -16,44 +14,22 @@ fn method(word: &str) -> Result<Method, CaseError> {
     }
 }
 
-pub fn address(word: &str) -> Result<SocketAddr, CaseError> {
-    match word.parse() {
-        Ok(address) => Ok(address),
-        Err(_) => Err(CaseError::Line),
-    }
-}
-
 fn header(alloc: Global, text: &str) -> Result<Header, CaseError> {
     let (name, value) = field(text)?;
     Ok(Header::new(alloc, name, value)?)
 }
 
-/// A request without headers, under this configuration.
-fn plain<'a>(
-    alloc: Global,
-    server: &'a Server,
-    method: Method,
-    uri: Origin,
-) -> Result<Request<'a, Sample>, NoMemory> {
-    Request::<Sample>::new(alloc, &server.config, &server.managed, method, uri)
-}
-
-/// The request of `METHOD TARGET`.
-fn first<'a>(
-    alloc: Global,
-    server: &'a Server,
-    text: &str,
-) -> Result<Request<'a, Sample>, CaseError> {
-    let (word, target) = first_word(text);
+/// The method and the origin of a request that begins with `METHOD TARGET`.
+pub fn method_and_uri(alloc: Global, text: &str) -> Result<(Method, Origin), CaseError> {
+    let (word, target) = first_word(first_piece(text));
     let method = method(word)?;
-    let uri = Origin::parse(alloc, target)?;
-    Ok(plain(alloc, server, method, uri)?)
+    Ok((method, Origin::parse(alloc, target)?))
 }
 
 fn set_route(request: &mut Request<'_, Sample>, text: &str) -> Result<(), CaseError> {
     let (position, base) = first_word(text);
-    let position = number(position)?;
-    let base_segments = number(base)?;
+    let position = parsed::<usize>(position)?;
+    let base_segments = parsed::<usize>(base)?;
     request.set_route(Mounted {
         position,
         base_segments,
@@ -96,13 +72,14 @@ fn take_step(
         "method" => request.set_method(method(text)?),
         "uri" => request.set_uri(Origin::parse(alloc, text)?),
         "host" => request.set_host(Host::parse(alloc, text)?),
-        "remote" => request.set_remote(address(text)?),
+        "remote" => request.set_remote(parsed::<SocketAddr>(text)?),
         _ => return take_change(alloc, request, command, text),
     }
     Ok(())
 }
 
-fn take_steps(
+/// Takes the steps of `METHOD TARGET | STEP | ..`.
+pub fn take_steps(
     alloc: Global,
     request: &mut Request<'_, Sample>,
     text: &str,
@@ -111,15 +88,4 @@ fn take_steps(
         take_step(alloc, request, step)?;
     }
     Ok(())
-}
-
-/// The request of `METHOD TARGET | STEP | ..`.
-pub fn made_request<'a>(
-    alloc: Global,
-    server: &'a Server,
-    text: &str,
-) -> Result<Request<'a, Sample>, CaseError> {
-    let mut request = first(alloc, server, first_piece(text))?;
-    take_steps(alloc, &mut request, text)?;
-    Ok(request)
 }

@@ -1,253 +1,169 @@
 //! Values, as answers show them.
-use crate::app::Sample;
-use crate::error::CaseError;
-use rkt_data::{Capped, N};
-use rkt_http::{Accept, ContentType, Host, Method, Origin, Outcome, PathBuf, PathError, Status};
-use rkt_request::{Body0, GuardError, Limits, Mounted, State};
+use crate::told::push_media;
+use cases::CaseError;
+use rkt_base::NoMemory;
+use rkt_data::Capped;
+use rkt_http::{Accept, ContentType, Host, Method, Origin, Outcome, PathBuf, Status};
+use rkt_request::{Limits, Mounted, State};
 use std::alloc::Global;
-use std::convert::Infallible;
-use std::fmt::{Debug, Display};
+use std::fmt::Debug;
 use std::net::{IpAddr, SocketAddr};
 
 /// A value with a text for the answer.
 pub trait Shown {
-    fn shown(&self, alloc: Global) -> Result<String, CaseError>;
+    /// Adds the text.
+    fn show(&self, alloc: Global, out: &mut String) -> Result<(), CaseError>;
 }
 
-fn printed<V: Display>(alloc: Global, value: &V) -> Result<String, CaseError> {
-    Ok(format!(in alloc; "{value}")?)
+/// Adds a value between brackets, behind the name of its variant.
+pub fn show_named<V: Shown>(
+    alloc: Global,
+    name: &str,
+    value: &V,
+    out: &mut String,
+) -> Result<(), CaseError> {
+    write!(out, "{name}(")?;
+    value.show(alloc, out)?;
+    Ok(out.push_str(")")?)
 }
 
-fn debugged<V: Debug>(alloc: Global, value: &V) -> Result<String, CaseError> {
-    Ok(format!(in alloc; "{value:?}")?)
+/// Adds the error of an outcome.
+pub fn show_error<E: Debug>(status: Status, error: &E, out: &mut String) -> Result<(), NoMemory> {
+    write!(out, "Error({}, {error:?})", status.code)
 }
 
-fn copied(alloc: Global, text: &str) -> Result<String, CaseError> {
-    Ok(String::from_str(alloc, text)?)
+/// Adds the forward of an outcome.
+pub fn show_forward(status: Status, out: &mut String) -> Result<(), NoMemory> {
+    write!(out, "Forward({})", status.code)
 }
 
-/// A value between brackets, behind the name of its variant.
-fn named<V: Shown>(alloc: Global, name: &str, value: &V) -> Result<String, CaseError> {
-    let inner = value.shown(alloc)?;
-    Ok(format!(in alloc; "{name}({inner})")?)
+fn debug<V: Debug>(value: &V, out: &mut String) -> Result<(), CaseError> {
+    Ok(write!(out, "{value:?}")?)
 }
 
 impl Shown for u8 {
-    fn shown(&self, alloc: Global) -> Result<String, CaseError> {
-        printed(alloc, self)
+    fn show(&self, _alloc: Global, out: &mut String) -> Result<(), CaseError> {
+        debug(self, out)
     }
 }
 
 impl Shown for String {
-    fn shown(&self, alloc: Global) -> Result<String, CaseError> {
-        debugged(alloc, self)
+    fn show(&self, _alloc: Global, out: &mut String) -> Result<(), CaseError> {
+        debug(self, out)
     }
 }
 
 impl Shown for Vec<String> {
-    fn shown(&self, alloc: Global) -> Result<String, CaseError> {
-        debugged(alloc, self)
+    fn show(&self, _alloc: Global, out: &mut String) -> Result<(), CaseError> {
+        debug(self, out)
     }
 }
 
 impl Shown for Vec<u8> {
-    fn shown(&self, alloc: Global) -> Result<String, CaseError> {
-        debugged(alloc, self)
+    fn show(&self, _alloc: Global, out: &mut String) -> Result<(), CaseError> {
+        debug(self, out)
     }
 }
 
 impl Shown for PathBuf {
-    fn shown(&self, alloc: Global) -> Result<String, CaseError> {
-        debugged(alloc, &self.as_str())
-    }
-}
-
-impl Shown for PathError {
-    fn shown(&self, alloc: Global) -> Result<String, CaseError> {
-        debugged(alloc, self)
-    }
-}
-
-impl Shown for GuardError {
-    fn shown(&self, alloc: Global) -> Result<String, CaseError> {
-        debugged(alloc, self)
-    }
-}
-
-impl Shown for () {
-    fn shown(&self, alloc: Global) -> Result<String, CaseError> {
-        copied(alloc, "()")
-    }
-}
-
-impl Shown for Status {
-    fn shown(&self, alloc: Global) -> Result<String, CaseError> {
-        printed(alloc, &self.code)
+    fn show(&self, _alloc: Global, out: &mut String) -> Result<(), CaseError> {
+        debug(&self.as_str(), out)
     }
 }
 
 impl Shown for Method {
-    fn shown(&self, alloc: Global) -> Result<String, CaseError> {
-        copied(alloc, self.as_str())
+    fn show(&self, _alloc: Global, out: &mut String) -> Result<(), CaseError> {
+        Ok(out.push_str(self.as_str())?)
     }
 }
 
 impl Shown for Mounted {
-    fn shown(&self, alloc: Global) -> Result<String, CaseError> {
-        debugged(alloc, self)
+    fn show(&self, _alloc: Global, out: &mut String) -> Result<(), CaseError> {
+        debug(self, out)
     }
 }
 
 impl Shown for SocketAddr {
-    fn shown(&self, alloc: Global) -> Result<String, CaseError> {
-        printed(alloc, self)
+    fn show(&self, _alloc: Global, out: &mut String) -> Result<(), CaseError> {
+        debug(self, out)
     }
 }
 
 impl Shown for IpAddr {
-    fn shown(&self, alloc: Global) -> Result<String, CaseError> {
-        printed(alloc, self)
+    fn show(&self, _alloc: Global, out: &mut String) -> Result<(), CaseError> {
+        debug(self, out)
     }
 }
 
 impl<const KEY: u32> Shown for State<'_, u8, KEY> {
-    fn shown(&self, alloc: Global) -> Result<String, CaseError> {
-        printed(alloc, self)
+    fn show(&self, _alloc: Global, out: &mut String) -> Result<(), CaseError> {
+        Ok(write!(out, "{self}")?)
     }
 }
 
 impl Shown for Origin {
-    fn shown(&self, alloc: Global) -> Result<String, CaseError> {
-        copied(alloc, self.as_str())
+    fn show(&self, _alloc: Global, out: &mut String) -> Result<(), CaseError> {
+        Ok(out.push_str(self.as_str())?)
     }
 }
 
 impl Shown for Host {
-    fn shown(&self, alloc: Global) -> Result<String, CaseError> {
-        debugged(alloc, &(self.domain(), self.port()))
+    fn show(&self, _alloc: Global, out: &mut String) -> Result<(), CaseError> {
+        debug(&(self.domain(), self.port()), out)
     }
 }
 
 impl Shown for Limits {
-    fn shown(&self, alloc: Global) -> Result<String, CaseError> {
-        printed(alloc, self)
+    fn show(&self, _alloc: Global, out: &mut String) -> Result<(), CaseError> {
+        Ok(write!(out, "{self}")?)
     }
 }
 
 impl Shown for ContentType {
-    fn shown(&self, alloc: Global) -> Result<String, CaseError> {
-        let text = self.media_type().to_text(alloc)?;
-        copied(alloc, text.as_str())
+    fn show(&self, alloc: Global, out: &mut String) -> Result<(), CaseError> {
+        Ok(push_media(alloc, self.media_type(), out)?)
     }
 }
 
 /// The media type that is preferred.
 impl Shown for Accept {
-    fn shown(&self, alloc: Global) -> Result<String, CaseError> {
-        let text = self.preferred().to_text(alloc)?;
-        copied(alloc, text.as_str())
+    fn show(&self, alloc: Global, out: &mut String) -> Result<(), CaseError> {
+        Ok(push_media(alloc, self.preferred(), out)?)
     }
 }
 
 impl<V: Shown> Shown for Option<V> {
-    fn shown(&self, alloc: Global) -> Result<String, CaseError> {
+    fn show(&self, alloc: Global, out: &mut String) -> Result<(), CaseError> {
         match self {
-            Some(value) => named(alloc, "Some", value),
-            None => copied(alloc, "None"),
+            Some(value) => show_named(alloc, "Some", value, out),
+            None => Ok(out.push_str("None")?),
         }
     }
 }
 
-/// An error between brackets.
-fn named_error<E: ShownError>(alloc: Global, error: &E) -> Result<String, CaseError> {
-    let inner = E::shown_error(alloc, Some(error))?;
-    Ok(format!(in alloc; "Err({inner})")?)
-}
-
-impl<V: Shown, E: ShownError> Shown for Result<V, E> {
-    fn shown(&self, alloc: Global) -> Result<String, CaseError> {
+impl<V: Shown, E: Debug> Shown for Result<V, E> {
+    fn show(&self, alloc: Global, out: &mut String) -> Result<(), CaseError> {
         match self {
-            Ok(value) => named(alloc, "Ok", value),
-            Err(error) => named_error(alloc, error),
+            Ok(value) => show_named(alloc, "Ok", value, out),
+            Err(error) => Ok(write!(out, "Err({error:?})")?),
         }
     }
 }
 
-impl<S: Shown, E: Shown, F: Shown> Shown for Outcome<S, E, F> {
-    fn shown(&self, alloc: Global) -> Result<String, CaseError> {
+impl<V: Shown, E: Debug> Shown for Outcome<V, (Status, E), Status> {
+    fn show(&self, alloc: Global, out: &mut String) -> Result<(), CaseError> {
         match self {
-            Outcome::Success(value) => named(alloc, "Success", value),
-            Outcome::Error(error) => named(alloc, "Error", error),
-            Outcome::Forward(forward) => named(alloc, "Forward", forward),
+            Outcome::Success(value) => show_named(alloc, "Success", value, out),
+            Outcome::Error((status, error)) => Ok(show_error(*status, error, out)?),
+            Outcome::Forward(status) => Ok(show_forward(*status, out)?),
         }
     }
-}
-
-fn with_count(alloc: Global, text: &str, n: N) -> Result<String, CaseError> {
-    let (written, complete) = (n.written, n.complete);
-    Ok(format!(in alloc; "{text} written={written} complete={complete}")?)
 }
 
 impl<V: Shown> Shown for Capped<V> {
-    fn shown(&self, alloc: Global) -> Result<String, CaseError> {
-        let value = self.value.shown(alloc)?;
-        with_count(alloc, value.as_str(), self.n)
-    }
-}
-
-/// An error with its status.
-impl<E: ShownError> Shown for (Status, E) {
-    fn shown(&self, alloc: Global) -> Result<String, CaseError> {
-        let inner = E::shown_error(alloc, Some(&self.1))?;
-        Ok(format!(in alloc; "{}, {inner}", self.0.code)?)
-    }
-}
-
-/// A body that is left to another, with its status.
-impl Shown for (Body0<Sample>, Status) {
-    fn shown(&self, alloc: Global) -> Result<String, CaseError> {
-        self.1.shown(alloc)
-    }
-}
-
-/// An error with a text for the answer. It is handed in as an option, since a type of errors may have no value.
-pub trait ShownError: Sized {
-    fn shown_error(alloc: Global, error: Option<&Self>) -> Result<String, CaseError>;
-}
-
-fn shown_or_empty<E: Shown>(alloc: Global, error: Option<&E>) -> Result<String, CaseError> {
-    match error {
-        Some(error) => error.shown(alloc),
-        None => Ok(String::new(alloc)),
-    }
-}
-
-impl ShownError for String {
-    fn shown_error(alloc: Global, error: Option<&String>) -> Result<String, CaseError> {
-        shown_or_empty(alloc, error)
-    }
-}
-
-impl ShownError for PathError {
-    fn shown_error(alloc: Global, error: Option<&PathError>) -> Result<String, CaseError> {
-        shown_or_empty(alloc, error)
-    }
-}
-
-impl ShownError for GuardError {
-    fn shown_error(alloc: Global, error: Option<&GuardError>) -> Result<String, CaseError> {
-        shown_or_empty(alloc, error)
-    }
-}
-
-impl ShownError for () {
-    fn shown_error(alloc: Global, error: Option<&()>) -> Result<String, CaseError> {
-        shown_or_empty(alloc, error)
-    }
-}
-
-impl ShownError for Infallible {
-    fn shown_error(alloc: Global, _error: Option<&Infallible>) -> Result<String, CaseError> {
-        Ok(String::new(alloc))
+    fn show(&self, alloc: Global, out: &mut String) -> Result<(), CaseError> {
+        self.value.show(alloc, out)?;
+        let (written, complete) = (self.n.written, self.n.complete);
+        Ok(write!(out, " written={written} complete={complete}")?)
     }
 }

@@ -1,27 +1,16 @@
 //! Requests, as answers show them.
-use crate::app::Sample;
-use crate::error::CaseError;
+use rkt_base::NoMemory;
 use rkt_http::{Accept, ContentType, Host, MediaType};
 use rkt_request::Request;
+use sample_app::Sample;
 use std::alloc::Global;
-
-pub fn push_text(list: &mut String, text: &str) -> Result<(), CaseError> {
-    Ok(list.push_str(text)?)
-}
+use std::fmt::Debug;
 
 /// Adds the method, the origin and the route.
-fn push_line(
-    alloc: Global,
-    list: &mut String,
-    request: &Request<'_, Sample>,
-) -> Result<(), CaseError> {
-    let (method, uri, route) = (
-        request.method().as_str(),
-        request.uri().as_str(),
-        request.route(),
-    );
-    let text = format!(in alloc; "{method} {uri} route={route:?}")?;
-    push_text(list, text.as_str())
+fn push_line(request: &Request<'_, Sample>, out: &mut String) -> Result<(), NoMemory> {
+    let (method, uri) = (request.method().as_str(), request.uri().as_str());
+    let route = request.route();
+    write!(out, "{method} {uri} route={route:?}")
 }
 
 fn domain<'a>(host: Option<&'a Host>) -> Option<&'a str> {
@@ -33,25 +22,15 @@ fn port(host: Option<&Host>) -> Option<u16> {
 }
 
 /// Adds to whom it was sent.
-fn push_host(
-    alloc: Global,
-    list: &mut String,
-    request: &Request<'_, Sample>,
-) -> Result<(), CaseError> {
+fn push_host(request: &Request<'_, Sample>, out: &mut String) -> Result<(), NoMemory> {
     let (domain, port) = (domain(request.host()), port(request.host()));
-    let text = format!(in alloc; " host={domain:?} port={port:?}")?;
-    push_text(list, text.as_str())
+    write!(out, " host={domain:?} port={port:?}")
 }
 
 /// Adds from whom it came.
-fn push_client(
-    alloc: Global,
-    list: &mut String,
-    request: &Request<'_, Sample>,
-) -> Result<(), CaseError> {
+fn push_client(request: &Request<'_, Sample>, out: &mut String) -> Result<(), NoMemory> {
     let (remote, real, client) = (request.remote(), request.real_ip(), request.client_ip());
-    let text = format!(in alloc; " remote={remote:?} real={real:?} client={client:?}")?;
-    push_text(list, text.as_str())
+    write!(out, " remote={remote:?} real={real:?} client={client:?}")
 }
 
 fn carried(found: Option<&ContentType>) -> Option<&MediaType> {
@@ -62,59 +41,56 @@ fn preferred(found: Option<&Accept>) -> Option<&MediaType> {
     Some(found?.preferred())
 }
 
+/// Adds a media type.
+pub fn push_media(alloc: Global, media: &MediaType, out: &mut String) -> Result<(), NoMemory> {
+    let text = media.to_text(alloc)?;
+    out.push_str(text.as_str())
+}
+
 /// Adds a media type behind its name.
-fn push_media(
+fn push_type(
     alloc: Global,
-    list: &mut String,
     name: &str,
     media: Option<&MediaType>,
-) -> Result<(), CaseError> {
-    push_text(list, name)?;
+    out: &mut String,
+) -> Result<(), NoMemory> {
+    out.push_str(name)?;
     match media {
-        Some(media) => push_text(list, media.to_text(alloc)?.as_str()),
-        None => push_text(list, "none"),
+        Some(media) => push_media(alloc, media, out),
+        None => out.push_str("none"),
     }
 }
 
 /// Adds what is carried, what is preferred, and the format.
 fn push_types(
     alloc: Global,
-    list: &mut String,
     request: &Request<'_, Sample>,
-) -> Result<(), CaseError> {
-    push_media(alloc, list, " type=", carried(request.content_type()))?;
-    push_media(alloc, list, " accept=", preferred(request.accept()))?;
-    push_media(alloc, list, " format=", request.format())
+    out: &mut String,
+) -> Result<(), NoMemory> {
+    push_type(alloc, " type=", carried(request.content_type()), out)?;
+    push_type(alloc, " accept=", preferred(request.accept()), out)?;
+    push_type(alloc, " format=", request.format(), out)
 }
 
-fn push_field(alloc: Global, list: &mut String, field: (&str, &str)) -> Result<(), CaseError> {
-    let (name, value) = field;
-    let text = format!(in alloc; " {name}={value:?}")?;
-    push_text(list, text.as_str())
+/// Adds a value behind its name.
+pub fn push_field<V: Debug>(name: &str, value: &V, out: &mut String) -> Result<(), NoMemory> {
+    write!(out, " {name}={value:?}")
 }
 
 /// Adds the decoded fields of the query.
-fn push_query(
-    alloc: Global,
-    list: &mut String,
-    request: &Request<'_, Sample>,
-) -> Result<(), CaseError> {
-    push_text(list, " query")?;
-    for field in request.query_fields() {
-        push_field(alloc, list, field)?;
+fn push_query(request: &Request<'_, Sample>, out: &mut String) -> Result<(), NoMemory> {
+    out.push_str(" query")?;
+    for (name, value) in request.query_fields() {
+        push_field(name, &value, out)?;
     }
     Ok(())
 }
 
 /// Adds the headers.
-fn push_headers(
-    alloc: Global,
-    list: &mut String,
-    request: &Request<'_, Sample>,
-) -> Result<(), CaseError> {
-    push_text(list, " headers")?;
-    for field in request.headers().iter() {
-        push_field(alloc, list, field)?;
+fn push_headers(request: &Request<'_, Sample>, out: &mut String) -> Result<(), NoMemory> {
+    out.push_str(" headers")?;
+    for (name, value) in request.headers().iter() {
+        push_field(name, &value, out)?;
     }
     Ok(())
 }
@@ -122,20 +98,13 @@ fn push_headers(
 /// Adds what a request tells.
 pub fn push_request(
     alloc: Global,
-    list: &mut String,
     request: &Request<'_, Sample>,
-) -> Result<(), CaseError> {
-    push_line(alloc, list, request)?;
-    push_host(alloc, list, request)?;
-    push_client(alloc, list, request)?;
-    push_types(alloc, list, request)?;
-    push_query(alloc, list, request)?;
-    push_headers(alloc, list, request)
-}
-
-/// What a request tells.
-pub fn request_told(alloc: Global, request: &Request<'_, Sample>) -> Result<String, CaseError> {
-    let mut list = String::new(alloc);
-    push_request(alloc, &mut list, request)?;
-    Ok(list)
+    out: &mut String,
+) -> Result<(), NoMemory> {
+    push_line(request, out)?;
+    push_host(request, out)?;
+    push_client(request, out)?;
+    push_types(alloc, request, out)?;
+    push_query(request, out)?;
+    push_headers(request, out)
 }

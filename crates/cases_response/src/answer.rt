@@ -1,70 +1,64 @@
-use crate::error::CaseError;
 use crate::flash::{flash, flashing};
-use crate::held::held;
-use crate::inner::inner;
+use crate::made::push_made;
 use crate::message::{guard, message, no_cookie};
-use crate::sample::{Sample, made_setting, request};
-use crate::shown::respond;
-use crate::status::status;
+use crate::shown::Asked;
 use crate::texts::{byte_stream, bytes, text, text_stream};
-use crate::words::first_word;
-use rkt_request::Request;
+use cases::{Answers, CaseError, first_word};
+use rkt_base::NoMemory;
+use rkt_http::{Method, Origin};
+use sample_app::Server;
 use std::alloc::Global;
 
-type Asked<'a> = Request<'a, Sample>;
-
-/// Whether a command is a responder in std's types, or an error.
-fn is_held(command: &str) -> bool {
-    matches!(command, "some" | "none" | "ok" | "error" | "left" | "right")
-        || matches!(
-            command,
-            "box" | "capped" | "debug" | "fault" | "gone" | "timed_out"
-        )
+/// What each request is lent.
+#[derive(Drop)]
+pub struct Program {
+    server: Server,
 }
 
-fn flash_answer(
+impl Program {
+    pub fn new(alloc: Global) -> Result<Program, NoMemory> {
+        let server = Server::new(alloc)?;
+        Ok(Program { server })
+    }
+}
+
+fn of_flash(
     alloc: Global,
     request: &Asked<'_>,
     command: &str,
     rest: &str,
-) -> Result<String, CaseError> {
+    out: &mut String,
+) -> Result<(), CaseError> {
     match command {
-        "flash" => flash(alloc, rest),
-        "flashing" => flashing(alloc, request, rest),
-        "guard" => guard(alloc, request, rest),
-        "no_cookie" => no_cookie(alloc, request),
-        "message" => message(alloc, request, rest),
-        _ => status(alloc, request, command, rest),
+        "flash" => Ok(flash(alloc, rest, out)?),
+        "flashing" => flashing(alloc, request, rest, out),
+        "guard" => Ok(guard(alloc, request, rest, out)?),
+        "no_cookie" => Ok(no_cookie(alloc, request, out)?),
+        "message" => Ok(message(alloc, request, rest, out)?),
+        _ => push_made(alloc, request, command, rest, out),
     }
 }
 
-fn plain_answer(
+fn answer_to(
     alloc: Global,
     request: &Asked<'_>,
-    command: &str,
-    rest: &str,
-) -> Result<String, CaseError> {
-    match command {
-        "plain" => respond(alloc, request, inner(rest)),
-        "text" => text(alloc, request, rest),
-        "bytes" => bytes(alloc, request, rest),
-        "byte_stream" => byte_stream(alloc, request, rest),
-        "text_stream" => text_stream(alloc, request, rest),
-        _ => flash_answer(alloc, request, command, rest),
-    }
-}
-
-fn answer_to(alloc: Global, request: &Asked<'_>, line: &str) -> Result<String, CaseError> {
+    line: &str,
+    out: &mut String,
+) -> Result<(), CaseError> {
     let (command, rest) = first_word(line);
-    if is_held(command) {
-        return held(alloc, request, command, rest);
+    match command {
+        "text" => text(alloc, request, rest, out),
+        "bytes" => bytes(alloc, request, rest, out),
+        "byte_stream" => byte_stream(alloc, request, rest, out),
+        "text_stream" => text_stream(alloc, request, rest, out),
+        _ => of_flash(alloc, request, command, rest, out),
     }
-    plain_answer(alloc, request, command, rest)
 }
 
-/// What a case answers.
-pub fn answer(alloc: Global, line: &str) -> Result<String, CaseError> {
-    let setting = made_setting(alloc)?;
-    let request = request(alloc, &setting)?;
-    answer_to(alloc, &request, line)
+impl Answers for Program {
+    fn answer(&mut self, alloc: Global, line: &str, out: &mut String) -> Result<(), CaseError> {
+        let uri = Origin::parse(alloc, "/")?;
+        let request = self.server.request(alloc, Method::Get, uri)?;
+        answer_to(alloc, &request, line, out)
+    }
 }

@@ -1,12 +1,11 @@
 //! Flashes, and the cookies that they are sent as.
-use crate::error::CaseError;
-use crate::sample::{Sample, context};
-use crate::shown::respond_under;
-use crate::words::{first_word, word};
+use crate::shown::{Asked, respond_under};
+use cases::{CaseError, first_word};
 use rkt_base::NoMemory;
 use rkt_cookie::{Cookie, CookieJar};
-use rkt_request::{Ctx, Request};
+use rkt_request::Ctx;
 use rkt_response::Flash;
+use sample_app::{Sample, context};
 use std::alloc::Global;
 
 /// The flash of a kind and a message.
@@ -20,15 +19,14 @@ fn made(alloc: Global, line: &str) -> Result<Flash<()>, NoMemory> {
     }
 }
 
-fn push_cookie(alloc: Global, list: &mut String, cookie: &Cookie) -> Result<(), NoMemory> {
+fn push_cookie(alloc: Global, cookie: &Cookie, out: &mut String) -> Result<(), NoMemory> {
     let text = cookie.encoded(alloc)?;
-    list.push_str(" | ")?;
-    list.push_str(text.as_str())
+    write!(out, " | {}", text.as_str())
 }
 
-fn push_cookies(alloc: Global, list: &mut String, cookies: &[Cookie]) -> Result<(), CaseError> {
+fn push_cookies(alloc: Global, cookies: &[Cookie], out: &mut String) -> Result<(), NoMemory> {
     for cookie in cookies {
-        push_cookie(alloc, list, cookie)?;
+        push_cookie(alloc, cookie, out)?;
     }
     Ok(())
 }
@@ -36,57 +34,57 @@ fn push_cookies(alloc: Global, list: &mut String, cookies: &[Cookie]) -> Result<
 /// Adds what a jar sends at a moment, each cookie behind a bar.
 pub fn push_sent(
     alloc: Global,
-    list: &mut String,
     jar: &mut CookieJar,
     moment: u64,
-) -> Result<(), CaseError> {
-    let cookies = jar.take_delta(alloc, moment)?;
-    push_cookies(alloc, list, cookies.as_slice())
+    out: &mut String,
+) -> Result<(), NoMemory> {
+    let cookies = jar.take_delta(moment)?;
+    push_cookies(alloc, cookies.as_slice(), out)
 }
 
-fn value(alloc: Global, flash: &Flash<()>) -> Result<String, CaseError> {
+fn push_value(alloc: Global, flash: &Flash<()>, out: &mut String) -> Result<(), NoMemory> {
     let cookie = flash.cookie(alloc)?;
-    word(alloc, cookie.value())
+    out.push_str(cookie.value())
 }
 
-fn push_added(alloc: Global, list: &mut String, flash: &Flash<()>) -> Result<(), CaseError> {
+fn push_added(alloc: Global, flash: &Flash<()>, out: &mut String) -> Result<(), NoMemory> {
     let mut jar = CookieJar::new(alloc);
     flash.add_to(alloc, &mut jar)?;
-    push_sent(alloc, list, &mut jar, 1000)
+    push_sent(alloc, &mut jar, 1000, out)
 }
 
-fn flash_text(alloc: Global, flash: &Flash<()>) -> Result<String, CaseError> {
-    let mut list = value(alloc, flash)?;
-    push_added(alloc, &mut list, flash)?;
-    Ok(list)
+fn push_flash(alloc: Global, flash: &Flash<()>, out: &mut String) -> Result<(), NoMemory> {
+    push_value(alloc, flash, out)?;
+    push_added(alloc, flash, out)
 }
 
-/// What a flash's cookie says, and what a jar sends of it.
-pub fn flash(alloc: Global, line: &str) -> Result<String, CaseError> {
+/// Adds what a flash's cookie says, and what a jar sends of it.
+pub fn flash(alloc: Global, line: &str, out: &mut String) -> Result<(), NoMemory> {
     let flash = made(alloc, line)?;
-    let text = flash_text(alloc, &flash);
+    let pushed = push_flash(alloc, &flash, out);
     flash.into_inner();
-    text
+    pushed
 }
 
 fn flashing_under(
     alloc: Global,
-    request: &Request<'_, Sample>,
+    request: &Asked<'_>,
     ctx: &mut Ctx<Sample>,
-    flash: Flash<()>,
-) -> Result<String, CaseError> {
-    let mut list = respond_under(alloc, request, ctx, flash)?;
-    push_sent(alloc, &mut list, ctx.cookies_mut(), 1000)?;
-    Ok(list)
+    line: &str,
+    out: &mut String,
+) -> Result<(), CaseError> {
+    let flash = made(alloc, line)?;
+    respond_under(alloc, request, ctx, flash, out)?;
+    Ok(push_sent(alloc, ctx.cookies_mut(), 1000, out)?)
 }
 
-/// What the empty response answers with a flash, and what the jar of the request sends.
+/// Adds what the empty response answers with a flash, and what the jar of the request sends.
 pub fn flashing(
     alloc: Global,
-    request: &Request<'_, Sample>,
+    request: &Asked<'_>,
     line: &str,
-) -> Result<String, CaseError> {
+    out: &mut String,
+) -> Result<(), CaseError> {
     let mut ctx = context(alloc, CookieJar::new(alloc))?;
-    let flash = made(alloc, line)?;
-    flashing_under(alloc, request, &mut ctx, flash)
+    flashing_under(alloc, request, &mut ctx, line, out)
 }

@@ -1,28 +1,32 @@
 //! Messages that came with a request.
-use crate::error::CaseError;
 use crate::flash::push_sent;
-use crate::sample::{Sample, context};
-use crate::words::word;
+use crate::shown::Asked;
+use rkt_base::NoMemory;
 use rkt_cookie::{Cookie, CookieJar};
 use rkt_http::{Outcome, Status};
-use rkt_request::{Ctx, Request};
+use rkt_request::Ctx;
 use rkt_response::FlashMessage;
+use sample_app::{Sample, context};
 use std::alloc::Global;
 
-/// A context with whose request this flash cookie came.
-fn came(alloc: Global, value: &str) -> Result<Ctx<Sample>, CaseError> {
-    let mut jar = CookieJar::new(alloc);
+fn add_original(alloc: Global, jar: &mut CookieJar, value: &str) -> Result<(), NoMemory> {
     let cookie = Cookie::new(alloc, "_flash", value)?;
-    jar.add_original(alloc, cookie)?;
+    jar.add_original(cookie)
+}
+
+/// A context with whose request this flash cookie came.
+fn came(alloc: Global, value: &str) -> Result<Ctx<Sample>, NoMemory> {
+    let mut jar = CookieJar::new(alloc);
+    add_original(alloc, &mut jar, value)?;
     context(alloc, jar)
 }
 
 /// The message that the guard gives, or the status with which it errs.
 fn guarded(
     alloc: Global,
-    request: &Request<'_, Sample>,
+    request: &Asked<'_>,
     ctx: &mut Ctx<Sample>,
-) -> Result<Result<FlashMessage, Status>, CaseError> {
+) -> Result<Result<FlashMessage, Status>, NoMemory> {
     match request.guard::<FlashMessage>(alloc, ctx)? {
         Outcome::Success(message) => Ok(Ok(message)),
         Outcome::Error((status, ())) => Ok(Err(status)),
@@ -30,104 +34,108 @@ fn guarded(
     }
 }
 
-fn error_text(alloc: Global, status: Status, jar: &CookieJar) -> Result<String, CaseError> {
-    let (code, changes) = (status.code, jar.log().len());
-    Ok(format!(in alloc; "error {code}, changes {changes}")?)
+fn push_changes(jar: &CookieJar, out: &mut String) -> Result<(), NoMemory> {
+    write!(out, ", changes {}", jar.log().len())
 }
 
-fn parts_text(
-    alloc: Global,
-    kind: &str,
-    message: &str,
-    jar: &CookieJar,
-) -> Result<String, CaseError> {
-    let changes = jar.log().len();
-    Ok(format!(in alloc; "{kind}|{message}, changes {changes}")?)
+fn push_error(status: Status, jar: &CookieJar, out: &mut String) -> Result<(), NoMemory> {
+    write!(out, "error {}", status.code)?;
+    push_changes(jar, out)
 }
 
-/// Kind and message at once.
-fn taken_text(
+/// Adds kind and message at once.
+fn push_taken(
     alloc: Global,
     message: FlashMessage,
     jar: &mut CookieJar,
-) -> Result<String, CaseError> {
-    let parts = message.into_inner(alloc, jar)?;
-    parts_text(alloc, parts.0.as_str(), parts.1.as_str(), jar)
+    out: &mut String,
+) -> Result<(), NoMemory> {
+    let (kind, text) = message.into_inner(alloc, jar)?;
+    write!(out, "{}|{}", kind.as_str(), text.as_str())?;
+    push_changes(jar, out)
 }
 
-fn guard_text(
+fn push_guard(
     alloc: Global,
-    request: &Request<'_, Sample>,
+    request: &Asked<'_>,
     ctx: &mut Ctx<Sample>,
-) -> Result<String, CaseError> {
+    out: &mut String,
+) -> Result<(), NoMemory> {
     match guarded(alloc, request, ctx)? {
-        Ok(message) => taken_text(alloc, message, ctx.cookies_mut()),
-        Err(status) => error_text(alloc, status, ctx.cookies()),
+        Ok(message) => push_taken(alloc, message, ctx.cookies_mut(), out),
+        Err(status) => push_error(status, ctx.cookies(), out),
     }
 }
 
-/// What the guard gives where a cookie came that says this.
+/// Adds what the guard gives where a cookie came that says this.
 pub fn guard(
     alloc: Global,
-    request: &Request<'_, Sample>,
+    request: &Asked<'_>,
     value: &str,
-) -> Result<String, CaseError> {
+    out: &mut String,
+) -> Result<(), NoMemory> {
     let mut ctx = came(alloc, value)?;
-    guard_text(alloc, request, &mut ctx)
+    push_guard(alloc, request, &mut ctx, out)
 }
 
-/// What the guard gives where no cookie came.
-pub fn no_cookie(alloc: Global, request: &Request<'_, Sample>) -> Result<String, CaseError> {
+/// Adds what the guard gives where no cookie came.
+pub fn no_cookie(alloc: Global, request: &Asked<'_>, out: &mut String) -> Result<(), NoMemory> {
     let mut ctx = context(alloc, CookieJar::new(alloc))?;
-    guard_text(alloc, request, &mut ctx)
+    push_guard(alloc, request, &mut ctx, out)
 }
 
-fn kind_of(
+fn push_kind(
     alloc: Global,
     message: &mut FlashMessage,
     jar: &mut CookieJar,
-) -> Result<String, CaseError> {
-    word(alloc, message.kind(alloc, jar)?)
+    out: &mut String,
+) -> Result<(), NoMemory> {
+    let kind = message.kind(alloc, jar)?;
+    write!(out, "{kind}|")
 }
 
-fn message_of(
+fn push_message(
     alloc: Global,
     message: &mut FlashMessage,
     jar: &mut CookieJar,
-) -> Result<String, CaseError> {
-    word(alloc, message.message(alloc, jar)?)
+    out: &mut String,
+) -> Result<(), NoMemory> {
+    let text = message.message(alloc, jar)?;
+    out.push_str(text)
 }
 
-/// Kind and message, one after another.
-fn both_text(
+/// Adds kind and message, one after another.
+fn push_both(
     alloc: Global,
     message: &mut FlashMessage,
     jar: &mut CookieJar,
-) -> Result<String, CaseError> {
-    let kind = kind_of(alloc, message, jar)?;
-    let text = message_of(alloc, message, jar)?;
-    parts_text(alloc, kind.as_str(), text.as_str(), jar)
+    out: &mut String,
+) -> Result<(), NoMemory> {
+    push_kind(alloc, message, jar, out)?;
+    push_message(alloc, message, jar, out)?;
+    push_changes(jar, out)?;
+    push_sent(alloc, jar, 31_536_001, out)
 }
 
-fn read_text(
+fn push_one_by_one(
     alloc: Global,
-    mut message: FlashMessage,
-    jar: &mut CookieJar,
-) -> Result<String, CaseError> {
-    let mut list = both_text(alloc, &mut message, jar)?;
-    push_sent(alloc, &mut list, jar, 31_536_001)?;
-    Ok(list)
+    request: &Asked<'_>,
+    ctx: &mut Ctx<Sample>,
+    out: &mut String,
+) -> Result<(), NoMemory> {
+    match guarded(alloc, request, ctx)? {
+        Ok(mut message) => push_both(alloc, &mut message, ctx.cookies_mut(), out),
+        Err(status) => push_error(status, ctx.cookies(), out),
+    }
 }
 
-/// Kind and message one after another, and what the jar sends then.
+/// Adds kind and message one after another, and what the jar sends then.
 pub fn message(
     alloc: Global,
-    request: &Request<'_, Sample>,
+    request: &Asked<'_>,
     value: &str,
-) -> Result<String, CaseError> {
+    out: &mut String,
+) -> Result<(), NoMemory> {
     let mut ctx = came(alloc, value)?;
-    match guarded(alloc, request, &mut ctx)? {
-        Ok(message) => read_text(alloc, message, ctx.cookies_mut()),
-        Err(status) => error_text(alloc, status, ctx.cookies()),
-    }
+    push_one_by_one(alloc, request, &mut ctx, out)
 }

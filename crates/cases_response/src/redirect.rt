@@ -1,14 +1,14 @@
 //! Redirects.
-use crate::error::CaseError;
-use crate::sample::Sample;
-use crate::shown::respond;
 use rkt_base::NoMemory;
-use rkt_request::Request;
 use rkt_response::Redirect;
 use std::alloc::Global;
 
 /// The redirect of a command, if it is one.
-fn made(alloc: Global, command: &str, uri: &str) -> Option<Result<Redirect, NoMemory>> {
+pub fn made_redirect(
+    alloc: Global,
+    command: &str,
+    uri: &str,
+) -> Option<Result<Redirect, NoMemory>> {
     match command {
         "to" => Some(Redirect::to(alloc, uri)),
         "temporary" => Some(Redirect::temporary(alloc, uri)),
@@ -16,19 +16,5 @@ fn made(alloc: Global, command: &str, uri: &str) -> Option<Result<Redirect, NoMe
         "found" => Some(Redirect::found(alloc, uri)),
         "moved" => Some(Redirect::moved(alloc, uri)),
         _ => None,
-    }
-}
-
-/// What a redirect answers.
-pub fn redirect(
-    alloc: Global,
-    request: &Request<'_, Sample>,
-    command: &str,
-    uri: &str,
-) -> Result<String, CaseError> {
-    match made(alloc, command, uri) {
-        Some(Ok(redirect)) => respond(alloc, request, redirect),
-        Some(Err(_)) => Err(CaseError::NoMemory),
-        None => Err(CaseError::Line),
     }
 }

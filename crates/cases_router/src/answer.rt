@@ -1,11 +1,29 @@
-use crate::asked::{catch, finalize, tries};
-use crate::callbacks::called;
+use crate::asked::{answer_question, finalize};
 use crate::catchers::register;
-use crate::error::CaseError;
-use crate::routes::{SampleRouter, count_text, mount, numbered};
+use crate::refusal::Refusal;
+use crate::routes::{SampleRouter, mount, numbered, push_counts};
 use crate::uris::{media, segment, uri};
-use crate::words::{code, first_word};
+use cases::{Answers, CaseError, first_word, parsed};
+use rkt_base::NoMemory;
+use sample_app::Server;
 use std::alloc::Global;
+
+/// The router that is kept from line to line, and what each request is lent.
+#[derive(Drop)]
+pub struct Program {
+    router: SampleRouter,
+    server: Server,
+}
+
+impl Program {
+    pub fn new(alloc: Global) -> Result<Program, NoMemory> {
+        let server = Server::new(alloc)?;
+        Ok(Program {
+            router: SampleRouter::new(alloc),
+            server,
+        })
+    }
+}
 
 /// Whether a command makes a route.
 fn makes_route(command: &str) -> bool {
@@ -18,49 +36,88 @@ fn makes_catcher(command: &str) -> bool {
         || matches!(command, "default_catcher" | "default_below")
 }
 
-fn emptied(alloc: Global, router: &mut SampleRouter) -> Result<String, CaseError> {
+fn empty(alloc: Global, router: &mut SampleRouter, out: &mut String) -> Result<(), NoMemory> {
     *router = SampleRouter::new(alloc);
-    Ok(count_text(alloc, router)?)
+    push_counts(router, out)
 }
 
-fn filled(alloc: Global, router: &mut SampleRouter, rest: &str) -> Result<String, CaseError> {
-    numbered(alloc, router, code(rest)?)?;
-    Ok(count_text(alloc, router)?)
-}
-
-fn read_answer(alloc: Global, command: &str, rest: &str) -> Result<String, CaseError> {
-    match command {
-        "segment" => segment(alloc, rest),
-        "uri" => uri(alloc, rest),
-        "media" => media(alloc, rest),
-        _ => called(alloc, command, rest),
-    }
-}
-
-fn asked_answer(
+fn fill(
     alloc: Global,
     router: &mut SampleRouter,
+    count: &str,
+    out: &mut String,
+) -> Result<(), Refusal> {
+    numbered(alloc, router, parsed::<u16>(count)?)?;
+    Ok(push_counts(router, out)?)
+}
+
+fn answer_asked(
+    alloc: Global,
+    program: &mut Program,
     command: &str,
     rest: &str,
-) -> Result<String, CaseError> {
+    out: &mut String,
+) -> Result<(), Refusal> {
     match command {
-        "new" => emptied(alloc, router),
-        "numbered" => filled(alloc, router, rest),
-        "tries" => tries(alloc, router, rest),
-        "catch" => catch(alloc, router, rest),
-        "finalize" => finalize(alloc, router),
-        _ => read_answer(alloc, command, rest),
+        "new" => Ok(empty(alloc, &mut program.router, out)?),
+        "numbered" => fill(alloc, &mut program.router, rest, out),
+        "finalize" => Ok(finalize(alloc, &program.router, out)?),
+        _ => answer_question(
+            alloc,
+            &program.server,
+            &program.router,
+            (command, rest),
+            out,
+        ),
     }
 }
 
-/// What a case answers.
-pub fn answer(alloc: Global, router: &mut SampleRouter, line: &str) -> Result<String, CaseError> {
+fn answer_read(
+    alloc: Global,
+    program: &mut Program,
+    command: &str,
+    rest: &str,
+    out: &mut String,
+) -> Result<(), Refusal> {
+    match command {
+        "segment" => Ok(segment(alloc, rest, out)?),
+        "uri" => uri(alloc, rest, out),
+        "media" => Ok(media(alloc, rest, out)?),
+        _ => answer_asked(alloc, program, command, rest, out),
+    }
+}
+
+fn answer_line(
+    alloc: Global,
+    program: &mut Program,
+    line: &str,
+    out: &mut String,
+) -> Result<(), Refusal> {
     let (command, rest) = first_word(line);
     if makes_route(command) {
-        return mount(alloc, router, command, rest);
+        return mount(alloc, &mut program.router, command, rest, out);
     }
     if makes_catcher(command) {
-        return register(alloc, router, command, rest);
+        return register(alloc, &mut program.router, command, rest, out);
     }
-    asked_answer(alloc, router, command, rest)
+    answer_read(alloc, program, command, rest, out)
+}
+
+/// Adds what is refused, in place of what was added before.
+fn push_refusal(refusal: Refusal, out: &mut String) -> Result<(), CaseError> {
+    out.clear();
+    match refusal {
+        Refusal::Place(at) => Ok(write!(out, "refused at {at}")?),
+        Refusal::Code(code) => Ok(write!(out, "bad code {code}")?),
+        Refusal::Case(error) => Err(error),
+    }
+}
+
+impl Answers for Program {
+    fn answer(&mut self, alloc: Global, line: &str, out: &mut String) -> Result<(), CaseError> {
+        match answer_line(alloc, self, line, out) {
+            Ok(()) => Ok(()),
+            Err(refusal) => push_refusal(refusal, out),
+        }
+    }
 }

@@ -1,99 +1,118 @@
-//! What a router answers for requests.
-use crate::error::CaseError;
+//! What a router answers, most of it for requests.
+use crate::callbacks::push_call;
+use crate::question::{Asked, Question, parse_asked};
+use crate::refusal::Refusal;
 use crate::routes::SampleRouter;
-use crate::sample::{Sample, made_setting, request};
-use crate::words::{code, first_word, method, word};
-use rkt_base::Want;
-use rkt_http::{Method, Status};
+use cases::CaseError;
+use rkt_base::{NoMemory, Want};
+use rkt_http::{Origin, Status};
 use rkt_request::Request;
 use rkt_router::Collisions;
-use std::alloc::{AllocError, Global};
-
-/// Adds a position behind a blank.
-fn push_position(alloc: Global, list: &mut String, position: usize) -> Result<(), AllocError> {
-    let text = position.to_string(alloc)?;
-    list.push_str(" ")?;
-    list.push_str(text.as_str())
-}
+use sample_app::{Sample, Server};
+use std::alloc::Global;
 
 /// Adds what the walk gives.
 fn push_walk(
-    alloc: Global,
-    list: &mut String,
     router: &SampleRouter,
     request: &Request<'_, Sample>,
-) -> Result<(), CaseError> {
+    out: &mut String,
+) -> Result<(), NoMemory> {
+    out.push_str("walk")?;
     for (position, _) in router.route(request) {
-        push_position(alloc, list, position)?;
+        write!(out, " {position}")?;
     }
     Ok(())
 }
 
 /// Adds what is tried one after another.
 fn push_nexts(
-    alloc: Global,
-    list: &mut String,
     router: &SampleRouter,
     request: &Request<'_, Sample>,
-) -> Result<(), CaseError> {
+    out: &mut String,
+) -> Result<(), NoMemory> {
+    out.push_str(", next")?;
     let mut after = None;
     for _ in router.routes() {
         after = router.next_try(request, after);
         match after {
-            Some(position) => push_position(alloc, list, position)?,
+            Some(position) => write!(out, " {position}")?,
             None => return Ok(()),
         }
     }
     Ok(())
 }
 
-fn tries_text(
-    alloc: Global,
+fn push_tries(
     router: &SampleRouter,
     request: &Request<'_, Sample>,
-) -> Result<String, CaseError> {
-    let mut list = String::from_str(alloc, "walk")?;
-    push_walk(alloc, &mut list, router, request)?;
-    list.push_str(", next")?;
-    push_nexts(alloc, &mut list, router, request)?;
-    Ok(list)
+    out: &mut String,
+) -> Result<(), Refusal> {
+    push_walk(router, request, out)?;
+    Ok(push_nexts(router, request, out)?)
 }
 
-/// The positions that a request is tried on.
-pub fn tries(alloc: Global, router: &SampleRouter, line: &str) -> Result<String, CaseError> {
-    let (name, uri) = first_word(line);
-    let setting = made_setting(alloc)?;
-    let request = request(alloc, &setting, method(name)?, uri)?;
-    tries_text(alloc, router, &request)
-}
-
-fn position_text(alloc: Global, position: Option<usize>) -> Result<String, CaseError> {
-    match position {
-        Some(position) => Ok(position.to_string(alloc)?),
-        None => word(alloc, "none"),
+fn push_caught(
+    router: &SampleRouter,
+    request: &Request<'_, Sample>,
+    status: Status,
+    out: &mut String,
+) -> Result<(), Refusal> {
+    match router.catch(status, request) {
+        Some((position, _)) => Ok(write!(out, "{position}")?),
+        None => Ok(out.push_str("none")?),
     }
 }
 
-/// The position of the catcher that is chosen.
-pub fn catch(alloc: Global, router: &SampleRouter, line: &str) -> Result<String, CaseError> {
-    let (number, uri) = first_word(line);
-    let status = Status::new(code(number)?);
-    let setting = made_setting(alloc)?;
-    let request = request(alloc, &setting, Method::Get, uri)?;
-    let found = router.catch(status, &request).map(|(position, _)| position);
-    position_text(alloc, found)
+/// Adds what is asked for a request.
+fn push_asked(
+    alloc: Global,
+    router: &SampleRouter,
+    request: &Request<'_, Sample>,
+    question: Question<'_>,
+    out: &mut String,
+) -> Result<(), Refusal> {
+    match question {
+        Question::Tries => push_tries(router, request, out),
+        Question::Catch(status) => push_caught(router, request, status, out),
+        Question::Call(command, rest) => Ok(push_call(alloc, request, command, rest, out)?),
+    }
 }
 
-fn collisions_text(alloc: Global, found: &Collisions) -> Result<String, CaseError> {
+fn ask(
+    alloc: Global,
+    server: &Server,
+    router: &SampleRouter,
+    uri: Origin,
+    asked: Asked<'_>,
+    out: &mut String,
+) -> Result<(), Refusal> {
+    let request = server.request(alloc, asked.method, uri)?;
+    push_asked(alloc, router, &request, asked.question, out)
+}
+
+/// Answers a question that is asked for a request.
+pub fn answer_question(
+    alloc: Global,
+    server: &Server,
+    router: &SampleRouter,
+    line: (&str, &str),
+    out: &mut String,
+) -> Result<(), Refusal> {
+    let asked = parse_asked(line.0, line.1)?;
+    let uri = Origin::parse(alloc, asked.uri)?;
+    ask(alloc, server, router, uri, asked, out)
+}
+
+fn push_collisions(found: &Collisions, out: &mut String) -> Result<(), CaseError> {
     let (routes, catchers) = (found.routes.as_slice(), found.catchers.as_slice());
-    Ok(format!(in alloc; "routes {routes:?}, catchers {catchers:?}")?)
+    Ok(write!(out, "routes {routes:?}, catchers {catchers:?}")?)
 }
 
-/// Whether a router is taken, or all that collides.
-pub fn finalize(alloc: Global, router: &SampleRouter) -> Result<String, CaseError> {
+/// Adds whether a router is taken, or all that collides.
+pub fn finalize(alloc: Global, router: &SampleRouter, out: &mut String) -> Result<(), CaseError> {
     match router.finalize(alloc) {
-        Ok(()) => word(alloc, "ok"),
-        Err(Want::Refused(found)) => collisions_text(alloc, &found),
+        Ok(()) => Ok(out.push_str("ok")?),
+        Err(Want::Refused(found)) => push_collisions(&found, out),
         Err(Want::NoMemory) => Err(CaseError::NoMemory),
     }
 }

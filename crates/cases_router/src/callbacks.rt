@@ -1,26 +1,29 @@
 //! What callbacks answer when they are polled.
-use crate::error::CaseError;
 use crate::handlers::{Bare, Passes};
-use crate::replies::{body_of, error_text, made_reply, response_text, step_text};
-use crate::sample::{Sample, context, made_setting, request};
-use crate::words::{code, word};
+use crate::replies::{body_of, push_error, push_made, push_response, push_step};
+use crate::words::status;
+use cases::CaseError;
+use rkt_base::NoMemory;
+use rkt_cookie::CookieJar;
 use rkt_data::{Data, MemorySource};
-use rkt_http::{Method, Status};
+use rkt_http::Status;
 use rkt_request::{Ctx, Request};
 use rkt_response::Response;
 use rkt_router::{CatchHandler, Dummy, Handler, Step};
-use std::alloc::Global;
+use sample_app::{Sample, context};
+use std::alloc::{AllocError, Global};
 
 fn dummy(
     alloc: Global,
     request: &Request<'_, Sample>,
     ctx: &mut Ctx<Sample>,
     text: &str,
-) -> Result<String, CaseError> {
+    out: &mut String,
+) -> Result<(), NoMemory> {
     let body = body_of(alloc, text)?;
     Handler::<Sample>::start(&Dummy, request, body);
     let step = Dummy.poll(alloc, &mut (), request, ctx);
-    step_text(alloc, step)
+    push_step(step, out)
 }
 
 fn passes(
@@ -28,23 +31,24 @@ fn passes(
     request: &Request<'_, Sample>,
     ctx: &mut Ctx<Sample>,
     text: &str,
-) -> Result<String, CaseError> {
+    out: &mut String,
+) -> Result<(), NoMemory> {
     let mut task = Passes.start(request, Data::local(text.as_bytes().to_vec(alloc)?));
     let step = Passes.poll(alloc, &mut task, request, ctx);
-    step_text(alloc, step)
+    push_step(step, out)
 }
 
-/// What a poll of a catcher answers.
-fn caught_text(
-    alloc: Global,
+/// Adds what a poll of a catcher answers.
+fn push_caught(
     step: Step<Result<Response<MemorySource>, Status>>,
-) -> Result<String, CaseError> {
+    out: &mut String,
+) -> Result<(), NoMemory> {
     match step {
-        Step::Done(Ok(mut response)) => response_text(alloc, &mut response),
-        Step::Done(Err(status)) => error_text(alloc, status),
-        Step::Pending => word(alloc, "pending"),
-        Step::Fault => word(alloc, "fault"),
-        Step::Starved => Err(CaseError::NoMemory),
+        Step::Done(Ok(mut response)) => push_response(&mut response, out),
+        Step::Done(Err(status)) => push_error(status, out),
+        Step::Pending => out.push_str("pending"),
+        Step::Fault => out.push_str("fault"),
+        Step::Starved => Err(AllocError),
     }
 }
 
@@ -52,41 +56,37 @@ fn bare(
     alloc: Global,
     request: &Request<'_, Sample>,
     ctx: &mut Ctx<Sample>,
-    status: Status,
-) -> Result<String, CaseError> {
-    let mut task = Bare.start(status, request);
+    code: &str,
+    out: &mut String,
+) -> Result<(), CaseError> {
+    let mut task = Bare.start(status(code)?, request);
     let step = Bare.poll(alloc, &mut task, request, ctx);
-    caught_text(alloc, step)
+    Ok(push_caught(step, out)?)
 }
 
 fn polled(
     alloc: Global,
     request: &Request<'_, Sample>,
     ctx: &mut Ctx<Sample>,
-    command: &str,
-    rest: &str,
-) -> Result<String, CaseError> {
-    match command {
-        "dummy" => dummy(alloc, request, ctx, rest),
-        "passes" => passes(alloc, request, ctx, rest),
-        "bare" => bare(alloc, request, ctx, Status::new(code(rest)?)),
-        _ => made_reply(alloc, request, ctx, command, rest),
+    asked: (&str, &str),
+    out: &mut String,
+) -> Result<(), CaseError> {
+    match asked.0 {
+        "dummy" => Ok(dummy(alloc, request, ctx, asked.1, out)?),
+        "passes" => Ok(passes(alloc, request, ctx, asked.1, out)?),
+        "bare" => bare(alloc, request, ctx, asked.1, out),
+        _ => push_made(alloc, request, ctx, asked, out),
     }
 }
 
-fn called_for(
+/// Adds what a callback answers to a request.
+pub fn push_call(
     alloc: Global,
     request: &Request<'_, Sample>,
     command: &str,
     rest: &str,
-) -> Result<String, CaseError> {
-    let mut ctx = context(alloc)?;
-    polled(alloc, request, &mut ctx, command, rest)
-}
-
-/// What a callback answers to `GET /`.
-pub fn called(alloc: Global, command: &str, rest: &str) -> Result<String, CaseError> {
-    let setting = made_setting(alloc)?;
-    let request = request(alloc, &setting, Method::Get, "/")?;
-    called_for(alloc, &request, command, rest)
+    out: &mut String,
+) -> Result<(), CaseError> {
+    let mut ctx = context(alloc, CookieJar::new(alloc))?;
+    polled(alloc, request, &mut ctx, (command, rest), out)
 }

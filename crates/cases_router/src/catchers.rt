@@ -1,8 +1,9 @@
 //! Catchers that are made, shown and registered.
-use crate::error::CaseError;
+use crate::refusal::Refusal;
 use crate::routes::SampleRouter;
-use crate::words::{code_or_any, first_word};
-use rkt_base::Want;
+use crate::words::parsed_or_any;
+use cases::first_word;
+use rkt_base::{NoMemory, Want};
 use rkt_http::{InvalidUri, Origin};
 use rkt_router::catcher::StaticInfo;
 use rkt_router::{Catcher, Catching};
@@ -12,30 +13,28 @@ type SampleCatcher = Catcher<u8>;
 
 type Made = Result<SampleCatcher, Want<InvalidUri>>;
 
-fn handler_text(alloc: Global, handler: Catching<u8>) -> Result<String, CaseError> {
+fn push_handler(handler: Catching<u8>, out: &mut String) -> Result<(), NoMemory> {
     match handler {
-        Catching::Rocket => Ok(String::from_str(alloc, " default pages")?),
-        Catching::App(number) => Ok(format!(in alloc; " handler={number}")?),
+        Catching::Rocket => out.push_str(" default pages"),
+        Catching::App(number) => write!(out, " handler={number}"),
     }
 }
 
-fn front_text(alloc: Global, catcher: &SampleCatcher) -> Result<String, CaseError> {
+fn push_catcher(catcher: &SampleCatcher, out: &mut String) -> Result<(), NoMemory> {
     let name = catcher.name.as_ref().map_or("none", |name| name.as_str());
     let (base, code) = (catcher.base.as_str(), catcher.code);
-    Ok(format!(in alloc; "{base} code={code:?} name={name}")?)
+    write!(out, "{base} code={code:?} name={name}")?;
+    push_handler(catcher.handler, out)
 }
 
-fn shown(alloc: Global, catcher: &SampleCatcher) -> Result<String, CaseError> {
-    let mut list = front_text(alloc, catcher)?;
-    let handler = handler_text(alloc, catcher.handler)?;
-    list.push_str(handler.as_str())?;
-    Ok(list)
+fn new_catcher(alloc: Global, code: &str) -> Result<SampleCatcher, Refusal> {
+    Ok(Catcher::new(alloc, parsed_or_any::<u16>(code)?, 7)?)
 }
 
-fn described(alloc: Global, number: &str) -> Result<SampleCatcher, CaseError> {
+fn described(alloc: Global, code: &str) -> Result<SampleCatcher, Refusal> {
     let info = StaticInfo {
         name: "static",
-        code: code_or_any(number)?,
+        code: parsed_or_any::<u16>(code)?,
         handler: 9,
     };
     Ok(Catcher::from_info(alloc, info)?)
@@ -49,45 +48,31 @@ fn moved(alloc: Global, catcher: SampleCatcher, front: &str) -> Made {
     )
 }
 
-fn default_below(alloc: Global, front: &str) -> Result<SampleCatcher, CaseError> {
+fn default_below(alloc: Global, front: &str) -> Result<SampleCatcher, Refusal> {
     let catcher = Catcher::default(alloc)?;
     Ok(moved(alloc, catcher, front)?)
 }
 
-fn at_base(alloc: Global, line: &str) -> Result<SampleCatcher, CaseError> {
-    let (base, number) = first_word(line);
+fn at_base(alloc: Global, line: &str) -> Result<SampleCatcher, Refusal> {
+    let (base, code) = first_word(line);
+    let code = parsed_or_any::<u16>(code)?;
     Ok(Catcher {
         name: None,
-        code: code_or_any(number)?,
+        code,
         handler: Catching::App(7),
         base: Origin::parse(alloc, base)?,
     })
 }
 
-fn new_catcher(alloc: Global, number: &str) -> Result<SampleCatcher, CaseError> {
-    Ok(Catcher::new(alloc, code_or_any(number)?, 7)?)
-}
-
 /// The catcher that a line says.
-fn made(alloc: Global, command: &str, rest: &str) -> Result<SampleCatcher, CaseError> {
+fn made(alloc: Global, command: &str, rest: &str) -> Result<SampleCatcher, Refusal> {
     match command {
         "catcher" => new_catcher(alloc, rest),
         "static_catcher" => described(alloc, rest),
         "default_catcher" => Ok(Catcher::default(alloc)?),
         "default_below" => default_below(alloc, rest),
-        "catcher_at" => at_base(alloc, rest),
-        _ => Err(CaseError::Line),
+        _ => at_base(alloc, rest),
     }
-}
-
-fn registered(
-    alloc: Global,
-    router: &mut SampleRouter,
-    catcher: SampleCatcher,
-) -> Result<String, CaseError> {
-    let text = shown(alloc, &catcher);
-    router.add_catcher(catcher)?;
-    text
 }
 
 /// Makes the catcher that a line says, shows it, and registers it.
@@ -96,7 +81,9 @@ pub fn register(
     router: &mut SampleRouter,
     command: &str,
     rest: &str,
-) -> Result<String, CaseError> {
+    out: &mut String,
+) -> Result<(), Refusal> {
     let catcher = made(alloc, command, rest)?;
-    registered(alloc, router, catcher)
+    push_catcher(&catcher, out)?;
+    Ok(router.add_catcher(catcher)?)
 }

@@ -1,10 +1,10 @@
 //! Callbacks of the application.
-use crate::sample::Sample;
 use rkt_data::MemorySource;
 use rkt_http::{Outcome, Status};
 use rkt_request::{Body0, Ctx, Request};
 use rkt_response::Response;
 use rkt_router::{CatchHandler, Handler, Step};
+use sample_app::Sample;
 use std::alloc::Global;
 
 /// Leaves each request to another route.
@@ -13,7 +13,8 @@ pub struct Passes;
 impl Handler<Sample> for Passes {
     ghost use Rattle.std.specs.Prelude.{◌≡◌, Some, refl};
     ghost use Rattle.rkt_http.specs.declared.outcome.Outcome.TheVariants.{Forward};
-    ghost use Rattle.rkt_router.specs.CallbackLaws.{at_once_keeps, grows_same};
+    ghost use Rattle.rkt_request.specs.LentLaws.{grows_same};
+    ghost use Rattle.rkt_router.specs.CallbackLaws.{at_once_keeps};
     ghost use Rattle.rkt_router.specs.Callbacks.{at_once};
 
     type Task = Option<Body0<Sample>>;
@@ -50,7 +51,8 @@ pub struct Bare;
 impl CatchHandler<Sample> for Bare {
     ghost use Rattle.std.specs.Prelude.{◌≡◌, Ok, ⊤};
     ghost use Rattle.rkt_response.specs.Responder.{status_alone};
-    ghost use Rattle.rkt_router.specs.CallbackLaws.{at_once_keeps, grows_same};
+    ghost use Rattle.rkt_request.specs.LentLaws.{grows_same};
+    ghost use Rattle.rkt_router.specs.CallbackLaws.{at_once_keeps};
     ghost use Rattle.rkt_router.specs.Callbacks.{at_once};
 
     type Task = Status;

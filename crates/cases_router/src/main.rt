@@ -32,69 +32,19 @@ mod answer;
 mod asked;
 mod callbacks;
 mod catchers;
-mod error;
 mod handlers;
+mod question;
+mod refusal;
 mod replies;
 mod routes;
-mod sample;
 mod uris;
 mod words;
 
-use crate::answer::answer;
-use crate::error::CaseError;
-use crate::routes::SampleRouter;
-use std::alloc::Global;
+use crate::answer::Program;
+use cases::answer_lines_if_made;
 use std::io;
-
-fn print_answer(rt: &impl Print, line: &str, text: &str) -> io::Result<()> {
-    println!(rt; "{line} -> {text}")
-}
-
-fn print_error(rt: &impl Print, line: &str, error: CaseError) -> io::Result<()> {
-    match error {
-        CaseError::Place(at) => println!(rt; "{line} -> refused at {at}"),
-        CaseError::Code(code) => println!(rt; "{line} -> bad code {code}"),
-        CaseError::Line => print_answer(rt, line, "? line"),
-        CaseError::NoMemory => print_answer(rt, line, "out of memory"),
-    }
-}
-
-/// Empty lines and those that begin with `#` are headings, and are written as they are.
-fn is_heading(line: &str) -> bool {
-    line.is_empty() || line.starts_with('#')
-}
-
-/// Writes the line, and behind an arrow the answer where it is a case.
-fn print_line(
-    rt: &impl Print,
-    alloc: Global,
-    router: &mut SampleRouter,
-    line: &str,
-) -> io::Result<()> {
-    if is_heading(line) {
-        return rt.println(line);
-    }
-    match answer(alloc, router, line) {
-        Ok(text) => print_answer(rt, line, text.as_str()),
-        Err(error) => print_error(rt, line, error),
-    }
-}
-
-/// Writes each line and its answer.
-fn print_lines<R: Print + Input>(
-    rt: &R,
-    alloc: Global,
-    router: &mut SampleRouter,
-) -> io::Result<()> {
-    for line in rt.lines(alloc) {
-        let line = line?;
-        print_line(rt, alloc, router, line.as_str())?;
-    }
-    Ok(())
-}
 
 fn main(rt: HostRuntime) -> io::Result<()> {
     let alloc = rt.alloc();
-    let mut router = SampleRouter::new(alloc);
-    print_lines(&rt, alloc, &mut router)
+    answer_lines_if_made(&rt, alloc, Program::new(alloc))
 }

@@ -1,7 +1,6 @@
 //! Answers of handlers and of catchers.
-use crate::error::CaseError;
-use crate::sample::Sample;
-use crate::words::{code, first_word, word};
+use crate::words::status;
+use cases::{CaseError, first_word};
 use rkt_base::NoMemory;
 use rkt_data::{Data, MemorySource};
 use rkt_http::{Outcome, Status};
@@ -9,48 +8,49 @@ use rkt_request::{Body0, Ctx, Request};
 use rkt_response::Response;
 use rkt_router::route::{error, forward, from, try_from};
 use rkt_router::{RouteOutcome, Step};
-use std::alloc::Global;
+use sample_app::Sample;
+use std::alloc::{AllocError, Global};
 
 type Reply = RouteOutcome<Sample>;
 
 /// A body of these bytes.
 pub fn body_of(alloc: Global, text: &str) -> Result<Body0<Sample>, NoMemory> {
-    Ok(Data::local(text.as_bytes().to_vec(alloc)?))
+    let bytes = text.as_bytes().to_vec(alloc)?;
+    Ok(Data::local(bytes))
 }
 
-pub fn response_text(
-    alloc: Global,
+pub fn push_response(
     response: &mut Response<MemorySource>,
-) -> Result<String, CaseError> {
+    out: &mut String,
+) -> Result<(), NoMemory> {
     let (code, size) = (response.status().code, response.body_mut().size());
-    Ok(format!(in alloc; "success {code} {size:?}")?)
+    write!(out, "success {code} {size:?}")
 }
 
-pub fn error_text(alloc: Global, status: Status) -> Result<String, CaseError> {
-    let code = status.code;
-    Ok(format!(in alloc; "error {code}")?)
+pub fn push_error(status: Status, out: &mut String) -> Result<(), NoMemory> {
+    write!(out, "error {}", status.code)
 }
 
-fn forward_text(alloc: Global, body: &Body0<Sample>, status: Status) -> Result<String, CaseError> {
+fn push_forward(body: &Body0<Sample>, status: Status, out: &mut String) -> Result<(), NoMemory> {
     let (code, complete) = (status.code, body.peek_complete());
-    Ok(format!(in alloc; "forward {code} complete={complete:?}")?)
+    write!(out, "forward {code} complete={complete:?}")
 }
 
-fn reply_text(alloc: Global, reply: Reply) -> Result<String, CaseError> {
+fn push_outcome(reply: Reply, out: &mut String) -> Result<(), NoMemory> {
     match reply {
-        Outcome::Success(mut response) => response_text(alloc, &mut response),
-        Outcome::Error(status) => error_text(alloc, status),
-        Outcome::Forward((body, status)) => forward_text(alloc, &body, status),
+        Outcome::Success(mut response) => push_response(&mut response, out),
+        Outcome::Error(status) => push_error(status, out),
+        Outcome::Forward((body, status)) => push_forward(&body, status, out),
     }
 }
 
-/// What a poll of a handler answers.
-pub fn step_text(alloc: Global, step: Step<Reply>) -> Result<String, CaseError> {
+/// Adds what a poll of a handler answers.
+pub fn push_step(step: Step<Reply>, out: &mut String) -> Result<(), NoMemory> {
     match step {
-        Step::Done(reply) => reply_text(alloc, reply),
-        Step::Pending => word(alloc, "pending"),
-        Step::Fault => word(alloc, "fault"),
-        Step::Starved => Err(CaseError::NoMemory),
+        Step::Done(reply) => push_outcome(reply, out),
+        Step::Pending => out.push_str("pending"),
+        Step::Fault => out.push_str("fault"),
+        Step::Starved => Err(AllocError),
     }
 }
 
@@ -67,9 +67,10 @@ fn made_from(
     request: &Request<'_, Sample>,
     ctx: &mut Ctx<Sample>,
     text: &str,
-) -> Result<String, CaseError> {
+    out: &mut String,
+) -> Result<(), NoMemory> {
     let reply = from(alloc, request, ctx, responder(text))?;
-    reply_text(alloc, reply)
+    push_outcome(reply, out)
 }
 
 fn made_from_value(
@@ -77,40 +78,37 @@ fn made_from_value(
     request: &Request<'_, Sample>,
     ctx: &mut Ctx<Sample>,
     text: &str,
-) -> Result<String, CaseError> {
+    out: &mut String,
+) -> Result<(), NoMemory> {
     let value = if text.is_empty() {
         Err(())
     } else {
         Ok(responder(text))
     };
     let reply = try_from(alloc, request, ctx, value)?;
-    reply_text(alloc, reply)
+    push_outcome(reply, out)
 }
 
-fn made_error(alloc: Global, text: &str) -> Result<String, CaseError> {
-    reply_text(alloc, error::<Sample>(Status::new(code(text)?)))
-}
-
-fn made_forward(alloc: Global, line: &str) -> Result<String, CaseError> {
-    let (number, text) = first_word(line);
-    let status = Status::new(code(number)?);
+fn made_forward(alloc: Global, line: &str, out: &mut String) -> Result<(), CaseError> {
+    let (code, text) = first_word(line);
+    let status = status(code)?;
     let body = body_of(alloc, text)?;
-    reply_text(alloc, forward::<Sample>(body, status))
+    Ok(push_outcome(forward::<Sample>(body, status), out)?)
 }
 
-/// An answer that is made by one of the functions for it.
-pub fn made_reply(
+/// Adds an answer that is made by one of the functions for it.
+pub fn push_made(
     alloc: Global,
     request: &Request<'_, Sample>,
     ctx: &mut Ctx<Sample>,
-    command: &str,
-    rest: &str,
-) -> Result<String, CaseError> {
-    match command {
-        "from" => made_from(alloc, request, ctx, rest),
-        "try_from" => made_from_value(alloc, request, ctx, rest),
-        "error" => made_error(alloc, rest),
-        "forward" => made_forward(alloc, rest),
+    asked: (&str, &str),
+    out: &mut String,
+) -> Result<(), CaseError> {
+    match asked.0 {
+        "from" => Ok(made_from(alloc, request, ctx, asked.1, out)?),
+        "try_from" => Ok(made_from_value(alloc, request, ctx, asked.1, out)?),
+        "error" => Ok(push_outcome(error::<Sample>(status(asked.1)?), out)?),
+        "forward" => made_forward(alloc, asked.1, out),
         _ => Err(CaseError::Line),
     }
 }

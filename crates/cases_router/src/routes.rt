@@ -1,10 +1,11 @@
 //! Routes that are made, shown and mounted.
-use crate::error::CaseError;
-use crate::words::{first_word, method, rank, rank_or_any};
+use crate::refusal::Refusal;
+use crate::words::{media_type, method, parsed_or_any};
+use cases::{CaseError, first_word, parsed};
 use rkt_base::{NoMemory, Seq, Want};
 use rkt_http::{InvalidUri, MediaType, Method};
 use rkt_router::route::StaticInfo;
-use rkt_router::{Route, Router};
+use rkt_router::{Route, Router, Sentry};
 use std::alloc::Global;
 
 /// A router of handlers without a meaning.
@@ -14,67 +15,55 @@ type SampleRoute = Route<u8, u8>;
 
 type Made = Result<SampleRoute, Want<InvalidUri>>;
 
-fn format_text(alloc: Global, format: Option<&MediaType>) -> Result<String, CaseError> {
+fn push_format(
+    alloc: Global,
+    format: Option<&MediaType>,
+    out: &mut String,
+) -> Result<(), NoMemory> {
     match format {
-        Some(format) => Ok(format.to_text(alloc)?.into_string()),
-        None => Ok(String::from_str(alloc, "none")?),
+        Some(format) => {
+            let text = format.to_text(alloc)?;
+            out.push_str(text.as_str())
+        }
+        None => out.push_str("none"),
     }
 }
 
-/// What a route is made of, but for its URI.
-fn made_text(alloc: Global, route: &SampleRoute) -> Result<String, CaseError> {
-    let format = format_text(alloc, route.format.as_ref())?;
+/// Adds what a route is made of, but for its URI.
+fn push_made(alloc: Global, route: &SampleRoute, out: &mut String) -> Result<(), NoMemory> {
     let name = route.name.as_ref().map_or("none", |name| name.as_str());
-    let (handler, format) = (route.handler, format.as_str());
-    Ok(format!(in alloc; " name={name} handler={handler} format={format}")?)
+    write!(out, " name={name} handler={} format=", route.handler)?;
+    push_format(alloc, route.format.as_ref(), out)
 }
 
-fn route_text(alloc: Global, route: &SampleRoute) -> Result<String, CaseError> {
+fn push_route(alloc: Global, route: &SampleRoute, out: &mut String) -> Result<(), NoMemory> {
     let (method, uri, rank) = (route.method.as_str(), &route.uri, route.rank);
-    Ok(format!(in alloc; "{method} {uri} rank={rank}")?)
+    write!(out, "{method} {uri} rank={rank}")?;
+    push_made(alloc, route, out)
 }
 
-fn shown(alloc: Global, route: &SampleRoute) -> Result<String, CaseError> {
-    let mut list = route_text(alloc, route)?;
-    let made = made_text(alloc, route)?;
-    list.push_str(made.as_str())?;
-    Ok(list)
-}
-
-/// Shows a route and mounts it.
-fn mounted(
-    alloc: Global,
-    router: &mut SampleRouter,
-    route: SampleRoute,
-) -> Result<String, CaseError> {
-    let text = shown(alloc, &route);
-    router.add_route(route)?;
-    text
-}
-
-fn new_route(alloc: Global, line: &str) -> Result<SampleRoute, CaseError> {
+/// The method and the path of `METHOD PATH`.
+fn method_and_path(line: &str) -> Result<(Method, &str), CaseError> {
     let (name, path) = first_word(line);
-    Ok(SampleRoute::new(alloc, method(name)?, path, 7)?)
+    Ok((method(name)?, path))
 }
 
-fn ranked(alloc: Global, line: &str) -> Result<SampleRoute, CaseError> {
-    let (number, line) = first_word(line);
-    let (name, path) = first_word(line);
-    let (rank, method) = (rank(number)?, method(name)?);
+fn new_route(alloc: Global, line: &str) -> Result<SampleRoute, Refusal> {
+    let (method, path) = method_and_path(line)?;
+    Ok(SampleRoute::new(alloc, method, path, 7)?)
+}
+
+fn of_rank(alloc: Global, rank: i64, line: &str) -> Result<SampleRoute, Refusal> {
+    let (method, path) = method_and_path(line)?;
     Ok(SampleRoute::ranked(alloc, Some(rank), method, path, 7)?)
 }
 
-/// A route of rank 3.
-fn third(alloc: Global, line: &str) -> Result<SampleRoute, CaseError> {
-    let (name, path) = first_word(line);
-    Ok(SampleRoute::ranked(alloc, Some(3), method(name)?, path, 7)?)
+fn ranked(alloc: Global, line: &str) -> Result<SampleRoute, Refusal> {
+    let (rank, line) = first_word(line);
+    of_rank(alloc, parsed::<i64>(rank)?, line)
 }
 
-fn info(
-    rank: Option<i64>,
-    method: Method,
-    sentinels: Seq<rkt_router::Sentry<u8>>,
-) -> StaticInfo<u8, u8> {
+fn info(rank: Option<i64>, method: Method, sentinels: Seq<Sentry<u8>>) -> StaticInfo<u8, u8> {
     StaticInfo {
         name: "static",
         method,
@@ -87,9 +76,10 @@ fn info(
 }
 
 /// The route that static information describes.
-fn described(alloc: Global, line: &str) -> Result<SampleRoute, CaseError> {
-    let (number, name) = first_word(line);
-    let info = info(rank_or_any(number)?, method(name)?, Seq::new(alloc));
+fn described(alloc: Global, line: &str) -> Result<SampleRoute, Refusal> {
+    let (rank, name) = first_word(line);
+    let rank = parsed_or_any::<i64>(rank)?;
+    let info = info(rank, method(name)?, Seq::new(alloc));
     Ok(SampleRoute::from_info(alloc, info)?)
 }
 
@@ -101,28 +91,32 @@ fn moved(alloc: Global, route: SampleRoute, front: &str) -> Made {
     )
 }
 
-fn below(alloc: Global, line: &str) -> Result<SampleRoute, CaseError> {
+fn below(alloc: Global, line: &str) -> Result<SampleRoute, Refusal> {
     let (front, line) = first_word(line);
-    let route = third(alloc, line)?;
+    let route = of_rank(alloc, 3, line)?;
     Ok(moved(alloc, route, front)?)
 }
 
-fn with_format(alloc: Global, line: &str) -> Result<SampleRoute, CaseError> {
+fn set_format(alloc: Global, route: &mut SampleRoute, name: &str) -> Result<(), CaseError> {
+    route.format = Some(media_type(alloc, name)?);
+    Ok(())
+}
+
+fn with_format(alloc: Global, line: &str) -> Result<SampleRoute, Refusal> {
     let (name, line) = first_word(line);
     let mut route = new_route(alloc, line)?;
-    route.format = Some(MediaType::parse(alloc, name)?);
+    set_format(alloc, &mut route, name)?;
     Ok(route)
 }
 
 /// The route that a line says.
-fn made(alloc: Global, command: &str, rest: &str) -> Result<SampleRoute, CaseError> {
+fn made(alloc: Global, command: &str, rest: &str) -> Result<SampleRoute, Refusal> {
     match command {
         "route" => new_route(alloc, rest),
         "ranked" => ranked(alloc, rest),
         "static" => described(alloc, rest),
         "below" => below(alloc, rest),
-        "format" => with_format(alloc, rest),
-        _ => Err(CaseError::Line),
+        _ => with_format(alloc, rest),
     }
 }
 
@@ -132,27 +126,29 @@ pub fn mount(
     router: &mut SampleRouter,
     command: &str,
     rest: &str,
-) -> Result<String, CaseError> {
+    out: &mut String,
+) -> Result<(), Refusal> {
     let route = made(alloc, command, rest)?;
-    mounted(alloc, router, route)
+    push_route(alloc, &route, out)?;
+    Ok(router.add_route(route)?)
 }
 
-fn mount_numbered(alloc: Global, router: &mut SampleRouter, number: u16) -> Result<(), CaseError> {
+fn mount_numbered(alloc: Global, router: &mut SampleRouter, number: u16) -> Result<(), Refusal> {
     let path = format!(in alloc; "/r{number}")?;
     let route = SampleRoute::new(alloc, Method::Get, path.as_str(), 7)?;
     Ok(router.add_route(route)?)
 }
 
 /// Mounts so many routes of one static segment.
-pub fn numbered(alloc: Global, router: &mut SampleRouter, count: u16) -> Result<(), CaseError> {
+pub fn numbered(alloc: Global, router: &mut SampleRouter, count: u16) -> Result<(), Refusal> {
     for number in 0..count {
         mount_numbered(alloc, router, number)?;
     }
     Ok(())
 }
 
-/// How many routes a router has.
-pub fn count_text(alloc: Global, router: &SampleRouter) -> Result<String, NoMemory> {
+/// Adds how many routes and catchers a router has.
+pub fn push_counts(router: &SampleRouter, out: &mut String) -> Result<(), NoMemory> {
     let (routes, catchers) = (router.routes().len(), router.catchers().len());
-    format!(in alloc; "routes {routes}, catchers {catchers}")
+    write!(out, "routes {routes}, catchers {catchers}")
 }

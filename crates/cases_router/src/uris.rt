@@ -1,28 +1,30 @@
 //! Segments, URIs of routes, and media types.
-use crate::error::CaseError;
-use crate::words::{first_word, word};
+use crate::refusal::Refusal;
+use crate::words::media_type;
+use cases::{CaseError, first_word};
+use rkt_base::NoMemory;
 use rkt_http::MediaType;
 use rkt_router::{Collide, RouteUri, Segment};
 use std::alloc::Global;
 
-/// What a segment is read as.
-pub fn segment(alloc: Global, text: &str) -> Result<String, CaseError> {
+/// Adds what a segment is read as.
+pub fn segment(alloc: Global, text: &str, out: &mut String) -> Result<(), NoMemory> {
     let segment = Segment::from(alloc, text)?;
     let (dynamic, trailing) = (segment.dynamic, segment.trailing);
     let value = segment.value.as_str();
-    Ok(format!(in alloc; "{value:?} dynamic={dynamic:?} trailing={trailing:?}")?)
+    write!(out, "{value:?} dynamic={dynamic:?} trailing={trailing:?}")
 }
 
-/// The whole URI, its base, and its path as it was written.
-fn origins_text(alloc: Global, uri: &RouteUri) -> Result<String, CaseError> {
+/// Adds the whole URI, its base, and its path as it was written.
+fn push_origins(uri: &RouteUri, out: &mut String) -> Result<(), NoMemory> {
     let (base, unmounted) = (uri.base_origin().as_str(), uri.unmounted_origin().as_str());
-    Ok(format!(in alloc; "{uri} base={base} unmounted={unmounted}")?)
+    write!(out, "{uri} base={base} unmounted={unmounted}")
 }
 
-/// Its path, query and default rank.
-fn parts_text(alloc: Global, uri: &RouteUri) -> Result<String, CaseError> {
+/// Adds its path, query and default rank.
+fn push_parts(uri: &RouteUri, out: &mut String) -> Result<(), NoMemory> {
     let (path, query, rank) = (uri.path(), uri.query(), uri.default_rank());
-    Ok(format!(in alloc; " path={path} query={query:?} rank={rank}")?)
+    write!(out, " path={path} query={query:?} rank={rank}")
 }
 
 /// Whether the other ways to say it say the same.
@@ -30,32 +32,36 @@ fn says_the_same(uri: &RouteUri) -> bool {
     uri.base() == uri.base_origin().path() && uri.as_str() == uri.origin().as_str()
 }
 
-fn uri_text(alloc: Global, uri: &RouteUri) -> Result<String, CaseError> {
-    let mut list = origins_text(alloc, uri)?;
-    let parts = parts_text(alloc, uri)?;
-    list.push_str(parts.as_str())?;
+fn push_uri(uri: &RouteUri, out: &mut String) -> Result<(), Refusal> {
+    push_origins(uri, out)?;
+    push_parts(uri, out)?;
     if !says_the_same(uri) {
-        list.push_str(" but")?;
+        out.push_str(" but")?;
     }
-    Ok(list)
+    Ok(())
 }
 
-/// What a base and a path are mounted as.
-pub fn uri(alloc: Global, line: &str) -> Result<String, CaseError> {
+/// Adds what a base and a path are mounted as.
+pub fn uri(alloc: Global, line: &str, out: &mut String) -> Result<(), Refusal> {
     let (base, path) = first_word(line);
     let uri = RouteUri::try_new(alloc, base, path)?;
-    uri_text(alloc, &uri)
+    push_uri(&uri, out)
 }
 
-fn collide(alloc: Global, one: &MediaType, other: &str) -> Result<bool, CaseError> {
-    let other = MediaType::parse(alloc, other)?;
-    Ok(one.collides_with(&other))
+fn push_collide(
+    alloc: Global,
+    one: &MediaType,
+    other: &str,
+    out: &mut String,
+) -> Result<(), CaseError> {
+    let other = media_type(alloc, other)?;
+    let collides = one.collides_with(&other);
+    Ok(write!(out, "{collides}")?)
 }
 
-/// Whether two media types collide.
-pub fn media(alloc: Global, line: &str) -> Result<String, CaseError> {
+/// Adds whether two media types collide.
+pub fn media(alloc: Global, line: &str, out: &mut String) -> Result<(), CaseError> {
     let (one, other) = first_word(line);
-    let one = MediaType::parse(alloc, one)?;
-    let collides = collide(alloc, &one, other)?;
-    word(alloc, if collides { "true" } else { "false" })
+    let one = media_type(alloc, one)?;
+    push_collide(alloc, &one, other, out)
 }

@@ -1,12 +1,8 @@
 //! The parts of a line.
-use crate::error::CaseError;
-use rkt_http::Method;
+use cases::{CaseError, parsed};
+use rkt_http::{MediaType, Method, Status};
 use std::alloc::Global;
-
-/// The first word of a line, and what stands behind the blank that ends it.
-pub fn first_word(line: &str) -> (&str, &str) {
-    line.split_once(' ').unwrap_or((line, ""))
-}
+use std::str::FromStr;
 
 pub fn method(text: &str) -> Result<Method, CaseError> {
     match Method::from_str(text) {
@@ -15,37 +11,25 @@ pub fn method(text: &str) -> Result<Method, CaseError> {
     }
 }
 
-pub fn code(text: &str) -> Result<u16, CaseError> {
-    match text.parse() {
-        Ok(code) => Ok(code),
-        Err(_) => Err(CaseError::Line),
-    }
+pub fn status(text: &str) -> Result<Status, CaseError> {
+    Ok(Status::new(parsed::<u16>(text)?))
 }
 
-/// A number, or none for `any`.
-pub fn code_or_any(text: &str) -> Result<Option<u16>, CaseError> {
+/// A code or a rank, or none for `any`.
+pub fn parsed_or_any<N: FromStr>(text: &str) -> Result<Option<N>, CaseError>
+where
+    N::Err: Drop,
+{
     if text == "any" {
         return Ok(None);
     }
-    Ok(Some(code(text)?))
-}
-
-pub fn rank(text: &str) -> Result<i64, CaseError> {
-    match text.parse() {
-        Ok(rank) => Ok(rank),
-        Err(_) => Err(CaseError::Line),
+    match parsed::<N>(text) {
+        Ok(number) => Ok(Some(number)),
+        Err(error) => Err(error),
     }
 }
 
-/// A rank, or none for `any`.
-pub fn rank_or_any(text: &str) -> Result<Option<i64>, CaseError> {
-    if text == "any" {
-        return Ok(None);
-    }
-    Ok(Some(rank(text)?))
-}
-
-/// A text of the program.
-pub fn word(alloc: Global, text: &str) -> Result<String, CaseError> {
-    Ok(String::from_str(alloc, text)?)
+/// The media type of a text.
+pub fn media_type(alloc: Global, text: &str) -> Result<MediaType, CaseError> {
+    Ok(MediaType::parse(alloc, text)?)
 }

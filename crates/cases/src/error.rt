@@ -2,18 +2,21 @@ use rkt_base::Want;
 use std::alloc::{AllocError, AllocFailed};
 
 /// Why a case has no other answer.
-#[derive(Drop)]
+#[derive(Clone, Copy, Drop)]
 pub enum CaseError {
     /// The line is not of the line language.
     Line,
+    /// A text of the line is refused.
+    Refused,
     NoMemory,
 }
 
 impl CaseError {
     /// What is answered in place of an answer.
-    pub fn text(&self) -> &'static str {
+    pub fn text(self) -> &'static str {
         match self {
             CaseError::Line => "? line",
+            CaseError::Refused => "refused",
             CaseError::NoMemory => "out of memory",
         }
     }
