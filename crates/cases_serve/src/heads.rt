@@ -45,7 +45,7 @@ fn link_of(alloc: Global, setting: &Setting, text: &str) -> Result<MemoryLink, N
     ensures { IfOk result (λ link. link.held ≡ []) }
 {
     let head = head_of(alloc, setting, text)?;
-    Ok(MemoryLink::new(alloc, head))
+    MemoryLink::new(alloc, head)
 }
 
 fn links_of(alloc: Global, setting: &Setting, text: &str) -> Result<Vec<MemoryLink>, NoMemory>

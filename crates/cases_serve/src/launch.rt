@@ -19,7 +19,7 @@ type Over = Launched<Site, ListListener, ListClock>;
 
 fn run_cookies(alloc: Global, entry: &Entry<Site, MemoryLink>) -> Result<String, AllocError> {
     match &entry.run {
-        Some(run) => cookies(alloc, &run.jar),
+        Some(run) => cookies(alloc, &run.get().jar),
         None => Ok(String::new(alloc)),
     }
 }

@@ -87,7 +87,7 @@ fn send_body<R: Wait>(
     source: MemorySource,
 ) -> Result<String, CaseError> {
     let head = head_of(alloc, setting, "GET /")?;
-    let mut link = MemoryLink::new(alloc, head);
+    let mut link = MemoryLink::new(alloc, head)?;
     let response = response(alloc, setting, source)?;
     let end = sent(rt, alloc, &mut link, response, turns)?;
     Ok(ended(alloc, end, &link)?)

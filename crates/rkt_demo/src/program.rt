@@ -30,9 +30,9 @@ fn links_for(alloc: Global, heads: Vec<Head>) -> Result<Vec<MemoryLink>, NoMemor
     ensures heads { IfOk result (λ links. map (λ link. link.head) links.items ≡ heads.items) }
     ensures fresh { IfOk result (λ links. AllByRecursion HoldsNothing links.items) }
 {
-    let mut links = Vec::new(alloc);
+    let mut links = Vec::with_capacity(alloc, heads.len())?;
     for head in heads {
-        links.push(MemoryLink::new(alloc, head))?;
+        links.push(MemoryLink::new(alloc, head)?)?;
     }
     Ok(links)
 }

@@ -5,6 +5,8 @@ use Rattle.rkt_base.specs.declared.poll.Poll.{Poll}
 use Rattle.rkt_base.specs.declared.poll.Poll.TheVariants.{Ready, Pending}
 use Rattle.rkt_message.specs.declared.piece.Piece.{Piece}
 use Rattle.rkt_serve.specs.Asked.{Asked}
+use Rattle.rkt_serve.specs.declared.link.Handed.{Handed}
+use Rattle.rkt_serve.specs.declared.link.Handed.TheVariants.{Taken, Back, Refused}
 
 pub record LinkMeaning : Type 0 where
   -- what it asks, where it tells that
@@ -25,6 +27,18 @@ abbrev pub after_send : {E : Type 0} → Poll (Result (Unit {0}) E) → LinkMean
 after_send (Ready (Ok taken)) link piece = with_taken link (piece ∷ [])
 after_send (Ready (Err e)) link piece = link
 after_send Pending link piece = link
+
+-- the same after a piece was handed over
+abbrev pub after_hand : Handed → LinkMeaning → Piece → LinkMeaning
+after_hand Taken link piece = with_taken link (piece ∷ [])
+after_hand (Back other) link piece = link
+after_hand (Refused e) link piece = link
+
+-- what comes back is that piece
+abbrev pub ComesBack : Handed → Piece → Type 0
+ComesBack Taken piece = Unit {0}
+ComesBack (Back other) piece = other ≡ piece
+ComesBack (Refused e) piece = Unit {0}
 
 -- nothing was sent, and nothing has failed
 pub record IsFreshLink (link : LinkMeaning) : Type 0 where

@@ -4,6 +4,7 @@ ghost use Rattle.std.specs.List.{count_by};
 ghost use Rattle.std.specs.Option.{option_copied};
 ghost use Rattle.rkt_serve.specs.Events.{noted, with_first, is_admit, admitted, admits, ends, end_of, Ordered, IsClosed};
 
+use crate::Boxed;
 use rkt_base::{NoMemory, Seq};
 use rkt_life::RunOf;
 use rkt_message::Response;
@@ -42,8 +43,8 @@ pub enum End {
 #[derive(Drop)]
 pub struct EntryOf<C, S, K> {
     pub link: K,
-    pub run: Option<RunOf<C>>,
-    pub response: Option<Response<S>>,
+    pub run: Option<Boxed<RunOf<C>>>,
+    pub response: Option<Boxed<Response<S>>>,
     pub end: End,
 }
 

@@ -1,6 +1,7 @@
 //! Serving: the links of a listener, one exchange with each, and the history of it all.
 #![tactic(auto)]
 
+mod boxed;
 mod clock;
 mod error;
 mod history;
@@ -14,11 +15,12 @@ mod sending;
 mod system_clock;
 mod working;
 
+pub use boxed::Boxed;
 pub use clock::Clock;
 pub use error::{Error, ErrorKind, ErrorKindOf, Launched, LaunchedOf};
 pub use history::{Called, End, Entry, EntryOf, Event, EventOf, Failure, History, HistoryOf};
 pub use launch::Launch;
-pub use link::{Link, SendError};
+pub use link::{Handed, Link, SendError};
 pub use list_clock::ListClock;
 pub use list_listener::ListListener;
 pub use listener::{Accepted, Listener};

@@ -2,7 +2,7 @@
 ghost use Rattle.std.specs.Prelude.{◌≡◌};
 ghost use Rattle.std.specs.Option.{ForSome};
 ghost use Rattle.rkt_base.specs.declared.poll.Poll.{Poll};
-ghost use Rattle.rkt_serve.specs.Link.{LinkMeaning, after_send};
+ghost use Rattle.rkt_serve.specs.Link.{LinkMeaning, after_send, after_hand, ComesBack};
 
 use rkt_base::Poll;
 use rkt_data::Shut;
@@ -13,6 +13,17 @@ use rkt_request::Head;
 #[derive(Clone, Copy, Debug, PartialEq, Eq)]
 pub enum SendError {
     NoMemory,
+}
+
+/// What became of a piece that was handed over.
+#[derive(Debug, Drop)]
+pub enum Handed {
+    /// The link has it.
+    Taken,
+    /// The link cannot take it yet.
+    Back(Piece),
+    /// The link did not take it, and it is let go.
+    Refused(SendError),
 }
 
 /// Where a request comes from, and where the pieces of its response go.
@@ -27,6 +38,18 @@ pub trait Link: Shut {
     /// Takes a piece of the response.
     fn poll_send(&mut self, piece: &Piece) -> Poll<Result<(), SendError>>
         ensures { meaning self.new ≡ after_send result (meaning self.old) piece.now };
+
+    /// Takes a piece that nobody else needs: `poll_send`, for a link that would copy it.
+    fn poll_hand(&mut self, piece: Piece) -> Handed
+        ensures link { meaning self.new ≡ after_hand result (meaning self.old) piece }
+        ensures back { ComesBack result piece }
+    {
+        match self.poll_send(&piece) {
+            Poll::Ready(Ok(())) => Handed::Taken,
+            Poll::Ready(Err(e)) => Handed::Refused(e),
+            Poll::Pending => Handed::Back(piece),
+        }
+    }
 
     /// What it asks says whether it may fail.
     ghost asked_never_faults: { (k : Self) → ForSome (meaning k).asked (λ asked. asked.never_faults ≡ (meaning k).never_faults) };

@@ -1,20 +1,26 @@
 //! A link in memory.
-ghost use Rattle.std.specs.Prelude.{◌≡◌, [], List};
+ghost use Rattle.std.specs.Prelude.{◌≡◌, ◌++◌, ◌∷◌, [], List, IfOk, OnOk, OnErr};
 
-use crate::{Link, SendError};
-use rkt_base::{Poll, Seq};
+use crate::{Handed, Link, SendError};
+use rkt_base::{NoMemory, Poll};
 use rkt_data::Shut;
 use rkt_message::Piece;
 use rkt_request::Head;
 use std::alloc::Global;
 use std::marker::Model;
 
-/// A link that keeps what it asks, and the pieces that it takes.
+/// A link that keeps what it asks, and the pieces that it takes. It is moved from hand to hand, so all this is on the
+/// heap.
 #[derive(Debug, Drop)]
 pub struct MemoryLink {
-    head: Head,
-    held: Seq<Piece>,
+    kept: Box<Kept>,
     alloc: Global,
+}
+
+#[derive(Debug, Drop)]
+struct Kept {
+    head: Head,
+    held: Vec<Piece>,
 }
 
 impl Model for MemoryLink {
@@ -22,26 +28,39 @@ impl Model for MemoryLink {
 
     ghost Value = { LinkInMemory };
 
-    ghost view = { λ k. record { head = k.head; held = k.held } };
+    ghost view = { λ k. record { head = k.kept.value.head; held = k.kept.value.held.items } };
+}
+
+// How many pieces most responses are sent as: the head, a chunk and the end.
+const USUAL: usize = 3;
+
+// Takes a piece, in just the room that most responses need.
+fn hold(held: &mut Vec<Piece>, piece: Piece) -> Result<(), NoMemory>
+    ensures ok { OnOk result (held.new.items ≡ held.old.items ++ piece ∷ []) }
+    ensures err { OnErr result (held.new.items ≡ held.old.items) }
+{
+    if held.is_empty() {
+        held.reserve_exact(USUAL)?;
+    }
+    held.push(piece)?;
+    Ok(())
 }
 
 impl MemoryLink {
     /// A link that asks this and has taken nothing.
-    pub fn new(alloc: Global, head: Head) -> MemoryLink
-        ensures { result ≡ record { head = head; held = [] } }
+    pub fn new(alloc: Global, head: Head) -> Result<MemoryLink, NoMemory>
+        ensures { IfOk result (λ link. link ≡ record { head = head; held = [] }) }
     {
-        MemoryLink {
-            head,
-            held: Seq::new(alloc),
-            alloc,
-        }
+        let held = Vec::new(alloc);
+        let kept = Box::new(alloc, Kept { head, held })?;
+        Ok(MemoryLink { kept, alloc })
     }
 
     /// The pieces that it has taken.
     pub fn held(&self) -> &[Piece]
         ensures { result.now ≡ self.now.held }
     {
-        self.held.as_slice()
+        self.kept.held.as_slice()
     }
 }
 
@@ -62,16 +81,23 @@ impl Link for MemoryLink {
     ghost meaning = { link_meaning };
 
     fn head(&self) -> &Head {
-        &self.head
+        &self.kept.head
     }
 
     fn poll_send(&mut self, piece: &Piece) -> Poll<Result<(), SendError>> {
         let Ok(copy) = piece.try_clone(self.alloc) else {
             return Poll::Ready(Err(SendError::NoMemory));
         };
-        match self.held.push(copy) {
+        match hold(&mut self.kept.held, copy) {
             Ok(()) => Poll::Ready(Ok(())),
             Err(_) => Poll::Ready(Err(SendError::NoMemory)),
+        }
+    }
+
+    fn poll_hand(&mut self, piece: Piece) -> Handed {
+        match hold(&mut self.kept.held, piece) {
+            Ok(()) => Handed::Taken,
+            Err(_) => Handed::Refused(SendError::NoMemory),
         }
     }
 

@@ -1,5 +1,5 @@
 //! How a response is sent.
-ghost use Rattle.std.specs.Prelude.{◌≡◌, ◌≢◌, ◌∷◌, [], Err, List, IfOk, OnOk, false, max};
+ghost use Rattle.std.specs.Prelude.{◌≡◌, ◌≢◌, ◌↔◌, ◌∷◌, [], Err, List, IfOk, OnOk, IsTrue, false, max};
 ghost use Rattle.rkt_message.specs.Reading.{ReadsOn};
 ghost use Rattle.rkt_message.specs.Sending.{ReadOn};
 ghost use Rattle.rkt_message.specs.Sent.{has_head};
@@ -10,26 +10,32 @@ ghost use Rattle.rkt_serve.specs.Link.{with_taken};
 ghost use Rattle.rkt_serve.specs.Progress.{Advances};
 ghost use Rattle.rkt_serve.specs.Sent.{BodyFails, IsSentAs};
 
-use crate::{End, Failure, Link, SendError};
+use crate::{End, Failure, Handed, Link, SendError};
 use rkt_base::{NoMemory, Poll};
 use rkt_data::{Gate, Source};
 use rkt_message::{Piece, PieceError, Pieces, Response};
 use std::alloc::{AllocError, Global};
 use std::sync::Wait;
 
-// Sends one piece, and waits until it is taken.
-fn put<R: Wait, K: Link>(rt: &R, link: &mut K, piece: &Piece) -> Result<(), NoMemory>
-    ensures ok { OnOk result (K.meaning link.new ≡ with_taken (K.meaning link.old) (piece.now ∷ [])) }
+// Hands one piece over, and waits until it is taken.
+fn put<R: Wait, K: Link>(rt: &R, link: &mut K, mut piece: Piece) -> Result<(), NoMemory>
+    ensures ok { OnOk result (K.meaning link.new ≡ with_taken (K.meaning link.old) (piece ∷ [])) }
     ensures asked { (K.meaning link.new).asked ≡ (K.meaning link.old).asked }
 {
     for _ in rt.forever() {
-        match link.poll_send(piece) {
-            Poll::Ready(Ok(())) => return Ok(()),
-            Poll::Ready(Err(SendError::NoMemory)) => return Err(AllocError),
-            Poll::Pending => {}
+        match link.poll_hand(piece) {
+            Handed::Taken => return Ok(()),
+            Handed::Refused(SendError::NoMemory) => return Err(AllocError),
+            Handed::Back(back) => piece = back,
         }
     }
     unreachable!()
+}
+
+fn is_end(piece: &Piece) -> bool
+    ensures { IsTrue result ↔ (piece.now ≡ Piece.End) }
+{
+    matches!(piece, Piece::End)
 }
 
 // The next piece, polled until it is there.
@@ -80,8 +86,9 @@ fn put_all<R: Wait, K: Link, S: Source>(
             Err(PieceError::BodyFault) => return Ok(End::Failed(Failure::BodyFault)),
             Err(PieceError::NoMemory) => return Err(AllocError),
         };
-        put(rt, link, &piece)?;
-        if let Piece::End = piece {
+        let last = is_end(&piece);
+        put(rt, link, piece)?;
+        if last {
             return Ok(End::Answered);
         }
     }

@@ -13,7 +13,7 @@ ghost use Rattle.rkt_serve.specs.Link.{IsFreshLink};
 ghost use Rattle.rkt_serve.specs.Listener.{GivesMore};
 
 use crate::sending::send;
-use crate::{Accepted, Clock, End, Entry, EntryOf, Event, EventOf, Link, Listener};
+use crate::{Accepted, Boxed, Clock, End, Entry, EntryOf, Event, EventOf, Link, Listener};
 use rkt_base::{NoMemory, Poll};
 use rkt_data::Gate;
 use rkt_life::{App, Ended, EndedOf, Handler, Run, Tables};
@@ -110,14 +110,20 @@ impl<'a, A: App, R: Wait> Worker<'a, A, R> {
         ensures moment { ForSome result.run (λ kept. kept.moment ≡ run.moment) }
     {
         let (response, sent) = send(self.rt, self.alloc, &mut link, response, self.turns(), gate);
-        match sent {
-            Ok(ended) => EntryOf {
-                link,
-                run: Some(run),
-                response: Some(response),
-                end: ended,
-            },
-            Err(_) => starved(link),
+        let Ok(ended) = sent else {
+            return starved(link);
+        };
+        let Ok(run) = Boxed::new(self.alloc, run) else {
+            return starved(link);
+        };
+        let Ok(response) = Boxed::new(self.alloc, response) else {
+            return starved(link);
+        };
+        EntryOf {
+            link,
+            run: Some(run),
+            response: Some(response),
+            end: ended,
         }
     }
 
