@@ -26,7 +26,7 @@ pub struct Setting {
     managed: Managed<u8>,
 }
 
-pub fn setting(alloc: Global) -> Result<Setting, NoMemory> {
+pub fn made_setting(alloc: Global) -> Result<Setting, NoMemory> {
     Ok(Setting {
         config: Config::default(alloc)?,
         managed: Managed::new(alloc),

@@ -17,8 +17,8 @@ mod asked;
 mod author;
 
 use crate::asked::{
-    Setting, context, push_depth, push_loud, push_param, push_point, push_token, request, setting,
-    with_token,
+    Setting, context, made_setting, push_depth, push_loud, push_param, push_point, push_token,
+    request, with_token,
 };
 use cases::{Answers, CaseError, answer_lines_if_made, first_word, plain};
 use rkt_base::NoMemory;
@@ -34,7 +34,7 @@ struct Program {
 impl Program {
     fn new(alloc: Global) -> Result<Program, NoMemory> {
         Ok(Program {
-            setting: setting(alloc)?,
+            setting: made_setting(alloc)?,
         })
     }
 }

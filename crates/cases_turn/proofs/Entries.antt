@@ -22,13 +22,13 @@ one_more : (n : ℕ) (list mine : List Entry) (e : Entry) → IsDiary list → (
 one_more n list mine e d own who next = λ k small.
     let parts : of writer k (list ++ e ∷ []) ≡ of writer k list ++ cond (eqb e.by k) (e ∷ []) [] = filter-append (λ x. eqb (writer x) k) list (e ∷ []) in
     dite (ℕ_discrete n k)
-      (λ same.
-        let part : of writer k list ≡ mine = subst (λ j. j < last_number → of writer j list ≡ mine) same own small in
-        let whole : of writer k (list ++ e ∷ []) ≡ mine ++ e ∷ [] = parts ∙ (λ i. part i ++ cond (eq-eqb e.by k (who ∙ same) i) (e ∷ []) []) in
-        subst (TakeTurns false) (sym whole) (turns_last false mine e (subst (TakeTurns false) part (d k small)) (sym next)))
-      (λ ne.
-        let whole : of writer k (list ++ e ∷ []) ≡ of writer k list = parts ∙ (ap (λ b. of writer k list ++ cond b (e ∷ []) []) (ne_eqb e.by k (λ r. ne (sym who ∙ r))) ∙ append-nil (of writer k list)) in
-        subst (TakeTurns false) (sym whole) (d k small))
+    (λ same.
+    let part : of writer k list ≡ mine = subst (λ j. j < last_number → of writer j list ≡ mine) same own small in
+    let whole : of writer k (list ++ e ∷ []) ≡ mine ++ e ∷ [] = parts ∙ (λ i. part i ++ cond (eq-eqb e.by k (who ∙ same) i) (e ∷ []) []) in
+    subst (TakeTurns false) (sym whole) (turns_last false mine e (subst (TakeTurns false) part (d k small)) (sym next)))
+    (λ ne.
+    let whole : of writer k (list ++ e ∷ []) ≡ of writer k list = parts ∙ (ap (λ b. of writer k list ++ cond b (e ∷ []) []) (ne_eqb e.by k (λ r. ne (sym who ∙ r))) ∙ append-nil (of writer k list)) in
+    subst (TakeTurns false) (sym whole) (d k small))
 
 module _ {X : Type 0} where
   pub written_diary : (answer : Result (Unit {0}) X) (n : ℕ) (list mine : List Entry) (e : Entry) → IsDiary list → (n < last_number → of writer n list ≡ mine) → e.by ≡ n → open_after false mine ≡ e.ends → IsDiary (written answer list e)

@@ -18,12 +18,7 @@ use std::thread;
 use std::thread::{Threads, join};
 
 // A turn that writes one entry: an end where something is open, and else a beginning. Answers whether something is open then.
-fn write<R: Wait>(
-    rt: &R,
-    lock: &Turnstile<Diary>,
-    pass: &mut Pass<Diary>,
-    ends: bool,
-) -> bool
+fn write<R: Wait>(rt: &R, lock: &Turnstile<Diary>, pass: &mut Pass<Diary>, ends: bool) -> bool
     requires own { IsPassOf lock.now pass.old }
     requires idle { IsIdle pass.old }
     requires next { open_after false (known pass.old).mine ≡ ends }
@@ -111,7 +106,10 @@ fn all_write<R: Threads + Wait + Sync>(
     mut first: Pass<Diary>,
     others: Vec<Pass<Diary>>,
     turns: usize,
-) -> ((Pass<Diary>, Result<Vec<Entry>, NoMemory>), Vec<Pass<Diary>>)
+) -> (
+    (Pass<Diary>, Result<Vec<Entry>, NoMemory>),
+    Vec<Pass<Diary>>,
+)
     requires first { IsFirst first × IsNew lock.now first }
     requires ready { All (λ p. IsNew lock.now p) others.items }
     ensures first { IsPassOf lock.now result.0.0 × IsFirst result.0.0 × IsIdle result.0.0 }
@@ -213,7 +211,12 @@ fn saw_a_front(entries: &[Entry], seen: &[Entry]) -> bool {
     count_of(seen, 0) == count_of(entries, 0) && entries.starts_with(seen)
 }
 
-fn shown(alloc: Global, entries: &[Entry], seen: &[Entry], others: u64) -> Result<String, CaseError> {
+fn shown(
+    alloc: Global,
+    entries: &[Entry],
+    seen: &[Entry],
+    others: u64,
+) -> Result<String, CaseError> {
     let counts = counts(alloc, entries, others.saturating_add(1))?;
     let front = saw_a_front(entries, seen);
     let entries = entries.len();

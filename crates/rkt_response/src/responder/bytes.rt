@@ -8,8 +8,8 @@ ghost use Rattle.rkt_media.specs.declared.known.Known.TheVariants.{Binary};
 ghost use Rattle.rkt_request.specs.FromRequest.{Answers};
 ghost use Rattle.rkt_response.specs.Responder.{typed_bytes};
 
-use crate::responder::{Responder, ResponseResult};
 use crate::responder::making::typed_bytes;
+use crate::responder::{Responder, ResponseResult};
 use rkt_http::Known;
 use rkt_request::{Ctx, Request, Types};
 use std::alloc::Global;

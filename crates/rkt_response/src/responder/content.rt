@@ -4,8 +4,8 @@ ghost use Rattle.rkt_media.specs.Media.{known_text, media_text};
 ghost use Rattle.rkt_media.specs.declared.known.Known.TheVariants.{JSON, XML, MsgPack, HTML, Text, CSS, JavaScript};
 ghost use Rattle.rkt_response.specs.Responder.{Changes, StarvesWithin, with_type};
 
-use crate::responder::{Responder, ResponseResult};
 use crate::responder::making::with_known;
+use crate::responder::{Responder, ResponseResult};
 use rkt_http::{ContentType, Known};
 use rkt_request::{Ctx, Request, Types};
 use std::alloc::Global;

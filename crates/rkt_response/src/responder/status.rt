@@ -3,9 +3,9 @@ ghost use Rattle.std.specs.Prelude.{◌≡◌, Ok};
 ghost use Rattle.rkt_request.specs.FromRequest.{Answers};
 ghost use Rattle.rkt_response.specs.Responder.{Changes, status_alone, with_status};
 
-use crate::responder::{Responder, ResponseResult};
 pub use crate::responder::created::Created;
 use crate::responder::making::with_status;
+use crate::responder::{Responder, ResponseResult};
 use rkt_http::Status;
 use rkt_message::Response;
 use rkt_request::{Ctx, Request, Types};

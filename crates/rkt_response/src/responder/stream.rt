@@ -5,8 +5,8 @@ ghost use Rattle.rkt_media.specs.declared.known.Known.TheVariants.{Binary, Plain
 ghost use Rattle.rkt_request.specs.FromRequest.{Answers};
 ghost use Rattle.rkt_response.specs.Responder.{streamed, with_type};
 
-use crate::responder::{Responder, ResponseResult};
 use crate::responder::making::typed_stream;
+use crate::responder::{Responder, ResponseResult};
 use rkt_data::Source;
 pub use rkt_data::stream::ReaderStream;
 use rkt_data::stream::Stream;
