@@ -149,6 +149,18 @@ fn keep(alloc: Global, maps: &mut Maps) -> Result<(), CaseError> {
     Ok(())
 }
 
+/// Puts the headers of the copy behind those of the map.
+fn append(alloc: Global, maps: &mut Maps) -> Result<(), CaseError> {
+    let other = maps.copy.try_clone(alloc)?;
+    Ok(maps.map.append(other)?)
+}
+
+/// Puts the headers of the copy in place of those of the map.
+fn overwrite(alloc: Global, maps: &mut Maps) -> Result<(), CaseError> {
+    let other = maps.copy.try_clone(alloc)?;
+    Ok(maps.map.overwrite(other)?)
+}
+
 /// What the maps answer to a command.
 pub fn map_answer(alloc: Global, maps: &mut Maps, line: &str) -> Result<String, CaseError> {
     let (command, rest) = first_word(line);
@@ -156,6 +168,16 @@ pub fn map_answer(alloc: Global, maps: &mut Maps, line: &str) -> Result<String, 
         "new" => renew(alloc, maps),
         "remove" => maps.map.remove(rest),
         "copy" => keep(alloc, maps)?,
+        _ => return grown(alloc, maps, command, rest),
+    }
+    Ok(String::from_str(alloc, "done")?)
+}
+
+/// Changes the map by its copy, or alone.
+fn grown(alloc: Global, maps: &mut Maps, command: &str, rest: &str) -> Result<String, CaseError> {
+    match command {
+        "append" => append(alloc, maps)?,
+        "overwrite" => overwrite(alloc, maps)?,
         "copied" => return shown(alloc, &maps.copy),
         _ => return changed(alloc, &mut maps.map, command, rest),
     }

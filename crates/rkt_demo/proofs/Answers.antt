@@ -17,7 +17,8 @@ use Rattle.rkt_request.specs.Seen.{Seen, ReadAs, IsAccepted}
 use Rattle.rkt_request.specs.declared.bad.Bad.{Bad}
 use Rattle.rkt_request.specs.declared.head.Head.{Head}
 use Rattle.rkt_life.specs.Lifecycle.{Outcome, Success, Forward, Lifecycle, Responds, Served, Tried, Finished}
-use Rattle.rkt_life.specs.Response.{typed, text_page, page_of, IsDefaultPage, PrefersJson}
+use Rattle.rkt_life.specs.Response.{text_page}
+use Rattle.rkt_router.specs.Page.{typed, page_of, IsDefaultPage, PrefersJson}
 use Rattle.rkt_life.specs.Rocket.{SeenTables}
 use Rattle.rkt_life.specs.Routes.{matches, tries}
 use Rattle.rkt_life.specs.declared.run.Call.{Call}

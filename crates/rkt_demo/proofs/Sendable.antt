@@ -14,7 +14,8 @@ use Rattle.rkt_message.specs.declared.content.Content.{Content}
 use Rattle.rkt_message.specs.declared.content.Content.TheVariants.{Sized}
 use Rattle.rkt_message.specs.declared.piece.Piece.{Piece}
 use Rattle.rkt_life.specs.Lifecycle.{Outcome, Lifecycle, Responds, Tried, Finished}
-use Rattle.rkt_life.specs.Response.{text_page, page_of}
+use Rattle.rkt_life.specs.Response.{text_page}
+use Rattle.rkt_router.specs.Page.{page_of}
 use Rattle.rkt_life.specs.Rocket.{SeenTables}
 use Rattle.rkt_life.specs.declared.run.Call.{Call}
 use Rattle.rkt_life.specs.declared.run.RunOf.{RunOf}

@@ -1,11 +1,8 @@
 -- A group by its place, and by its name.
-use Rattle.std.proofs.Common.{◌≡◌, ℕ, zero, suc, ◌<◌, ◌≤◌, nat_lt, cond, Bool, true, false, if◌then◌else◌, List, [], ◌∷◌, ◌++◌, length, refl, sym, ◌∙◌, ap, subst, arith, String, Option, Some, None, is_some, find}
+use Rattle.std.proofs.Common.{◌≡◌, ℕ, zero, suc, ◌<◌, ◌≤◌, nat_lt, cond, Bool, true, false, if◌then◌else◌, List, [], ◌∷◌, ◌++◌, length, refl, sym, ◌∙◌, ap, subst, arith, Option, Some, None, is_some, find, Result, Ok, Err, OnOk, slice_set, slice_index_or}
 use Rattle.std.specs.List.{position, position_or_len, remove}
 use Rattle.std.proofs.lemmas.Bool.Decides.{nat_tests}
-use Rattle.std.specs.Global.{Global}
-use Rattle.rkt_http.specs.HeaderGroups.{changed_at, IsSpot}
-use Rattle.rkt_http.specs.declared.header_groups.Spot.{Spot}
-use Rattle.rkt_http.specs.declared.header_groups.Spot.TheVariants.{At, Free}
+use Rattle.rkt_http.specs.HeaderPlaces.{changed_at}
 use Rattle.rkt_http.specs.Headers.{Group, is_named, with_group, removed}
 
 cond_some : (t : Bool) (n i : ℕ) → cond t (Some n) None ≡ Some i → (t ≡ true) × (n ≡ i)
@@ -84,21 +81,35 @@ remove_none (g ∷ gs) name none = by_test (is_named name g) refl (remove_none g
     by_test true test more = absurd (omega (arith, place_here name g gs test))
     by_test false test more = ap (λ (xs : List Group). g ∷ xs) (more (omega (arith, place_later name g gs test)))
 
--- a group that was changed at its spot
-pub changed_there : (change : Group → Group) (made : Group) (groups groups' : List Group) (name : List ℕ) (spot : Spot) (at : ℕ) (new : List Group)
-    → IsSpot name groups' spot → name ≡ made.name → groups' ≡ groups → spot ≡ At at → new ≡ changed_at at change groups' → new ≡ with_group change made groups
-changed_there change made groups groups' name spot at new found named view is changed =
-    let here : IsSpot name groups' (At at) = subst (IsSpot name groups') is found in
-    let place = at_place made.name groups' at (ap (λ (n : List ℕ). position (is_named n) groups') (sym named) ∙ here.0) in
-    changed ∙ changed_first change groups' made at place.0 place.1 ∙ ap (with_group change made) view
+-- a group that was changed at its place
+pub changed_there : (change : Group → Group) (made : Group) (groups mid old : List Group) (name : List ℕ) (place : Option ℕ) (at : ℕ) (new : List Group)
+    → place ≡ position (is_named name) mid → mid ≡ groups → old ≡ mid → name ≡ made.name → place ≡ Some at → new ≡ changed_at at change old → new ≡ with_group change made groups
+changed_there change made groups mid old name place at new found view same named is changed =
+    let there : position (is_named made.name) groups ≡ Some at = sym (found ∙ (λ i. position (is_named (named i)) (view i))) ∙ is in
+    let spot = at_place made.name groups at there in
+    changed ∙ ap (changed_at at change) (same ∙ view) ∙ changed_first change groups made at spot.0 spot.1
 
 -- one that was put behind the others
-pub put_last : (change : Group → Group) (made : Group) (groups groups' : List Group) (name : List ℕ) (spot : Spot) (key : String Global) (entry : Group) (new : List Group)
-    → IsSpot name groups' spot → name ≡ made.name → groups' ≡ groups → spot ≡ Free key → entry ≡ made → new ≡ groups' ++ entry ∷ [] → new ≡ with_group change made groups
-put_last change made groups groups' name spot key entry new found named view is same pushed =
-    let here : IsSpot name groups' (Free key) = subst (IsSpot name groups') is found in
-    let none = no_place made.name groups' (ap (λ (n : List ℕ). position (is_named n) groups') (sym named) ∙ here.0) in
-    pushed ∙ ap (λ (e : Group). groups' ++ e ∷ []) same ∙ push_last change groups' made none ∙ ap (with_group change made) view
+pub put_last : (change : Group → Group) (made : Group) (groups mid old : List Group) (name : List ℕ) (place : Option ℕ) (new : List Group)
+    → place ≡ position (is_named name) mid → mid ≡ groups → old ≡ mid → name ≡ made.name → place ≡ None → new ≡ old ++ made ∷ [] → new ≡ with_group change made groups
+put_last change made groups mid old name place new found view same named is pushed =
+    let none : position (is_named made.name) groups ≡ None = sym (found ∙ (λ i. position (is_named (named i)) (view i))) ∙ is in
+    pushed ∙ ap (λ (gs : List Group). gs ++ made ∷ []) (same ∙ view) ∙ push_last change groups made (no_place made.name groups none)
+
+-- a group that is written in its place
+pub changed_set : (groups : List Group) (at : ℕ) (group new : Group) (change : Group → Group) → group ≡ slice_index_or groups at group → at < length groups → new ≡ change group
+    → slice_set groups at new ≡ changed_at at change groups
+changed_set [] at group new change there within is = absurd (omega (arith, within))
+changed_set (g ∷ gs) zero group new change there within is = ap (λ (h : Group). h ∷ gs) (is ∙ ap change there)
+changed_set (g ∷ gs) (suc at) group new change there within is = ap (λ (hs : List Group). g ∷ hs) (changed_set gs at group new change there (omega (arith, within)) is)
+
+pub changed_on_ok : {E : Type 0} (r : Result (Unit {0}) E) (groups : List Group) (at : ℕ) (group new : Group) (change : Group → Group) (old : List Group) → group ≡ slice_index_or groups at group → at < length old → groups ≡ old
+    → OnOk r (new ≡ change group) → OnOk r (slice_set groups at new ≡ changed_at at change old)
+changed_on_ok {E} r groups at group new change old there within view = by_answer r
+  where
+    by_answer : (a : Result (Unit {0}) E) → OnOk a (new ≡ change group) → OnOk a (slice_set groups at new ≡ changed_at at change old)
+    by_answer (Ok x) ok = changed_set groups at group new change there (subst (λ (gs : List Group). at < length gs) (sym view) within) ok ∙ ap (changed_at at change) view
+    by_answer (Err e) ok = tt
 
 pub removed_there : (groups : List Group) (name : List ℕ) (at : ℕ) → position (is_named name) groups ≡ Some at → remove groups at ≡ removed groups name
 removed_there groups name at is = let place = at_place name groups at is in remove_first groups name at place.0 place.1
@@ -126,18 +137,6 @@ some_cond : (t : Bool) (n : ℕ) → is_some (cond t (Some n) None) ≡ t
 some_cond true n = refl
 some_cond false n = refl
 
--- whether a group is there, by its spot
-is_there : (groups : List Group) (name : List ℕ) (place : Option ℕ) → position (is_named name) groups ≡ place → is_some place ≡ is_some (find (is_named name) groups)
-is_there groups name place is = ap is_some (sym is) ∙ some_cond _ _ ∙ sym (is_some-find name groups)
-
-pub there_found : (groups groups' : List Group) (name name' : List ℕ) (spot : Spot) (at : ℕ) → IsSpot name' groups' spot → name' ≡ name → groups' ≡ groups → spot ≡ At at
-    → true ≡ is_some (find (is_named name) groups)
-there_found groups groups' name name' spot at found named view is =
-    let here : IsSpot name' groups' (At at) = subst (IsSpot name' groups') is found in
-    is_there groups name (Some at) (ap (λ (n : List ℕ). position (is_named n) groups) (sym named) ∙ ap (position (is_named name')) (sym view) ∙ here.0)
-
-pub none_found : (groups groups' : List Group) (name name' : List ℕ) (spot : Spot) (key : String Global) → IsSpot name' groups' spot → name' ≡ name → groups' ≡ groups → spot ≡ Free key
-    → false ≡ is_some (find (is_named name) groups)
-none_found groups groups' name name' spot key found named view is =
-    let here : IsSpot name' groups' (Free key) = subst (IsSpot name' groups') is found in
-    is_there groups name None (ap (λ (n : List ℕ). position (is_named n) groups) (sym named) ∙ ap (position (is_named name')) (sym view) ∙ here.0)
+-- whether a group is there, by its place
+pub is_there : (groups mid : List Group) (name name' : List ℕ) (place : Option ℕ) → place ≡ position (is_named name') mid → mid ≡ groups → name' ≡ name → is_some place ≡ is_some (find (is_named name) groups)
+is_there groups mid name name' place found view named = ap is_some (found ∙ (λ i. position (is_named (named i)) (view i))) ∙ some_cond _ _ ∙ sym (is_some-find name groups)

@@ -1,4 +1,5 @@
 pub mod Groups
-pub mod Kept
+pub mod OtherGroups
+pub mod Places
 pub mod Outcomes
 pub mod Pages

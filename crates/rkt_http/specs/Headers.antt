@@ -1,5 +1,5 @@
 -- Header fields, and a header map as the list of its groups.
-use Rattle.std.specs.Prelude.{ℕ, List, [], ◌∷◌, ◌++◌, Bool, Option, Some, None, if◌then◌else◌, find, map, flat_map}
+use Rattle.std.specs.Prelude.{ℕ, List, [], ◌∷◌, ◌++◌, Bool, Option, Some, None, if◌then◌else◌, find, fold, map, flat_map, slice_get}
 use Rattle.std.specs.Str.{str_eq_ignore_ascii_case}
 
 -- a header field
@@ -29,6 +29,10 @@ values_in (Some group) = group.values
 abbrev pub values_of : List Group → List ℕ → List (List ℕ)
 values_of groups name = values_in (group_of groups name)
 
+-- the first value under this name
+abbrev pub first_value : List Group → List ℕ → Option (List ℕ)
+first_value groups name = slice_get (values_of groups name) 0
+
 -- with the group of this name changed, or else this new group behind the others
 abbrev pub with_group : (Group → Group) → Group → List Group → List Group
 with_group change new [] = new ∷ []
@@ -41,6 +45,14 @@ added_all groups name values = with_group (λ group. record group { values = gro
 -- with these values in place of those of their name
 abbrev pub replaced_all : List Group → List ℕ → List (List ℕ) → List Group
 replaced_all groups name values = with_group (λ group. record group { values = values }) (record { name = name; values = values }) groups
+
+-- with the values of each of these groups behind those of its name
+abbrev pub appended : List Group → List Group → List Group
+appended groups others = fold (λ all group. added_all all group.name group.values) groups others
+
+-- with the values of each of these groups in place of those of its name
+abbrev pub overwritten : List Group → List Group → List Group
+overwritten groups others = fold (λ all group. replaced_all all group.name group.values) groups others
 
 -- with this field's value behind those of its name
 abbrev pub added : List Group → Field → List Group

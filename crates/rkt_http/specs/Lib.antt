@@ -1,9 +1,10 @@
 pub mod DefaultPage
-pub mod HeaderGroups
+pub mod HeaderPlaces
 pub mod Headers
 pub mod IntoOutcome
 pub mod Method
 pub mod Outcome
 pub mod OutcomeLaws
+pub mod Reading
 pub mod Status
 pub mod Table

@@ -11,7 +11,7 @@ use std::marker::Model;
 pub(crate) fn one_value(alloc: Global, value: Text) -> Result<Vec<Text>, NoMemory>
     ensures { IfOk result (λ values. values.items ≡ value ∷ []) }
 {
-    let mut values = Vec::new(alloc);
+    let mut values = Vec::with_capacity(alloc, 1)?;
     values.push(value)?;
     Ok(values)
 }
@@ -36,6 +36,14 @@ impl Entry {
         ensures { result ≡ record { name = name; values = values.items } }
     {
         Entry { name, values }
+    }
+
+    /// The name and the values, which takes no memory.
+    pub(crate) fn into_parts(self) -> (Uncased, Vec<Text>)
+        ensures name { result.0 ≡ self.name }
+        ensures values { result.1.items ≡ self.values }
+    {
+        (self.name, self.values)
     }
 
     pub(crate) fn name(&self) -> &str

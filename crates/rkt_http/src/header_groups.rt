@@ -1,39 +1,37 @@
-ghost use Rattle.std.specs.Prelude.{◌≡◌, ◌<◌, ◌∷◌, ◌++◌, [], ◌↔◌, IsTrue, OnOk, OnErr, IfOk, IfSome, None, length, position, find, remove, string_bytes};
-ghost use Rattle.std.specs.Option.{option_copied};
-ghost use Rattle.std.specs.Str.{str_to_ascii_lowercase};
-ghost use Rattle.rkt_http.specs.HeaderGroups.{changed_at, IsSpot};
+ghost use Rattle.std.specs.Prelude.{◌≡◌, ◌<◌, ◌∷◌, ◌++◌, [], ◌↔◌, IsTrue, OnOk, OnErr, IfOk, IfSome, None, length, position, find, remove};
+ghost use Rattle.std.specs.Option.{ForSome, option_copied};
+ghost use Rattle.rkt_http.specs.HeaderPlaces.{Tells, changed_at};
 ghost use Rattle.rkt_http.specs.Headers.{Group, is_named};
 
 use crate::header_entry::{Entry, one_value};
+use crate::header_places::Places;
 use crate::uncased::Uncased;
-use indexmap::IndexMap;
 use rkt_base::{NoMemory, Text};
 use std::alloc::Global;
 use std::marker::Model;
 
-/// The place of a group, or the key under which it may be put.
-#[derive(Drop)]
-pub(crate) enum Spot {
-    At(usize),
-    Free(String),
-}
+// With no more groups than this, a walk is as quick as a look-up.
+const FEW: usize = 16;
 
-/// Groups in the order in which their names came first, each kept under its name in lower case.
+/// Groups in the order in which their names came first. Where there are many, their places are looked up; these are
+/// noted at the first look-up, and anew behind a removal.
 #[derive(Debug, Drop)]
 pub(crate) struct Groups {
-    entries: IndexMap<String, Entry>,
+    entries: Vec<Entry>,
+    places: Option<Box<Places>>,
 }
 
 impl Model for Groups {
     ghost use Rattle.std.specs.Prelude.{List};
+    ghost use Rattle.std.specs.Option.{ForSome};
     ghost use Rattle.rkt_http.specs.Headers.{Group};
-    ghost use Rattle.rkt_http.specs.HeaderGroups.{groups_in, IsByName};
+    ghost use Rattle.rkt_http.specs.HeaderPlaces.{Tells};
 
     ghost Value = { List Group };
 
-    ghost view = { λ g. groups_in g.entries.entries };
+    ghost view = { λ g. g.entries.items };
 
-    ghost invariant = { λ g. IsByName g.entries.entries };
+    ghost invariant = { λ g. ForSome g.places (λ places. Tells places.value.by_name g.entries.items) };
 }
 
 impl Groups {
@@ -41,7 +39,8 @@ impl Groups {
         ensures { result ≡ [] }
     {
         Groups {
-            entries: IndexMap::new(alloc),
+            entries: Vec::new(alloc),
+            places: None,
         }
     }
 
@@ -51,7 +50,15 @@ impl Groups {
     {
         Ok(Groups {
             entries: self.entries.clone()?,
+            places: None,
         })
+    }
+
+    /// The same groups, which takes no memory.
+    pub(crate) fn into_vec(self) -> Vec<Entry>
+        ensures { result.items ≡ self }
+    {
+        self.entries
     }
 
     pub(crate) fn len(&self) -> usize
@@ -69,18 +76,7 @@ impl Groups {
     pub(crate) fn as_slice(&self) -> &[Entry]
         ensures { result.now ≡ self.now }
     {
-        self.entries.values().as_slice()
-    }
-
-    /// Where the group of this name is, by a look-up.
-    pub(crate) fn locate(&self, alloc: Global, name: &str) -> Result<Spot, NoMemory>
-        ensures { IfOk result (IsSpot name.now self.now) }
-    {
-        let key = name.to_ascii_lowercase(alloc)?;
-        match self.entries.get_index_of(key.as_str()) {
-            Some(at) => Ok(Spot::At(at)),
-            None => Ok(Spot::Free(key)),
-        }
+        self.entries.as_slice()
     }
 
     /// The place of the group of this name, by a walk.
@@ -98,6 +94,32 @@ impl Groups {
         ensures { option_copied result ≡ find (is_named name.now) self.now }
     {
         self.as_slice().iter().find(|entry| entry.is_named(name))
+    }
+
+    /// The place of the group of this name, by a look-up where there are many.
+    pub(crate) fn locate(&mut self, alloc: Global, name: &str) -> Result<Option<usize>, NoMemory>
+        ensures same { self.new ≡ self.old }
+        ensures place { IfOk result (λ place. place ≡ position (is_named name.now) self.old) }
+        ensures within { IfOk result (λ place. IfSome place (λ at. at < length self.old)) }
+    {
+        if self.entries.len() <= FEW {
+            return Ok(self.place_of(name));
+        }
+        self.look_up(alloc, name)
+    }
+
+    fn look_up(&mut self, alloc: Global, name: &str) -> Result<Option<usize>, NoMemory>
+        ensures same { self.new ≡ self.old }
+        ensures place { IfOk result (λ place. place ≡ position (is_named name.now) self.old) }
+        ensures within { IfOk result (λ place. IfSome place (λ at. at < length self.old)) }
+    {
+        let places = match self.places.take() {
+            Some(places) => places,
+            None => noted(alloc, self.entries.as_slice())?,
+        };
+        let place = places.get(alloc, name);
+        self.places = Some(places);
+        place
     }
 
     pub(crate) fn push(&mut self, at: usize, value: Text) -> Result<(), NoMemory>
@@ -124,57 +146,90 @@ impl Groups {
     }
 
     /// Puts a group behind the others.
-    pub(crate) fn insert(&mut self, key: String, entry: Entry) -> Result<(), NoMemory>
-        requires keyed { string_bytes key ≡ str_to_ascii_lowercase entry.name }
-        requires fresh { position (is_named entry.name) self.old ≡ None }
+    pub(crate) fn insert(&mut self, alloc: Global, entry: Entry) -> Result<(), NoMemory>
         ensures ok { OnOk result (self.new ≡ self.old ++ entry ∷ []) }
         ensures err { OnErr result (self.new ≡ self.old) }
     {
-        self.entries.insert(key, entry)?;
+        let at = self.entries.len();
+        let places = with_one_more(alloc, self.places.take(), entry.name(), at)?;
+        put(&mut self.entries, entry)?;
+        self.places = places;
         Ok(())
     }
 
-    /// Takes the group out, and closes up.
     /// Puts a group of one value behind the others.
     pub(crate) fn insert_one(
         &mut self,
         alloc: Global,
-        key: String,
         name: Uncased,
         value: Text,
     ) -> Result<(), NoMemory>
-        requires keyed { string_bytes key ≡ str_to_ascii_lowercase name }
-        requires fresh { position (is_named name) self.old ≡ None }
         ensures ok { OnOk result (self.new ≡ self.old ++ record { name = name; values = value ∷ [] } ∷ []) }
         ensures err { OnErr result (self.new ≡ self.old) }
     {
         let values = one_value(alloc, value)?;
-        self.insert(key, Entry::new(name, values))?;
-        Ok(())
+        self.insert(alloc, Entry::new(name, values))
     }
 
     /// Puts a group of these values behind the others.
     pub(crate) fn insert_all(
         &mut self,
         alloc: Global,
-        key: String,
         name: &str,
         values: Vec<Text>,
     ) -> Result<(), NoMemory>
-        requires keyed { string_bytes key ≡ str_to_ascii_lowercase name.now }
-        requires fresh { position (is_named name.now) self.old ≡ None }
         ensures ok { OnOk result (self.new ≡ self.old ++ record { name = name.now; values = values.items } ∷ []) }
         ensures err { OnErr result (self.new ≡ self.old) }
     {
         let name = Uncased::new(alloc, name)?;
-        self.insert(key, Entry::new(name, values))?;
-        Ok(())
+        self.insert(alloc, Entry::new(name, values))
     }
 
+    /// Takes the group out, and closes up.
     pub(crate) fn remove(&mut self, at: usize)
         requires { at < length self.old }
         ensures { self.new ≡ remove self.old at }
     {
-        let _ = self.entries.shift_remove_index(at);
+        self.places = None;
+        let _ = self.entries.remove(at);
     }
+}
+
+// The places of these groups, on the heap.
+fn noted(alloc: Global, entries: &[Entry]) -> Result<Box<Places>, NoMemory>
+    ensures { IfOk result (λ places. Tells places.value.by_name entries.now) }
+{
+    let places = Places::of(alloc, entries)?;
+    Ok(Box::new(alloc, places)?)
+}
+
+// The places, where they are noted, with that of one group more.
+fn with_one_more(
+    alloc: Global,
+    places: Option<Box<Places>>,
+    name: &str,
+    at: usize,
+) -> Result<Option<Box<Places>>, NoMemory>
+    ensures { (groups : _) (new : Group) → ForSome places (λ old. Tells old.value.by_name groups) → new.name ≡ name.now → at ≡ length groups
+        → IfOk result (λ places. ForSome places (λ noted. Tells noted.value.by_name (groups ++ new ∷ []))) }
+{
+    match places {
+        Some(mut places) => {
+            places.add(alloc, name, at)?;
+            Ok(Some(places))
+        }
+        None => Ok(None),
+    }
+}
+
+// Puts a group behind the others. Most maps have few, so the first one gets the room for one.
+fn put(entries: &mut Vec<Entry>, entry: Entry) -> Result<(), NoMemory>
+    ensures ok { OnOk result (entries.new.items ≡ entries.old.items ++ entry ∷ []) }
+    ensures err { OnErr result (entries.new.items ≡ entries.old.items) }
+{
+    if entries.is_empty() {
+        entries.reserve_exact(1)?;
+    }
+    entries.push(entry)?;
+    Ok(())
 }

@@ -1,9 +1,9 @@
-ghost use Rattle.std.specs.Prelude.{◌≡◌, ◌∷◌, ◌++◌, [], ◌↔◌, List, ℕ, IfOk, OnOk, OnErr, IsTrue, length, position, find, is_some, option_copied, slice_get, map, string_bytes};
-ghost use Rattle.rkt_http.specs.Headers.{Field, Group, is_named, group_of, values_of, fields_of, added, replaced, added_all, replaced_all, removed};
+ghost use Rattle.std.specs.Prelude.{◌≡◌, ◌∷◌, ◌++◌, [], ◌↔◌, List, ℕ, None, IfOk, OnOk, OnErr, IsTrue, length, position, find, is_some, option_copied, slice_get, map, string_bytes};
+ghost use Rattle.rkt_http.specs.Headers.{Field, Group, is_named, group_of, values_of, fields_of, added, replaced, added_all, appended, overwritten, replaced_all, removed};
 
 use crate::header::Header;
-use crate::header_entry::one_value;
-use crate::header_groups::{Groups, Spot};
+use crate::header_entry::{Entry, one_value};
+use crate::header_groups::Groups;
 use crate::header_iter::{HeaderIter, HeaderValues};
 use rkt_base::{NoMemory, Text};
 use std::alloc::Global;
@@ -108,9 +108,9 @@ impl HeaderMap {
     {
         let (name, value) = header.into_parts();
         match self.groups.locate(self.alloc, name.as_str())? {
-            Spot::At(at) => self.groups.push(at, value)?,
-            Spot::Free(key) => {
-                self.groups.insert_one(self.alloc, key, name, value)?;
+            Some(at) => self.groups.push(at, value)?,
+            None => {
+                self.groups.insert_one(self.alloc, name, value)?;
             }
         }
         Ok(())
@@ -123,8 +123,8 @@ impl HeaderMap {
     {
         let mut values = texts(self.alloc, values)?;
         match self.groups.locate(self.alloc, name)? {
-            Spot::At(at) => self.groups.append(at, &mut values)?,
-            Spot::Free(key) => self.groups.insert_all(self.alloc, key, name, values)?,
+            Some(at) => self.groups.append(at, &mut values)?,
+            None => self.groups.insert_all(self.alloc, name, values)?,
         }
         Ok(())
     }
@@ -138,13 +138,13 @@ impl HeaderMap {
     {
         let (name, value) = header.into_parts();
         match self.groups.locate(self.alloc, name.as_str())? {
-            Spot::At(at) => {
+            Some(at) => {
                 let values = one_value(self.alloc, value)?;
                 self.groups.set(at, values);
                 Ok(true)
             }
-            Spot::Free(key) => {
-                self.groups.insert_one(self.alloc, key, name, value)?;
+            None => {
+                self.groups.insert_one(self.alloc, name, value)?;
                 Ok(false)
             }
         }
@@ -157,8 +157,53 @@ impl HeaderMap {
     {
         let values = texts(self.alloc, values)?;
         match self.groups.locate(self.alloc, name)? {
-            Spot::At(at) => self.groups.set(at, values),
-            Spot::Free(key) => self.groups.insert_all(self.alloc, key, name, values)?,
+            Some(at) => self.groups.set(at, values),
+            None => self.groups.insert_all(self.alloc, name, values)?,
+        }
+        Ok(())
+    }
+
+    /// Puts the values of each group of another map at the end of the group of that name, or the group behind the others.
+    pub fn append(&mut self, other: HeaderMap) -> Result<(), NoMemory>
+        ensures ok { OnOk result (self.new ≡ appended self.old other) }
+        ensures err { OnErr result (self.new ≡ self.old) }
+    {
+        let map = self.try_clone(self.alloc)?;
+        *self = append_all(map, other.groups.into_vec())?;
+        Ok(())
+    }
+
+    /// Leaves the values of each group of another map alone in the group of that name, which keeps its place and its
+    /// spelling.
+    pub fn overwrite(&mut self, other: HeaderMap) -> Result<(), NoMemory>
+        ensures ok { OnOk result (self.new ≡ overwritten self.old other) }
+        // Groups that the other has none of stay.
+        ensures stays { OnOk result ((name : List ℕ) → group_of other name ≡ None → group_of self.new name ≡ group_of self.old name) }
+        ensures err { OnErr result (self.new ≡ self.old) }
+    {
+        let map = self.try_clone(self.alloc)?;
+        *self = overwrite_all(map, other.groups.into_vec())?;
+        Ok(())
+    }
+
+    fn append_group(&mut self, group: Entry) -> Result<(), NoMemory>
+        ensures { OnOk result (self.new ≡ added_all self.old group.name group.values) }
+    {
+        let (name, mut values) = group.into_parts();
+        match self.groups.locate(self.alloc, name.as_str())? {
+            Some(at) => self.groups.append(at, &mut values)?,
+            None => self.groups.insert(self.alloc, Entry::new(name, values))?,
+        }
+        Ok(())
+    }
+
+    fn overwrite_group(&mut self, group: Entry) -> Result<(), NoMemory>
+        ensures { OnOk result (self.new ≡ replaced_all self.old group.name group.values) }
+    {
+        let (name, values) = group.into_parts();
+        match self.groups.locate(self.alloc, name.as_str())? {
+            Some(at) => self.groups.set(at, values),
+            None => self.groups.insert(self.alloc, Entry::new(name, values))?,
         }
         Ok(())
     }
@@ -172,4 +217,24 @@ impl HeaderMap {
             None => {}
         }
     }
+}
+
+// The map with these groups, one after another.
+fn append_all(mut map: HeaderMap, groups: Vec<Entry>) -> Result<HeaderMap, NoMemory>
+    ensures { IfOk result (λ all. all ≡ appended map groups.items) }
+{
+    for group in groups {
+        map.append_group(group)?;
+    }
+    Ok(map)
+}
+
+// The map with the values of these groups in place of its own.
+fn overwrite_all(mut map: HeaderMap, groups: Vec<Entry>) -> Result<HeaderMap, NoMemory>
+    ensures { IfOk result (λ all. all ≡ overwritten map groups.items) }
+{
+    for group in groups {
+        map.overwrite_group(group)?;
+    }
+    Ok(map)
 }

@@ -1,13 +1,18 @@
 -- A body in chunks.
-use Rattle.std.proofs.Common.{◌≡◌, ◌<◌, ◌++◌, ◌∙◌, ◌⊎◌, inl, inr, ℕ, zero, suc, arith, List, [], ◌∷◌, Option, Some, None, Ok, length, map, take, drop, option_map, refl, sym, ap, subst, length-take, take-append-drop}
+use Rattle.std.proofs.Common.{◌≡◌, ◌<◌, ◌++◌, ◌∙◌, ◌⊎◌, inl, inr, ℕ, zero, suc, arith, List, [], ◌∷◌, Option, Some, None, Result, Ok, length, map, min, take, drop, option_map, refl, sym, ap, subst, length-take, take-append-drop}
 use Rattle.std.specs.List.{AllByRecursion, concat}
 use Rattle.std.specs.Option.{ForSome}
+use Rattle.rkt_base.specs.declared.poll.Poll.{Poll}
 use Rattle.rkt_base.specs.declared.poll.Poll.TheVariants.{Ready}
 use Rattle.rkt_source.specs.Source.{Meaning}
 use Rattle.rkt_message.specs.Body.{BodyOf, left_of}
-use Rattle.rkt_message.specs.Chunks.{IsAtEnd, IsNext, IsRoom}
+use Rattle.std.proofs.lemmas.List.{take_min}
+use Rattle.rkt_message.specs.Chunks.{FillsRoom, IsAtEnd, IsNext, IsRoom}
 use Rattle.rkt_message.specs.Reading.{Reads, Takes}
-use Rattle.rkt_message.specs.Sent.{IsChunk, SentBody}
+use Rattle.rkt_message.specs.Sent.{IsChunk, IsFull, SentBody}
+use Rattle.rkt_source.specs.declared.source.SourceError.{SourceError}
+use Rattle.rkt_message.specs.declared.content.Content.{Content}
+use Rattle.rkt_message.specs.declared.content.Content.TheVariants as content
 use Rattle.rkt_message.specs.declared.piece.Piece.{Piece}
 use Rattle.rkt_message.specs.declared.piece.Piece.TheVariants.{Chunk, End}
 
@@ -23,11 +28,34 @@ chunk_at_end meaning a b old new n room none read = (
   subst (Takes meaning a.content b.content) none read.3,
 )
 
+-- of a body of bytes a read gives as many as there is room for
+abbrev pub ReadsAll : {S : Type 0} → Content S → ℕ → ℕ → Type 0
+ReadsAll c room n = (rest : List ℕ) (size : Option ℕ) → c ≡ content.Sized rest size → n ≡ min room (length rest)
+
+-- a read that gave so many bytes
+abbrev pub answered : ℕ → Poll (Result ℕ SourceError)
+answered n = Ready (Ok n)
+
+-- what `poll_read` says of bytes
+pub all_read : {S : Type 0} (c d : Content S) (room n : ℕ) (after : List ℕ → Option ℕ → Content S)
+    → ((rest : List ℕ) (size : Option ℕ) → c ≡ content.Sized rest size → (answered n ≡ answered (min room (length rest))) × (d ≡ after rest size)) → ReadsAll c room n
+all_read c d room n after all rest size is = cc ((all rest size is).0)
+
+full_chunk : {S : Type 0} (meaning : S → Meaning) (c : Content S) (most room n : ℕ) (new bytes : List ℕ) → FillsRoom c most room → ReadsAll c room n → bytes ≡ take n new
+    → ForSome (left_of meaning c) (λ w. take n new ≡ take n w) → IsFull c most bytes
+full_chunk meaning content.None most room n new bytes fills all is front = tt
+full_chunk meaning content.UnsizedNone most room n new bytes fills all is front = tt
+full_chunk meaning (content.Phantom length size) most room n new bytes fills all is front = tt
+full_chunk meaning (content.Streamed s) most room n new bytes fills all is front = tt
+full_chunk meaning (content.Sized rest size) most room n new bytes fills all is front =
+    let count : n ≡ min most (length rest) = omega (arith, fills, all rest size refl) in
+    is ∙ front rest refl ∙ ap (λ (k : ℕ). take k rest) count ∙ take_min most rest
+
 -- what a read gave is the next chunk
 pub chunk_read : {S : Type 0} (meaning : S → Meaning) (a b : BodyOf S) (old new bytes : List ℕ) (n : ℕ) → IsRoom meaning a (length old) → length new ≡ length old
-    → (n ≡ 0 → ⊥) → bytes ≡ take n new → Reads meaning a.content b.content old new (Ready (Ok n))
-    → IsChunk a.chunk bytes × IsNext meaning a b bytes × Takes meaning a.content b.content (length bytes)
-chunk_read meaning a b old new bytes n room same some is read =
+    → (n ≡ 0 → ⊥) → bytes ≡ take n new → Reads meaning a.content b.content old new (Ready (Ok n)) → ReadsAll a.content (length old) n
+    → IsChunk a.chunk bytes × IsNext meaning a b bytes × Takes meaning a.content b.content (length bytes) × IsFull a.content a.chunk bytes
+chunk_read meaning a b old new bytes n room same some is read all =
     let within = room.within in
     let long : length bytes ≡ n = rw is (omega (arith, length-take n new, read.0)) in (
       record { some = omega arith; small = omega (arith, read.0) },
@@ -37,6 +65,7 @@ chunk_read meaning a b old new bytes n room same some is read =
         read.1 ∙ ap (option_map (drop n)) told,
       ),
       subst (Takes meaning a.content b.content) (sym long) read.3,
+      full_chunk meaning a.content a.chunk (length old) n new bytes room.fills all is (λ w told. (read.2 w told).0),
     )
 
 -- a chunk in front of what is sent of the rest

@@ -1,9 +1,10 @@
 -- The pieces of a response, poll by poll.
 use Rattle.std.proofs.Common.{◌≡◌, ◌<◌, ◌∙◌, ℕ, true, List, ◌∷◌, sym, ap, subst}
 use Rattle.rkt_source.specs.Source.{Meaning}
+use Rattle.rkt_message.specs.Body.{BodyOf}
 use Rattle.rkt_message.specs.Chunks.{ReadsChunk}
 use Rattle.rkt_message.specs.Response.{ResponseOf}
-use Rattle.rkt_message.specs.Sending.{Gives, IsHead, Owes, OwesAt, Sending, stage_after}
+use Rattle.rkt_message.specs.Sending.{Gives, IsHead, Owes, OwesAt, Sending, TakesFull, stage_after}
 use Rattle.rkt_message.specs.Sent.{SentBody, has_head, head_of}
 use Rattle.rkt_message.specs.declared.chunk.ChunkRead.TheVariants as chunk_read
 use Rattle.rkt_message.specs.declared.piece.Piece.{Piece}
@@ -50,3 +51,7 @@ gives_chunk meaning s t bytes at behind same none some read =
       takes = read.2;
       waits = none;
     }
+
+-- it takes as many as it may hold
+pub takes_full : {S : Type 0} (meaning : S → Meaning) (a b : BodyOf S) (bytes : List ℕ) → ReadsChunk meaning a b (chunk_read.Bytes bytes) → TakesFull a (Chunk bytes)
+takes_full meaning a b bytes read = read.3

@@ -5,5 +5,4 @@ pub mod Reading
 pub mod Response
 pub mod Sending
 pub mod Sent
-pub mod Tidy
 pub mod Whole

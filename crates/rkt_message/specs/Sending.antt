@@ -4,11 +4,11 @@ use Rattle.rkt_base.specs.declared.poll.Poll.{Poll}
 use Rattle.rkt_base.specs.declared.poll.Poll.TheVariants.{Ready, Pending}
 use Rattle.rkt_source.specs.Source.{Meaning}
 use Rattle.rkt_source.specs.declared.source.SourceError.{SourceError}
-use Rattle.rkt_message.specs.Body.{preset_of, size_of}
+use Rattle.rkt_message.specs.Body.{BodyOf, preset_of, size_of}
 use Rattle.rkt_source.specs.declared.source.Gate.{Gate}
 use Rattle.rkt_message.specs.Reading.{ByGate, Follows, StreamErrs, StreamWaits, Takes}
 use Rattle.rkt_message.specs.Response.{ResponseOf}
-use Rattle.rkt_message.specs.Sent.{Sent, SentBody, has_head}
+use Rattle.rkt_message.specs.Sent.{IsFull, Sent, SentBody, has_head}
 use Rattle.rkt_message.specs.declared.content.Content.{Content}
 use Rattle.rkt_message.specs.declared.content.Content.TheVariants as content
 use Rattle.rkt_message.specs.declared.piece.Piece.{Piece}
@@ -77,6 +77,12 @@ abbrev pub bytes_in : Piece → ℕ
 bytes_in (Head status headers) = 0
 bytes_in (Chunk bytes) = length bytes
 bytes_in End = 0
+
+-- a piece of a body of bytes takes as many as it may hold
+abbrev pub TakesFull : {S : Type 0} → BodyOf S → Piece → Type 0
+TakesFull body (Head status headers) = ⊤
+TakesFull body (Chunk bytes) = IsFull body.content body.chunk bytes
+TakesFull body End = ⊤
 
 -- a state gives a piece
 pub record Gives {S : Type 0} (meaning : S → Meaning) (s : Sending S) (piece : Piece) (t : Sending S) : Type 0 where

@@ -1,13 +1,15 @@
 -- The pieces that a response is sent as.
 use Rattle.std.specs.List.{AllByRecursion, concat, list_all}
 use Rattle.std.specs.Option.{ForSome}
-use Rattle.std.specs.Prelude.{◌≡◌, ◌<◌, ◌≤◌, ◌++◌, ℕ, List, [], ◌∷◌, Bool, true, ◌==◌, ◌&&◌, ◌||◌, nat_le, not, Option, None, Some, length, map, codes, is_some, unwrap_or, if◌then◌else◌}
+use Rattle.std.specs.Prelude.{◌≡◌, ⊤, ◌<◌, ◌≤◌, ◌++◌, ℕ, List, [], ◌∷◌, Bool, true, ◌==◌, ◌&&◌, ◌||◌, nat_le, not, Option, None, Some, length, map, take, codes, is_some, unwrap_or, if◌then◌else◌}
 use Rattle.rkt_source.specs.Source.{Meaning}
 use Rattle.rkt_http.specs.Headers.{Field, Group, group_of, fields_of}
 use Rattle.rkt_media.specs.MediaText.{is_token_byte}
 use Rattle.rkt_message.specs.Body.{BodyOf, left_of, size_of}
 use Rattle.rkt_message.specs.Lines.{Line, lines_of, with_length, without_length}
 use Rattle.rkt_message.specs.Response.{ResponseOf}
+use Rattle.rkt_message.specs.declared.content.Content.{Content}
+use Rattle.rkt_message.specs.declared.content.Content.TheVariants as content
 use Rattle.rkt_message.specs.declared.piece.Piece.{Piece}
 use Rattle.rkt_message.specs.declared.piece.Piece.TheVariants.{Head, Chunk, End}
 
@@ -47,6 +49,11 @@ head_of response = Head (status_of response) (sent_headers response.headers (siz
 pub record IsChunk (most : ℕ) (bytes : List ℕ) : Type 0 where
   pub some : 0 < length bytes
   pub small : length bytes ≤ most
+
+-- of a body of bytes a chunk takes as many as it may hold
+abbrev pub IsFull : {S : Type 0} → Content S → ℕ → List ℕ → Type 0
+IsFull (content.Sized rest size) most bytes = bytes ≡ take most rest
+IsFull _ most bytes = ⊤
 
 -- the chunks of a body, cut in some way, and the end; they hold all that is left of it, where that is told
 abbrev pub SentBody : {S : Type 0} → (S → Meaning) → BodyOf S → List Piece → Type 0

@@ -1,5 +1,5 @@
 //! The body of a response.
-ghost use Rattle.std.specs.Prelude.{◌≡◌, ◌<◌, [], Ok, IfSome, IfNone, drop, length, max, min, not};
+ghost use Rattle.std.specs.Prelude.{◌≡◌, ◌<◌, ◌++◌, [], Ok, IfSome, IfNone, drop, length, max, min, not, take};
 ghost use Rattle.rkt_base.specs.declared.poll.Poll.TheVariants.{Ready};
 ghost use Rattle.rkt_message.specs.declared.content.Content.{Content};
 
@@ -111,6 +111,11 @@ impl<S: Source> Body<S> {
         }
     }
 
+    /// Whether it is what a source gives.
+    pub(crate) fn is_streamed(&self) -> bool {
+        matches!(self.content, Content::Streamed(_))
+    }
+
     /// What it is.
     pub(crate) fn content(&self) -> &Content<S>
         ensures { result.now ≡ self.now.content }
@@ -192,6 +197,8 @@ impl<S: Source> Body<S> {
         ensures bytes { (rest : _) (size : _) → self.old.content ≡ Content.Sized rest size
             → let count = min (length buf.old) (length rest) in
             (result ≡ Ready (Ok count)) × (self.new.content ≡ Content.Sized (drop count rest) size) }
+        // The buffer behind them stays as it was.
+        ensures behind { (rest : _) (size : _) → self.old.content ≡ Content.Sized rest size → let count = min (length buf.old) (length rest) in buf.new ≡ take count rest ++ drop count buf.old }
     {
         self.content.poll_read(gate, buf)
     }

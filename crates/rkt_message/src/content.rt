@@ -198,6 +198,7 @@ impl<S: Source> Content<S> {
         ensures bytes { (rest : _) (size : _) → self.old ≡ Content.Sized rest size
             → let count = min (length buf.old) (length rest) in
             (result ≡ Ready (Ok count)) × (self.new ≡ Content.Sized (drop count rest) size) }
+        ensures behind { (rest : _) (size : _) → self.old ≡ Content.Sized rest size → let count = min (length buf.old) (length rest) in buf.new ≡ take count rest ++ drop count buf.old }
     {
         match self {
             Content::Sized { rest, .. } => Poll::Ready(Ok(rest.read(buf))),

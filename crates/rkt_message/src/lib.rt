@@ -7,7 +7,6 @@ mod chunk;
 mod content;
 mod drain;
 mod head;
-mod headers;
 mod lends;
 mod piece;
 mod pieces;

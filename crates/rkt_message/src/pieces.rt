@@ -2,10 +2,10 @@
 ghost use Rattle.std.specs.Prelude.{◌≡◌, ◌≢◌, ◌↔◌, List, Err, false, max};
 ghost use Rattle.rkt_base.specs.Poll.{IfReadyErr, IfReadyOk};
 ghost use Rattle.rkt_base.specs.declared.poll.Poll.TheVariants.{Ready, Pending};
-ghost use Rattle.rkt_message.specs.Sending.{PieceByGate};
+ghost use Rattle.rkt_message.specs.Sending.{PieceByGate, TakesFull};
 ghost use Rattle.rkt_message.specs.Sent.{Sent, has_head};
 
-use crate::chunk::{ChunkRead, read_chunk, room_for};
+use crate::chunk::{ChunkRead, next_chunk};
 use crate::head::{has_head, head_of};
 use crate::piece::{Piece, PieceError};
 use crate::response::Response;
@@ -24,6 +24,8 @@ pub struct Pieces<S: Source> {
     turns: u32,
     waits: u32,
     stage: Stage,
+    // Where a source is read into.
+    buffer: Vec<u8>,
 }
 
 impl<S: Source> Model for Pieces<S> {
@@ -50,6 +52,7 @@ impl<S: Source> Pieces<S> {
         let _ = response.body().max_chunk_size();
         Pieces {
             begun: Snapshot::of(&response),
+            buffer: Vec::new(response.alloc()),
             response,
             turns: turns.max(1),
             waits: 0,
@@ -66,6 +69,8 @@ impl<S: Source> Pieces<S> {
         ensures reads { ReadsOnUnder S.meaning gate.tripped self.old.response self.new.response }
         ensures by_gate { PieceByGate S.polled gate result self.old.response.body.content self.new.response.body.content }
         ensures piece { IfReadyOk result (λ piece. Gives S.meaning self.old piece self.new) }
+        // Of a body of bytes each chunk takes as many as it may hold.
+        ensures full { IfReadyOk result (TakesFull self.old.response.body) }
         ensures bad_head { (result ≡ Ready (Err PieceError.BadHead)) ↔ ((self.old.stage ≡ Stage.Head) × (has_head self.old.response ≡ false)) }
         ensures body_fault { result ≡ Ready (Err PieceError.BodyFault) → (self.old.stage ≡ Stage.Body) × GivesUp S.meaning self.old self.new }
         ensures over { IfReadyErr result (λ e. e ≢ PieceError.NoMemory → self.new.stage ≡ Stage.Done) }
@@ -112,14 +117,15 @@ impl<S: Source> Pieces<S> {
         ensures read_on { ReadOn S.meaning self.new.begun self.new.response }
         ensures reads { ReadsOnUnder S.meaning gate.tripped self.old.response self.new.response }
         ensures by_gate { PieceByGate S.polled gate result self.old.response.body.content self.new.response.body.content }
+        ensures full { IfReadyOk result (TakesFull self.old.response.body) }
         ensures answer { Answers S.meaning self.old self.new result }
     {
-        let room = match room_for(alloc, self.response.body()) {
-            Ok(room) => room,
+        let read = match next_chunk(&mut self.response, alloc, gate, &mut self.buffer) {
+            Ok(read) => read,
             Err(_) => return Poll::Ready(Err(PieceError::NoMemory)),
         };
         let waits = self.waits + 1;
-        match read_chunk(&mut self.response, gate, room) {
+        match read {
             ChunkRead::Bytes(bytes) => {
                 self.waits = 0;
                 Poll::Ready(Ok(Piece::Chunk(bytes)))

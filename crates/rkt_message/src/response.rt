@@ -1,13 +1,13 @@
 //! A response.
 ghost use Rattle.std.specs.Option.{ForSome};
 ghost use Rattle.std.specs.Prelude.{◌≡◌, ◌+◌, List, ℕ, None, Some, IfOk, OnOk, OnErr, codes, drop, is_some, max, option_map, unwrap_or};
-ghost use Rattle.rkt_http.specs.Headers.{added, group_of, removed, replaced, values_of};
+ghost use Rattle.rkt_http.specs.Headers.{added, first_value, group_of, removed, replaced, values_of};
+ghost use Rattle.rkt_http.specs.Reading.{MaybeReadAs};
 ghost use Rattle.rkt_media.specs.MediaText.{SpellsMedia};
 ghost use Rattle.rkt_message.specs.declared.content.Content.{Content};
 
 use crate::body::Body;
 use crate::builder::Builder;
-use crate::headers::Headers;
 use rkt_base::{NoMemory, Want};
 use rkt_cookie::Cookie;
 use rkt_data::Source;
@@ -20,7 +20,7 @@ use std::marker::Model;
 pub struct Response<S> {
     alloc: Global,
     status: Option<Status>,
-    headers: Headers,
+    headers: HeaderMap,
     pub(crate) body: Body<S>,
 }
 
@@ -35,7 +35,7 @@ impl<S> Model for Response<S> {
 
 impl<S: Source> Response<S> {
     ghost use Rattle.rkt_message.specs.Body.{body_of, stripped};
-    ghost use Rattle.rkt_message.specs.Response.{MaybeReadAs, ReadsCookies, empty_response, first_value, joined, merged, with_body, with_headers};
+    ghost use Rattle.rkt_message.specs.Response.{ReadsCookies, empty_response, joined, merged, with_body, with_headers};
 
     /// With nothing set.
     pub fn new(alloc: Global) -> Response<S>
@@ -44,7 +44,7 @@ impl<S: Source> Response<S> {
         Response {
             alloc,
             status: None,
-            headers: Headers::new(alloc),
+            headers: HeaderMap::new(alloc),
             body: Body::none(),
         }
     }
@@ -91,7 +91,7 @@ impl<S: Source> Response<S> {
     pub fn content_type(&self) -> Result<Option<ContentType>, NoMemory>
         ensures { IfOk result (λ found. MaybeReadAs SpellsMedia (first_value self.now.headers (codes "Content-Type")) found) }
     {
-        match self.headers.map().get_one("Content-Type") {
+        match self.headers.get_one("Content-Type") {
             None => Ok(None),
             Some(text) => match ContentType::parse(self.alloc, text) {
                 Ok(content_type) => Ok(Some(content_type)),
@@ -106,7 +106,7 @@ impl<S: Source> Response<S> {
         ensures { IfOk result (λ cookies. ReadsCookies (values_of self.now.headers (codes "Set-Cookie")) cookies.items) }
     {
         let mut cookies = Vec::new(self.alloc);
-        for text in self.headers.map().get("Set-Cookie") {
+        for text in self.headers.get("Set-Cookie") {
             match Cookie::parse_encoded(self.alloc, text) {
                 Ok(cookie) => cookies.push(cookie)?,
                 Err(Want::Refused(_)) => {}
@@ -119,7 +119,7 @@ impl<S: Source> Response<S> {
     pub fn headers(&self) -> &HeaderMap
         ensures { result.now ≡ self.now.headers }
     {
-        self.headers.map()
+        &self.headers
     }
 
     /// Leaves this header alone under its name, and answers whether there was one. It keeps the place of the one before.
@@ -207,7 +207,7 @@ impl<S: Source> Response<S> {
         ensures stays { OnOk result ((name : List ℕ) → group_of other.headers name ≡ None → group_of self.new.headers name ≡ group_of self.old.headers name) }
         ensures err { OnErr result (self.new ≡ self.old) }
     {
-        self.headers.merge(&other.headers)?;
+        self.headers.overwrite(other.headers)?;
         self.status = other.status.or(self.status);
         if other.body.is_some() {
             self.body = other.body;
@@ -223,7 +223,7 @@ impl<S: Source> Response<S> {
         ensures stays { ForSome self.old.status (λ status. self.new.status ≡ Some status) }
         ensures err { OnErr result (self.new ≡ self.old) }
     {
-        self.headers.join(&other.headers)?;
+        self.headers.append(other.headers)?;
         self.status = self.status.or(other.status);
         if self.body.is_none() {
             self.body = other.body;

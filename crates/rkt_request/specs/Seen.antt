@@ -1,5 +1,5 @@
 -- A request as contracts see it.
-use Rattle.std.specs.Prelude.{◌≡◌, ℕ, List, [], ◌∷◌, Option, Some, None, IsSomeAnd, MatchBool, slice_get, drop, option_and_then, option_map, codes}
+use Rattle.std.specs.Prelude.{◌≡◌, ℕ, List, [], ◌∷◌, Option, Some, None, IsSomeAnd, MatchBool, drop, option_and_then, option_map, codes}
 use Rattle.std.specs.Option.{option_map_or, option_or}
 use Rattle.std.specs.Net.Grammar.{IsIpText}
 use Rattle.std.specs.Net.Socket.{socket_ip}
@@ -7,7 +7,9 @@ use Rattle.std.specs.declared.net.ip_addr.IpAddr.{IpAddr}
 use Rattle.std.specs.declared.net.socket_addr.SocketAddr.{SocketAddr}
 use Rattle.rkt_media.specs.Accept.{Prefers, Weighed}
 use Rattle.rkt_media.specs.AcceptText.{SpellsAccept}
-use Rattle.rkt_http.specs.Headers.{Group, values_of}
+pub use Rattle.rkt_http.specs.Headers.{first_value}
+pub use Rattle.rkt_http.specs.Reading.{ReadAs, MaybeReadAs}
+use Rattle.rkt_http.specs.Headers.{Group}
 use Rattle.rkt_uri.specs.Host.{Authority}
 use Rattle.rkt_media.specs.Media.{Media, known_media}
 use Rattle.rkt_media.specs.MediaText.{SpellsMedia}
@@ -31,10 +33,6 @@ pub record Seen (V : Type 0) : Type 0 where
   -- the route that the request is tried on
   pub route : Option Mounted
 
--- the first value under a name
-abbrev pub first_value : List Group → List ℕ → Option (List ℕ)
-first_value headers name = slice_get (values_of headers name) 0
-
 -- how many segments the base of a route has
 abbrev pub base_segments : Option Mounted → ℕ
 base_segments route = option_map_or (λ mounted. mounted.base_segments) route 0
@@ -42,16 +40,6 @@ base_segments route = option_map_or (λ mounted. mounted.base_segments) route 0
 -- the decoded segments behind those of the route's base
 abbrev pub routed : {V : Type 0} → Seen V → List (List ℕ)
 routed seen = drop (base_segments seen.route) (segments_of seen.uri)
-
--- a text is read as this value, or as none where it spells none
-abbrev pub ReadAs : {X : Type 0} → (List ℕ → X → Type 0) → List ℕ → Option X → Type 0
-ReadAs Spells text None = (x : _) → ¬ Spells text x
-ReadAs Spells text (Some x) = Spells text x
-
--- the same of a text that may be missing, which is read as none
-abbrev pub MaybeReadAs : {X : Type 0} → (List ℕ → X → Type 0) → Option (List ℕ) → Option X → Type 0
-MaybeReadAs Spells None found = found ≡ None
-MaybeReadAs Spells (Some text) found = ReadAs Spells text found
 
 -- the first value of the header from which a client's address is read
 abbrev pub real_ip_text : {V : Type 0} → Seen V → Option (List ℕ)

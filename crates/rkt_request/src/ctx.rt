@@ -80,6 +80,13 @@ impl<T: Types> Ctx<T> {
         self.cache.len()
     }
 
+    /// The word that the wire's handle has seen, or 0. It does not look at the wire.
+    pub fn word(&self) -> u64
+        ensures { result ≡ self.now.kept.shutdown.seen }
+    {
+        self.shutdown.seen()
+    }
+
     pub fn gate(&self) -> Gate
         ensures { result ≡ self.now.gate }
     {

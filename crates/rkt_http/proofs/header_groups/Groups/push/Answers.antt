@@ -1,14 +1,7 @@
-use Rattle.std.proofs.Common.{◌++◌, ◌∷◌, [], refl}
-use Rattle.rkt_http.proofs.Kept.{kept-set, name_kept, set_on_ok, same_on_err}
+use Rattle.std.proofs.Common.{◌++◌, ◌∷◌, []}
+use Rattle.rkt_http.proofs.Groups.{changed_on_ok}
 use Rattle.rkt_http.proofs.header_groups.Groups.push.Goals as goal
 
-pub invariant_of-self : goal.invariant_of-self
-invariant_of-self c =
-    kept-set _ _ _ _ c.index_mut.ensures.value
-    (name_kept _ _ _ (λ group. record group { values = group.values ++ c.args.value ∷ [] }) c.push.ensures.ok c.push.ensures.err refl) c.self.invariant
-
 pub returns-clause-ok : goal.returns-clause-ok
-returns-clause-ok c = set_on_ok _ _ _ (λ group. record group { values = group.values ++ c.args.value ∷ [] }) _ _ _ c.index_mut.ensures.value c.self.view_is c.push.ensures.ok
-
-pub returns-clause-err : goal.returns-clause-err
-returns-clause-err c = same_on_err _ _ _ (λ group. record group { values = group.values ++ c.args.value ∷ [] }) _ _ _ c.index_mut.ensures.value c.self.view_is c.push.ensures.err
+returns-clause-ok c =
+    changed_on_ok _ c.self.inside.entries.items c.args.at c.index_mut.result.now c.push.new.self (λ group. record group { values = group.values ++ c.args.value ∷ [] }) c.args.self.now c.index_mut.ensures.value c.requires c.self.view_is c.push.ensures.ok

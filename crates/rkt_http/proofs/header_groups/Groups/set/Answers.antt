@@ -1,10 +1,10 @@
-use Rattle.std.proofs.Common.{ap}
-use Rattle.rkt_http.specs.Headers.{Group}
-use Rattle.rkt_http.proofs.Kept.{kept-set, set_always}
+use Rattle.std.proofs.Common.{◌<◌, ◌∙◌, ap, length, subst, sym}
+use Rattle.rkt_http.specs.HeaderPlaces.{changed_at}
+use Rattle.rkt_http.proofs.Groups.{changed_set}
 use Rattle.rkt_http.proofs.header_groups.Groups.set.Goals as goal
 
-pub invariant_of-self : goal.invariant_of-self
-invariant_of-self c = kept-set _ _ _ _ c.index_mut.ensures.value (ap (λ (group : Group). group.name) c.set.ensures) c.self.invariant
-
 pub returns : goal.returns
-returns c = set_always _ _ _ _ (λ group. record group { values = c.args.values.items }) _ c.index_mut.ensures.value c.self.view_is c.set.ensures
+returns c =
+    changed_set c.self.inside.entries.items c.args.at c.index_mut.result.now c.set.new.self (λ group. record group { values = c.args.values.items }) c.index_mut.ensures.value
+    (subst (λ groups. c.args.at < length groups) (sym c.self.view_is) c.requires) c.set.ensures
+    ∙ ap (changed_at c.args.at (λ group. record group { values = c.args.values.items })) c.self.view_is

@@ -9,16 +9,16 @@ with_values values group = record group { values = values }
 group_of : List ℕ → List (List ℕ) → Group
 group_of name values = record { name = name; values = values }
 
-pub returns-in-At-clause-ok : goal.returns-in-At-clause-ok
+pub returns-in-Some-clause-ok : goal.returns-in-Some-clause-ok
 unfolding with_values group_of
-returns-in-At-clause-ok c =
+returns-in-Some-clause-ok c =
     let values = c.in_ok-values.values.items in
-    changed_there (with_values values) (group_of c.args.name.now values) _ _ _ _ _ _ c.in_ok-at.ensures refl c.self.view_is c.in-At.is c.set.ensures
+    changed_there (with_values values) (group_of c.args.name.now values) _ _ _ _ _ _ _ c.in_ok-at.ensures.place c.self.view_is c.locate.ensures.same refl c.in-Some.is c.set.ensures
     ∙ ap (replaced_all c.args.self.now c.args.name.now) c.in_ok-values.ensures
 
-pub returns-in_ok-insert_all-in-Free-clause-ok : goal.returns-in_ok-insert_all-in-Free-clause-ok
+pub returns-in_ok-insert_all-in-None-clause-ok : goal.returns-in_ok-insert_all-in-None-clause-ok
 unfolding with_values group_of
-returns-in_ok-insert_all-in-Free-clause-ok c =
+returns-in_ok-insert_all-in-None-clause-ok c =
     let values = c.in_ok-values.values.items in
-    put_last (with_values values) (group_of c.args.name.now values) _ _ _ _ _ _ _ c.in_ok-at.ensures refl c.self.view_is c.in-Free.is refl c.in_ok-insert_all-in-Free.ensures.ok
+    put_last (with_values values) (group_of c.args.name.now values) _ _ _ _ _ _ c.in_ok-at.ensures.place c.self.view_is c.locate.ensures.same refl c.in-None.is c.in_ok-insert_all-in-None.ensures.ok
     ∙ ap (replaced_all c.args.self.now c.args.name.now) c.in_ok-values.ensures

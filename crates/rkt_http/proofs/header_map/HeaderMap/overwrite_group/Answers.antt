@@ -1,0 +1,25 @@
+use Rattle.std.proofs.Common.{◌∙◌, List, ℕ}
+use Rattle.rkt_http.specs.Headers.{Group, replaced_all}
+use Rattle.rkt_http.proofs.Groups.{changed_there, put_last}
+use Rattle.rkt_http.proofs.header_map.HeaderMap.overwrite_group.Goals as goal
+
+changed : List (List ℕ) → Group → Group
+changed values group = record group { values = values }
+
+group_of : List ℕ → List (List ℕ) → Group
+group_of name values = record { name = name; values = values }
+
+pub returns-in-Some : goal.returns-in-Some
+unfolding changed group_of
+returns-in-Some c =
+    let parts = c.into_parts-name.result in
+    changed_there (changed parts.1.items) (group_of parts.0 parts.1.items) _ _ _ _ _ _ _ c.in_ok-at.ensures.place c.self.view_is c.locate.ensures.same c.as_str.ensures c.in-Some.is c.set.ensures
+    ∙ (λ i. replaced_all c.args.self.now (c.into_parts-name.ensures.name i) (c.into_parts-name.ensures.values i))
+
+pub returns-in_ok-insert-in-None : goal.returns-in_ok-insert-in-None
+unfolding changed group_of
+returns-in_ok-insert-in-None c =
+    let parts = c.into_parts-name.result in
+    put_last (changed parts.1.items) (group_of parts.0 parts.1.items) _ _ _ _ _ _ c.in_ok-at.ensures.place c.self.view_is c.locate.ensures.same c.as_str.ensures c.in-None.is
+    (rw c.new.ensures at c.in_ok-insert-in-None.ensures.ok)
+    ∙ (λ i. replaced_all c.args.self.now (c.into_parts-name.ensures.name i) (c.into_parts-name.ensures.values i))
