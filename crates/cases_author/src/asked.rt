@@ -47,7 +47,7 @@ pub fn request<'a>(
     Ok(Request::new(alloc, &setting.config, &setting.managed, Method::Get, uri)?)
 }
 
-fn push_status(
+pub fn push_status(
     alloc: Global,
     out: &mut String,
     word: &str,
@@ -147,7 +147,7 @@ pub fn push_point(
     }
 }
 
-fn push_response(
+pub fn push_response(
     alloc: Global,
     out: &mut String,
     mut response: Response<MemorySource>,

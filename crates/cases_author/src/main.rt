@@ -9,19 +9,30 @@
 //! | `depth PATH` | how many segments the path has, or `refused` where they are more than three |
 //! | `point TEXT` | the point that a body of this text spells, or the status of the error |
 //! | `loud TEXT` | the status of the response, or of the error, and the size of its body |
+//! | `greets PATH`, `shows TEXT` | the same of a handler's answer: it greets the first segment, or shows the token |
+//! | `visits` | the same of one that leaves a cookie, and how many changes of cookies it leaves |
+//! | `says STATUS PATH`, `notes STATUS PATH` | the same of a catcher's answer, and how many changes of cookies it leaves |
 //!
 //! Any other line answers `? line`.
 #![tactic(auto)]
 
 mod asked;
 mod author;
+mod callbacks;
+mod called;
 
 use crate::asked::{
     Setting, context, made_setting, push_depth, push_loud, push_param, push_point, push_token,
     request, with_token,
 };
-use cases::{Answers, CaseError, answer_lines_if_made, first_word, plain};
+use crate::author::Site;
+use crate::callbacks::{Greets, Notes, Says, Shows, Visits};
+use crate::called::{push_caught, push_handled};
+use cases::{Answers, CaseError, answer_lines_if_made, first_word, parsed, plain};
 use rkt_base::NoMemory;
+use rkt_http::Status;
+use rkt_request::Ctx;
+use rkt_router::{Answering, AnsweringIf, AnsweringWith, CatchHandler};
 use std::alloc::Global;
 use std::io;
 
@@ -94,6 +105,87 @@ fn answer_point(
     push_point(alloc, out, &request, text)
 }
 
+fn answer_greets(
+    alloc: Global,
+    out: &mut String,
+    setting: &Setting,
+    path: &str,
+) -> Result<(), CaseError> {
+    let mut ctx = context(alloc)?;
+    let request = request(alloc, setting, path)?;
+    push_handled(alloc, out, &Answering(Greets), &request, &mut ctx)
+}
+
+fn answer_shows(
+    alloc: Global,
+    out: &mut String,
+    setting: &Setting,
+    token: &str,
+) -> Result<(), CaseError> {
+    let mut ctx = context(alloc)?;
+    let mut request = request(alloc, setting, "/")?;
+    if !token.is_empty() {
+        with_token(alloc, &mut request, plain(token))?;
+    }
+    push_handled(alloc, out, &AnsweringIf(Shows), &request, &mut ctx)
+}
+
+fn answer_visits(alloc: Global, out: &mut String, setting: &Setting) -> Result<(), CaseError> {
+    let mut ctx = context(alloc)?;
+    let request = request(alloc, setting, "/")?;
+    push_handled(alloc, out, &AnsweringWith(Visits), &request, &mut ctx)?;
+    push_changes(out, &ctx)
+}
+
+fn push_changes(out: &mut String, ctx: &Ctx<Site>) -> Result<(), CaseError> {
+    let changes = ctx.cookies().log().len();
+    Ok(write!(out, ", changes {changes}")?)
+}
+
+fn answer_catch<C: CatchHandler<Site>>(
+    alloc: Global,
+    out: &mut String,
+    setting: &Setting,
+    catcher: &C,
+    line: &str,
+) -> Result<(), CaseError> {
+    let (code, path) = first_word(line);
+    let status = Status::new(parsed::<u16>(code)?);
+    let mut ctx = context(alloc)?;
+    let request = request(alloc, setting, path)?;
+    push_caught(alloc, out, catcher, status, &request, &mut ctx)?;
+    push_changes(out, &ctx)
+}
+
+fn answer_call(
+    alloc: Global,
+    out: &mut String,
+    setting: &Setting,
+    command: &str,
+    rest: &str,
+) -> Result<(), CaseError> {
+    match command {
+        "greets" => answer_greets(alloc, out, setting, rest),
+        "shows" => answer_shows(alloc, out, setting, rest),
+        _ => answer_noted(alloc, out, setting, command, rest),
+    }
+}
+
+fn answer_noted(
+    alloc: Global,
+    out: &mut String,
+    setting: &Setting,
+    command: &str,
+    rest: &str,
+) -> Result<(), CaseError> {
+    match command {
+        "visits" => answer_visits(alloc, out, setting),
+        "says" => answer_catch(alloc, out, setting, &Answering(Says), rest),
+        "notes" => answer_catch(alloc, out, setting, &AnsweringWith(Notes), rest),
+        _ => Err(CaseError::Line),
+    }
+}
+
 impl Answers for Program {
     fn answer(&mut self, alloc: Global, line: &str, out: &mut String) -> Result<(), CaseError> {
         let (command, rest) = first_word(line);
@@ -103,7 +195,7 @@ impl Answers for Program {
             "depth" => answer_depth(alloc, out, &self.setting, rest),
             "point" => answer_point(alloc, out, &self.setting, rest),
             "loud" => answer_loud(alloc, out, &self.setting, rest),
-            _ => Err(CaseError::Line),
+            _ => answer_call(alloc, out, &self.setting, command, rest),
         }
     }
 }

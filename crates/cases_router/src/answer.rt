@@ -2,6 +2,7 @@ use crate::asked::{answer_question, finalize};
 use crate::catchers::register;
 use crate::refusal::Refusal;
 use crate::routes::{SampleRouter, mount, numbered, push_counts};
+use crate::sentinels::push_abort;
 use crate::uris::{media, segment, uri};
 use cases::{Answers, CaseError, first_word, parsed};
 use rkt_base::NoMemory;
@@ -83,6 +84,7 @@ fn answer_read(
         "segment" => Ok(segment(alloc, rest, out)?),
         "uri" => uri(alloc, rest, out),
         "media" => Ok(media(alloc, rest, out)?),
+        "sentinel" => Ok(push_abort(alloc, &program.server.config, rest, out)?),
         _ => answer_asked(alloc, program, command, rest, out),
     }
 }

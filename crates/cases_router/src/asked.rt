@@ -17,6 +17,8 @@ fn push_walk(
     request: &Request<'_, Sample>,
     out: &mut String,
 ) -> Result<(), NoMemory> {
+    // So the walk and the steps below go over one list.
+    router.has_tries(request);
     out.push_str("walk")?;
     for (position, _) in router.route(request) {
         write!(out, " {position}")?;

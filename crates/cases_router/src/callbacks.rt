@@ -1,6 +1,7 @@
 //! What callbacks answer when they are polled.
 use crate::handlers::{Bare, Passes};
 use crate::replies::{body_of, push_error, push_made, push_response, push_step};
+use crate::turns::{push_catch_turns, push_turns};
 use crate::words::status;
 use cases::CaseError;
 use rkt_base::NoMemory;
@@ -9,6 +10,7 @@ use rkt_data::{Data, MemorySource};
 use rkt_http::Status;
 use rkt_request::{Ctx, Request};
 use rkt_response::Response;
+use rkt_router::catcher::default_handler;
 use rkt_router::{CatchHandler, Dummy, Handler, Step};
 use sample_app::{Sample, context};
 use std::alloc::{AllocError, Global};
@@ -64,6 +66,31 @@ fn bare(
     Ok(push_caught(step, out)?)
 }
 
+fn page(
+    alloc: Global,
+    request: &Request<'_, Sample>,
+    code: &str,
+    out: &mut String,
+) -> Result<(), CaseError> {
+    let mut response = default_handler(alloc, status(code)?, request)?;
+    Ok(push_response(&mut response, out)?)
+}
+
+fn called(
+    alloc: Global,
+    request: &Request<'_, Sample>,
+    ctx: &mut Ctx<Sample>,
+    asked: (&str, &str),
+    out: &mut String,
+) -> Result<(), CaseError> {
+    match asked.0 {
+        "turns" => push_turns(alloc, request, ctx, asked.1, out),
+        "catch_turns" => push_catch_turns(alloc, request, ctx, asked.1, out),
+        "page" => page(alloc, request, asked.1, out),
+        _ => push_made(alloc, request, ctx, asked, out),
+    }
+}
+
 fn polled(
     alloc: Global,
     request: &Request<'_, Sample>,
@@ -75,7 +102,7 @@ fn polled(
         "dummy" => Ok(dummy(alloc, request, ctx, asked.1, out)?),
         "passes" => Ok(passes(alloc, request, ctx, asked.1, out)?),
         "bare" => bare(alloc, request, ctx, asked.1, out),
-        _ => push_made(alloc, request, ctx, asked, out),
+        _ => called(alloc, request, ctx, asked, out),
     }
 }
 

@@ -24,6 +24,10 @@
 //! | `media TYPE TYPE` | whether two media types collide |
 //! | `dummy BODY`, `passes BODY` | what a handler answers: `Dummy`, and one that leaves each request to another route |
 //! | `bare STATUS` | what a catcher answers that answers each status with itself |
+//! | `turns HANDLER TURNS BODY` | what a whole call gives that has so many turns, and how many changes of cookies it leaves: `waits` is Pending once, `marks` adds a cookie and leaves the request to another route, `faults` fails its turn |
+//! | `catch_turns TURNS STATUS` | what a whole call of that catcher gives |
+//! | `page STATUS` | what the default page of a status answers |
+//! | `sentinel NAME` | whether a sentinel has to abort the launch of a rocket that manages a value under the key 1: `kept` of that key, `missing` of another, `debug`; `option` of the second, `result` of the third and the second, `either` of the first and the third |
 //! | `from INNER`, `try_from INNER`, `try_from` | an answer made of a responder: a number is that status, else a text; no responder |
 //! | `error STATUS`, `forward STATUS BODY` | an answer that is made so |
 #![tactic(auto)]
@@ -37,6 +41,8 @@ mod question;
 mod refusal;
 mod replies;
 mod routes;
+mod sentinels;
+mod turns;
 mod uris;
 mod words;
 

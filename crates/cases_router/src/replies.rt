@@ -36,7 +36,8 @@ fn push_forward(body: &Body0<Sample>, status: Status, out: &mut String) -> Resul
     write!(out, "forward {code} complete={complete:?}")
 }
 
-fn push_outcome(reply: Reply, out: &mut String) -> Result<(), NoMemory> {
+/// Adds an answer of a handler.
+pub fn push_outcome(reply: Reply, out: &mut String) -> Result<(), NoMemory> {
     match reply {
         Outcome::Success(mut response) => push_response(&mut response, out),
         Outcome::Error(status) => push_error(status, out),

@@ -2,10 +2,11 @@
 use Rattle.std.proofs.Common.{◌≡◌, ℕ, List, [], ◌∷◌, Some, None, Result, Ok, Err, IfOk, slice_get, refl, subst, sym}
 use Rattle.rkt_request.specs.Seen.{Seen}
 use Rattle.rkt_life.specs.Lifecycle.{Outcome, Success, Forward, Answers, Tried, Walked, Served}
-use Rattle.rkt_life.specs.Response.{IsDefaultPage, text_page}
+use Rattle.rkt_life.specs.Response.{text_page}
 use Rattle.rkt_life.specs.Rocket.{SeenTables}
 use Rattle.rkt_life.specs.Routes.{tries}
 use Rattle.rkt_message.specs.Response.{ResponseOf}
+use Rattle.rkt_router.specs.Page.{IsDefaultPage}
 use Rattle.rkt_life.specs.declared.run.Call.{Call}
 use Rattle.rkt_life.specs.declared.run.Which.TheVariants.{Route}
 use Rattle.rkt_life.specs.declared.run.Answer.TheVariants.{Success as Succeeded}

@@ -7,7 +7,8 @@ use Rattle.rkt_request.specs.Seen.{Seen}
 use Rattle.rkt_request.specs.declared.bad.Bad.{Bad}
 use Rattle.rkt_request.specs.declared.head.Head.{Head}
 use Rattle.rkt_message.specs.Response.{ResponseOf}
-use Rattle.rkt_life.specs.Response.{IsDefaultPage, text_page}
+use Rattle.rkt_router.specs.Page.{IsDefaultPage}
+use Rattle.rkt_life.specs.Response.{text_page}
 use Rattle.rkt_life.specs.Rocket.{SeenTables}
 use Rattle.rkt_life.specs.Routes.{tries}
 use Rattle.rkt_life.specs.declared.run.Call.{Call}

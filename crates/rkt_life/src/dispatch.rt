@@ -5,13 +5,14 @@ ghost use Rattle.rkt_turn.specs.HandsBack.{HandsBack};
 ghost use Rattle.rkt_life.specs.Lifecycle.{Responds, Served, LifecycleOf};
 ghost use Rattle.rkt_life.specs.Routes.{matches, tries};
 
-use crate::response::{default_page, text_page};
+use crate::response::text_page;
 use crate::{Answer, App, Call, Ended, EndedOf, Handler, RunOf, Tables, Which};
 use rkt_base::{NoMemory, Seq};
 use rkt_data::Gate;
 use rkt_http::{Origin, Status};
 use rkt_message::Response;
 use rkt_request::{Bad, Ctx, Incoming, Mounted, Request, Types};
+use rkt_router::catcher::default_handler;
 use rkt_turn::Shutdown;
 use std::alloc::Global;
 
@@ -96,7 +97,7 @@ impl<A: App> Tables<A> {
     {
         match faults {
             [] => self.serve(alloc, request, calls),
-            [..] => default_page(alloc, Status::BadRequest, request),
+            [..] => default_handler(alloc, Status::BadRequest, request),
         }
     }
 
@@ -112,7 +113,7 @@ impl<A: App> Tables<A> {
     {
         let routes = self.routes.as_slice();
         let Some(position) = first_match(routes, request) else {
-            return default_page(alloc, Status::NotFound, request);
+            return default_handler(alloc, Status::NotFound, request);
         };
         request.set_route(Mounted {
             position,

@@ -1,7 +1,12 @@
+pub mod Alike
 pub mod Choices
 pub mod Decided
 pub mod Formats
+pub mod Grown
+pub mod Lefts
+pub mod NextTries
 pub mod OneList
 pub mod Orders
 pub mod Paths
+pub mod Values
 pub mod Walks

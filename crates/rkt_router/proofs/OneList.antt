@@ -9,17 +9,17 @@ use Rattle.rkt_router.proofs.Orders.{before_not_same, before_trans}
 
 module _ {H S : Type 0} (routes : List (Route H S)) where
   -- what stands behind the first comes behind it
-  behind_first : (x p : ℕ) (xs : List ℕ) → AllPairs (Before routes) (x ∷ xs) → IsAmong xs p → Before routes x p
+  pub behind_first : (x p : ℕ) (xs : List ℕ) → AllPairs (Before routes) (x ∷ xs) → IsAmong xs p → Before routes x p
   behind_first x p xs ordered among = subst (Before routes x) (sym among.1.1) (ordered 0 (suc among.0) p (omega arith) (omega (arith, among.1.0)))
 
-  first_or : (x p : ℕ) (xs : List ℕ) → AllPairs (Before routes) (x ∷ xs) → (i : ℕ) → i < length (x ∷ xs) → p ≡ get_or (x ∷ xs) i p → (p ≡ x) ⊎ Before routes x p
+  pub first_or : (x p : ℕ) (xs : List ℕ) → AllPairs (Before routes) (x ∷ xs) → (i : ℕ) → i < length (x ∷ xs) → p ≡ get_or (x ∷ xs) i p → (p ≡ x) ⊎ Before routes x p
   first_or x p xs ordered zero within is = inl is
   first_or x p xs ordered (suc i) within is = inr (behind_first x p xs ordered (i, (omega (arith, within), is)))
 
-  ordered_rest : (x : ℕ) (xs : List ℕ) → AllPairs (Before routes) (x ∷ xs) → AllPairs (Before routes) xs
+  pub ordered_rest : (x : ℕ) (xs : List ℕ) → AllPairs (Before routes) (x ∷ xs) → AllPairs (Before routes) xs
   ordered_rest x xs ordered i j d less within = ordered (suc i) (suc j) d (omega (arith, less)) (omega (arith, within))
 
-  heads : (x y : ℕ) → (x ≡ y) ⊎ Before routes y x → (y ≡ x) ⊎ Before routes x y → x ≡ y
+  pub heads : (x y : ℕ) → (x ≡ y) ⊎ Before routes y x → (y ≡ x) ⊎ Before routes x y → x ≡ y
   heads x y (inl same) other = same
   heads x y (inr h) (inl same) = sym same
   heads x y (inr h) (inr k) = absurd (before_not_same routes x (before_trans routes x y x k h))

@@ -1,10 +1,16 @@
+pub mod Answers
+pub mod CallLaws
 pub mod CallbackLaws
 pub mod Callbacks
 pub mod Calling
+pub mod Calls
 pub mod Catchers
 pub mod Choice
 pub mod Dummies
+pub mod Left
 pub mod Order
+pub mod Page
 pub mod Router
+pub mod Sentinels
 pub mod Tries
 pub mod Walk

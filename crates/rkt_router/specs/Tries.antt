@@ -68,3 +68,19 @@ abbrev pub IsNextTry : {H S V : Type 0} → List (Route H S) → Seen V → Opti
 IsNextTry routes request after None = (q : ℕ) → MatchesAt routes request q → ¬ Behind routes after q
 IsNextTry routes request after (Some p) = MatchesAt routes request p × Behind routes after p
     × ((q : ℕ) → MatchesAt routes request q → Behind routes after q → (p ≡ q) ⊎ Before routes p q)
+
+-- what is tried one after another behind a position, or first
+abbrev pub NextTries : {H S V : Type 0} → List (Route H S) → Seen V → Option ℕ → List ℕ → Type 0
+NextTries routes request after [] = ⊤
+NextTries routes request after (p ∷ tries) = IsNextTry routes request after (Some p) × NextTries routes request (Some p) tries
+
+-- the same, where nothing is tried behind the last
+abbrev pub AllNextTries : {H S V : Type 0} → List (Route H S) → Seen V → Option ℕ → List ℕ → Type 0
+AllNextTries routes request after [] = IsNextTry routes request after None
+AllNextTries routes request after (p ∷ tries) = IsNextTry routes request after (Some p) × AllNextTries routes request (Some p) tries
+
+-- two requests are tried alike: they differ in nothing that a route asks for
+pub record TriedAlike {V : Type 0} (one other : Seen V) : Type 0 where
+  pub method : other.method ≡ one.method
+  pub uri : other.uri ≡ one.uri
+  pub headers : other.headers ≡ one.headers

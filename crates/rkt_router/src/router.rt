@@ -1,8 +1,9 @@
-ghost use Rattle.std.specs.Prelude.{◌≡◌, ◌++◌, ◌∷◌, [], Some, IfSome, OnOk, OnErr, option_map, slice_get};
+ghost use Rattle.std.specs.Prelude.{◌≡◌, ◌<◌, ◌++◌, ◌∷◌, [], ℕ, List, Some, IfSome, OnOk, OnErr, length, option_map, slice_get};
 ghost use Rattle.rkt_base.specs.Want.{IfRefused};
 ghost use Rattle.rkt_router.specs.Catchers.{IsChosen};
 ghost use Rattle.rkt_route.specs.Collisions.{AreCollisions, CatchersCollide, RoutesCollide};
-ghost use Rattle.rkt_router.specs.Tries.{IsNextTry};
+ghost use Rattle.rkt_router.specs.Left.{left};
+ghost use Rattle.rkt_router.specs.Tries.{IsNextTry, IsTries};
 ghost use Rattle.rkt_router.specs.Walk.{GivesTries};
 
 use crate::chosen::chosen;
@@ -66,7 +67,10 @@ impl<H, C, S> Router<H, C, S> {
         request: &Request<'_, T>,
         after: Option<usize>,
     ) -> Option<usize>
-        ensures { IsNextTry self.now.routes request.now after result }
+        ensures next { IsNextTry self.now.routes request.now after result }
+        ensures within { IfSome result (λ position. position < length self.now.routes) }
+        // Fewer routes are left behind it, so that a walk comes to its end.
+        ensures falls { IfSome result (λ position. left self.now.routes (Some position) < left self.now.routes after) }
     {
         next_try(
             self.routes.as_slice(),
@@ -81,6 +85,13 @@ impl<H, C, S> Router<H, C, S> {
         ensures { GivesTries result self.entry.now.routes request.entry.now }
     {
         Tries::new(self.routes.as_slice(), self.order.as_slice(), request)
+    }
+
+    /// A law of tries: every request has them. It walks over them.
+    pub fn has_tries<T: Types>(&self, request: &Request<'_, T>)
+        ensures { (tries : List ℕ) × IsTries self.now.routes request.now tries }
+    {
+        for _ in self.route(request) {}
     }
 
     /// The catcher that is chosen for a status, with its position. Takes no memory.

@@ -8,7 +8,7 @@ pub returns-in_default : goal.returns-in_default
 returns-in_default g c =
     let routes = c.as_slice-routes.ensures ∙ ap (λ t. t.routes) c.self.view_is in
     let none : slice_get (tries c.args.self.now.routes c.args.request.now) 0 ≡ None = rw (← routes) (sym c.first_match.ensures.first ∙ c.in_default.is) in
-    served_none g.A.Handler.Handler.may c.args.self.now c.args.request.now _ _ c.requires none c.default_page.ensures
+    served_none g.A.Handler.Handler.may c.args.self.now c.args.request.now _ _ c.requires none c.default_handler.ensures
 
 pub returns : goal.returns
 returns g c =

@@ -1,0 +1,19 @@
+use Rattle.std.proofs.Common.{arith}
+use Rattle.std.proofs.lemmas.Bool.Decides.{nat_tests}
+use Rattle.rkt_router.specs.CallLaws.{turn_made}
+use Rattle.rkt_router.proofs.Grown.{poll_grows}
+use Rattle.rkt_router.proofs.turn.turn_handler.Goals as goal
+
+pub poll-step-requires : goal.poll-step-requires
+poll-step-requires g c = (c.requires.1, (c.requires.2, c.requires.3.gates, c.args.turn, c.requires.3.goes.begun))
+
+pub returns-clause-gives : goal.returns-clause-gives
+returns-clause-gives g c = λ rule body before fits making.
+    rw c.of.ensures (turn_made g.H.Handler.calling rule c.args.turns c.args.handler.now (record { request = c.args.request.now; body = body }) before c.args.ctx.now.kept c.poll-step.new.ctx.kept
+    c.args.ctx.now.gate c.args.task.now c.poll-step.new.task c.args.turn _ c.poll-step.result (λ h. grind (arith, nat_tests, h), λ h. grind (arith, nat_tests, h)) fits making
+    (c.poll-step.ensures.polls body))
+
+pub returns-clause-grows : goal.returns-clause-grows
+returns-clause-grows g c = λ rule body before making.
+    poll_grows g.H.Handler.calling g.met.H.Handler.keeps.keeps c.args.handler.now (record { request = c.args.request.now; body = body }) rule c.args.turns before c.args.ctx.now.kept c.poll-step.new.ctx.kept
+    c.args.ctx.now.gate c.args.turn c.args.task.now c.poll-step.new.task c.poll-step.result making (c.poll-step.ensures.polls body)

@@ -1,0 +1,50 @@
+-- How a call begins, goes on and ends.
+use Rattle.std.specs.Prelude.{◌≤◌, ◌<◌, ◌+◌, ◌++◌, ◌∷◌, ◌↔◌, ℕ, List, Bool, true, false, IsTrue, []}
+use Rattle.std.specs.List.{All}
+use Rattle.std.proofs.Common.{arith, inl, inr, refl, sym}
+use Rattle.std.proofs.lemmas.Bool.{true≢false}
+use Rattle.std.proofs.lemmas.List.Elements.{All-nil, All-push}
+use Rattle.rkt_source.specs.declared.source.Gate.{Gate}
+use Rattle.rkt_router.specs.Calling.{Calling, Starts, Polls, AnswersPoll}
+use Rattle.rkt_router.specs.Calls.{GateRule, GateFits, any_gate, Making, OnceOver, Turned, turn_of}
+use Rattle.rkt_router.specs.declared.step.Step.{Step}
+use Rattle.rkt_router.specs.declared.step.Step.TheVariants as step
+use Rattle.rkt_router.specs.declared.turn.Final.{Final}
+use Rattle.rkt_router.specs.declared.turn.Final.TheVariants as final
+
+-- every Gate fits the rule that says nothing
+pub any_gate_fits : (gate : Gate) → GateFits any_gate gate
+any_gate_fits gate = record { moment = tt; delays = tt; trip = λ same. absurd (true≢false same) }
+
+-- a fact of a call that was not starved, made of another
+pub OnceOver-map : {O : Type 0} (reply : Final O) {P Q : Type 0} → (P → Q) → OnceOver reply P → OnceOver reply Q
+OnceOver-map (final.Done answer) f p = f p
+OnceOver-map final.FailedTurn f p = f p
+OnceOver-map final.Starved f p = tt
+
+module _ {Self Handed Held Answer Task : Type 0} (C : Calling Self Handed Held Answer Task) (rule : GateRule) (turns : ℕ) (callback : Self) (handed : Handed) where
+  -- a call that was started is under way after no turn
+  pub making_begins : {before : Held} {task : Task} → 1 ≤ turns → Starts C callback handed task → Making C rule turns callback handed before task before 0
+  making_begins {before} some starts = record {
+    gates = [];
+    within = All-nil (GateFits rule);
+    goes = record { begun = starts before; more = some; bounded = omega arith };
+  }
+
+  -- what a poll answers of a task that was begun so is a turn
+  made : (before now : Held) (gates : List Gate) (task : Task) (turn : ℕ) (left : Bool) → (IsTrue left ↔ (turn + 1 < turns)) → All (GateFits rule) gates → turn < turns
+      → (answer : Step Answer) → AnswersPoll C callback handed before gates turn answer task now → Turned C rule turns callback handed before (turn_of left answer) task now (turn + 1)
+  made before now gates task turn true is_left fits more step.Pending is = record { gates = gates; within = fits; goes = record { begun = is.1; more = is_left.0 refl; bounded = omega (arith, is.0) } }
+  made before now gates task turn false is_left fits more step.Pending is =
+      let last : ¬ (turn + 1 < turns) = λ more. true≢false (sym (is_left.1 more)) in
+      record { gates = gates; within = fits; ended = grind arith; gives = record { task = task; pended = turn + 1; begun = is.1; cause = inr (omega (arith, is.0, last)) } }
+  made before now gates task turn left is_left fits more (step.Done answer) is = record { gates = gates; within = fits; ended = grind arith; gives = is }
+  made before now gates task turn left is_left fits more step.Fault is = record { gates = gates; within = fits; ended = grind arith; gives = record { task = task; pended = turn; begun = is.1; cause = inl is.0 } }
+  made before now gates task turn left is_left fits more step.Starved is = tt
+
+  -- what a poll gives of a call that is under way is a turn
+  pub turn_made : (before was now : Held) (gate : Gate) (old new : Task) (turn : ℕ) (left : Bool) (answer : Step Answer) → (IsTrue left ↔ (turn + 1 < turns)) → GateFits rule gate
+      → Making C rule turns callback handed before old was turn → Polls C callback handed old was gate answer new now → Turned C rule turns callback handed before (turn_of left answer) new now (turn + 1)
+  turn_made before was now gate old new turn left answer is_left fits making polls =
+      made before now (making.gates ++ gate ∷ []) new turn left is_left (All-push (GateFits rule) making.gates gate making.within fits) making.goes.more answer
+      (polls before making.gates turn making.goes.begun)
