@@ -1,0 +1,15 @@
+pub mod Age
+pub mod Allow
+pub mod ExpectCt
+pub mod Feature
+pub mod Frame
+pub mod Hsts
+pub mod NoSniff
+pub mod Permission
+pub mod PermissionLaws
+pub mod Prefetch
+pub mod Referrer
+pub mod SameRules
+pub mod SameRulesLaws
+pub mod Shield
+pub mod XssFilter
