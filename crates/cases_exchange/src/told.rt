@@ -1,0 +1,70 @@
+//! What the application has, and how it is set.
+use crate::app::Site;
+use cases::{CaseError, pair, parsed};
+use rkt_base::{NoMemory, Want};
+use rkt_exchange::Tables;
+use rkt_request::{Config, ConfigTable};
+use std::alloc::Global;
+
+/// Sets an entry. The empty text, which stands for no entry at all, sets none.
+fn set_entry(table: &mut ConfigTable, entry: &str) -> Result<(), CaseError> {
+    if entry.is_empty() {
+        return Ok(());
+    }
+    let (name, text) = pair(entry, "=")?;
+    Ok(table.set(name, text)?)
+}
+
+fn set_entries(table: &mut ConfigTable, text: &str) -> Result<(), CaseError> {
+    for entry in text.split("; ") {
+        set_entry(table, entry)?;
+    }
+    Ok(())
+}
+
+/// The configuration of `NAME=TEXT; ..`.
+fn read_config(alloc: Global, text: &str) -> Result<Config, CaseError> {
+    let mut table = ConfigTable::new(alloc);
+    set_entries(&mut table, text)?;
+    Ok(Config::from_table(alloc, &table)?)
+}
+
+/// Sets the configuration of `NAME=TEXT; ..`.
+pub fn set_config(
+    alloc: Global,
+    tables: &mut Tables<Site>,
+    text: &str,
+    out: &mut String,
+) -> Result<(), CaseError> {
+    tables.config = read_config(alloc, text)?;
+    Ok(out.push_str("done")?)
+}
+
+/// Adds the route at a position.
+pub fn push_route(tables: &Tables<Site>, text: &str, out: &mut String) -> Result<(), CaseError> {
+    let position = parsed::<usize>(text)?;
+    let Some(route) = tables.router.routes().get(position) else {
+        return Err(CaseError::Line);
+    };
+    let (method, uri, rank) = (route.method.as_str(), &route.uri, route.rank);
+    Ok(write!(out, "{method} {uri} rank={rank} {:?}", route.handler)?)
+}
+
+/// Adds the catcher at a position.
+pub fn push_catcher(tables: &Tables<Site>, text: &str, out: &mut String) -> Result<(), CaseError> {
+    let position = parsed::<usize>(text)?;
+    let Some(catcher) = tables.router.catchers().get(position) else {
+        return Err(CaseError::Line);
+    };
+    let (base, code) = (catcher.base.as_str(), catcher.code);
+    Ok(write!(out, "{base} code={code:?} {:?}", catcher.handler)?)
+}
+
+/// Adds whether the tables are taken.
+pub fn finalize(alloc: Global, tables: &Tables<Site>, out: &mut String) -> Result<(), CaseError> {
+    match tables.router.finalize(alloc) {
+        Ok(()) => Ok(out.push_str("ok")?),
+        Err(Want::Refused(_)) => Err(CaseError::Refused),
+        Err(Want::NoMemory) => Err(CaseError::NoMemory),
+    }
+}

@@ -1,0 +1,80 @@
+-- How an exchange goes on: what completes a run from a later place completes it from an earlier one.
+use Rattle.std.specs.Prelude.{◌≡◌, ◌++◌, ◌&&◌, not, ℕ, List, [], ◌∷◌, Bool, true, false, Option, Some, None, Result, MatchBool, slice_get}
+use Rattle.std.proofs.Common.{refl, sym, ap, ◌∙◌, subst, append_assoc}
+use Rattle.std.proofs.lemmas.List.{append-nil}
+use Rattle.rkt_http.specs.declared.method.Method.TheVariants.{Get}
+use Rattle.rkt_http.specs.declared.outcome.Outcome.TheVariants.{Success, Error, Forward}
+use Rattle.rkt_http.specs.declared.status.Status.{Status}
+use Rattle.rkt_message.specs.Response.{ResponseOf}
+use Rattle.rkt_request.specs.Lent.{Kept, Lent, Grows}
+use Rattle.rkt_request.specs.Seen.{Seen}
+use Rattle.rkt_router.specs.Callbacks.{Reply}
+use Rattle.rkt_router.specs.Tries.{IsNextTry}
+use Rattle.rkt_router.specs.declared.turn.Final.{Final}
+use Rattle.rkt_router.specs.declared.turn.Final.TheVariants as final
+use Rattle.rkt_turn.specs.HandsBack.{HandsBack}
+use Rattle.rkt_exchange.specs.Beginning.{RequestAt, Beginning, Over}
+use Rattle.rkt_exchange.specs.Lifecycle.{Walks, Goes, Errors, Settles, Retries, is_head, is_retried}
+use Rattle.rkt_exchange.specs.Relations.{Relations}
+use Rattle.rkt_exchange.specs.Stands.{Between, Follows}
+use Rattle.rkt_exchange.specs.declared.run.Call.{Call}
+use Rattle.rkt_exchange.specs.Tables.{SeenTables}
+use Rattle.rkt_exchange.proofs.Handles.{backs_call, backs_same}
+
+not_both : (head : Bool) → ¬ ((head && not true) ≡ true)
+not_both true is = cc is
+not_both false is = cc is
+
+and_not_false : (head : Bool) → (head && not false) ≡ head
+and_not_false true = refl
+and_not_false false = refl
+
+module _ {V B C S H HTask K KTask N : Type 0} (rel : Relations V B C S H HTask K KTask) (first : Beginning V B C) (tables : SeenTables H K N V) where
+  -- what is left to be done is said in another way, and the handle is the same
+  pub between_on : (kept kept' : Kept C) (calls : List Call) (Rest Rest' : List Call → Over C S → Type 0) → kept'.shutdown ≡ kept.shutdown
+      → ((rest : List Call) (over : Over C S) → Rest' rest over → Rest rest over) → Between rel first tables kept calls Rest → Between rel first tables kept' calls Rest'
+  between_on kept kept' calls Rest Rest' same more between = record {
+    leads = λ rest over done. between.leads rest over (more rest over done);
+    backs = backs_same first.at.kept.shutdown kept.shutdown kept'.shutdown calls same between.backs;
+  }
+
+  -- one more call was recorded
+  pub between_call : (kept after : Kept C) (calls calls' : List Call) (call : Call) (Rest Rest' : List Call → Over C S → Type 0) → HandsBack kept.shutdown after.shutdown
+      → call.word ≡ after.shutdown.seen → calls' ≡ calls ++ call ∷ [] → ((rest : List Call) (over : Over C S) → Rest' rest over → Rest (call ∷ rest) over)
+      → Between rel first tables kept calls Rest → Between rel first tables after calls' Rest'
+  between_call kept after calls calls' call Rest Rest' back word are more between = record {
+    leads = λ rest over done. rw (are, append_assoc) (between.leads (call ∷ rest) over (more rest over done));
+    backs = backs_call first.at.kept.shutdown kept.shutdown after.shutdown calls calls' call between.backs back word are;
+  }
+
+module _ {V B C S H HTask K KTask N : Type 0} (rel : Relations V B C S H HTask K KTask) (tables : SeenTables H K N V) where
+  -- no route is left
+  pub walks_none : (behind : Option ℕ) (at : RequestAt V B C) (status : Status) (calls : List Call) (then_ : Reply S B → Seen V → Kept C → List Call → Type 0)
+      → IsNextTry tables.router.routes at.request behind None → then_ (Forward (at.body, status)) at.request at.kept calls → Walks rel tables behind at status calls then_
+  walks_none behind at status [] then_ none done = (none, done)
+  walks_none behind at status (call ∷ calls) then_ none done = (None, none, done)
+
+  -- what follows a walk that had a response, and one that had an error
+  pub follows_success : (again : Bool) (answered : ResponseOf S → Kept C → List Call → Type 0) (response : ResponseOf S) (request : Seen V) (kept : Kept C) (calls : List Call)
+      → answered response kept calls → Follows rel tables again answered (Success response) request kept calls
+  follows_success true answered response request kept calls done = done
+  follows_success false answered response request kept calls done = done
+
+  pub follows_error : (again : Bool) (answered : ResponseOf S → Kept C → List Call → Type 0) (status : Status) (request : Seen V) (kept : Kept C) (calls : List Call)
+      → Errors rel tables status request kept calls answered → Follows rel tables again answered (Error status) request kept calls
+  follows_error true answered status request kept calls done = done
+  follows_error false answered status request kept calls done = done
+
+  -- one that forwarded and is walked once more, and one that forwarded for good
+  pub follows_again : (again : Bool) (answered : ResponseOf S → Kept C → List Call → Type 0) (body : B) (status : Status) (request : Seen V) (kept : Kept C) (calls : List Call)
+      → is_retried request.method again ≡ true
+      → Walks rel tables None (record { request = record request { method = Get }; body = body; kept = kept }) (record { code = 404 }) calls (Settles rel tables answered)
+      → Follows rel tables again answered (Forward (body, status)) request kept calls
+  follows_again true answered body status request kept calls is done = absurd (not_both (is_head request.method) is)
+  follows_again false answered body status request kept calls is done = rw (sym (and_not_false (is_head request.method)) ∙ is) done
+
+  pub follows_forward : (again : Bool) (answered : ResponseOf S → Kept C → List Call → Type 0) (body : B) (status : Status) (request : Seen V) (kept : Kept C) (calls : List Call)
+      → is_retried request.method again ≡ false → Errors rel tables status request kept calls answered
+      → Follows rel tables again answered (Forward (body, status)) request kept calls
+  follows_forward true answered body status request kept calls last done = done
+  follows_forward false answered body status request kept calls last done = rw (sym (and_not_false (is_head request.method)) ∙ last) done

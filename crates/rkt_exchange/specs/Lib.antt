@@ -1,0 +1,10 @@
+pub mod Backs
+pub mod Beginning
+pub mod Dressed
+pub mod Ended
+pub mod Lifecycle
+pub mod Ranks
+pub mod Recorded
+pub mod Relations
+pub mod Stands
+pub mod Tables
