@@ -1,42 +1,33 @@
 -- The walk over the routes of a request.
-use Rattle.std.specs.Prelude.{◌≡◌, ◌++◌, ◌==◌, ◌+◌, ◌<◌, ℕ, List, [], ◌∷◌, Bool, true, false, Option, Some, None, Result, Ok, Err, MatchBool, slice_get}
+use Rattle.std.specs.Prelude.{◌≡◌, ◌++◌, ◌+◌, ◌<◌, ℕ, List, [], ◌∷◌, Bool, true, false, Option, Some, None, slice_get}
 use Rattle.std.proofs.Common.{refl, sym, ap, ◌∙◌, subst}
-use Rattle.rkt_http.specs.declared.method.Method.TheVariants.{Get, Head}
+use Rattle.rkt_http.specs.declared.method.Method.TheVariants.{Get}
 use Rattle.rkt_http.specs.declared.outcome.Outcome.TheVariants.{Success, Error, Forward}
 use Rattle.rkt_http.specs.declared.status.Status.{Status}
 use Rattle.rkt_message.specs.Response.{ResponseOf}
 use Rattle.rkt_request.specs.Lent.{Kept, Lent, Grows}
-use Rattle.rkt_request.specs.LentLaws.{grows_same}
 use Rattle.rkt_request.specs.Seen.{Seen}
-use Rattle.rkt_route.specs.declared.catcher.Catcher.{Catcher}
-use Rattle.rkt_route.specs.declared.catcher.Catching.TheVariants.{Rocket, App}
 use Rattle.rkt_route.specs.declared.route.Route.{Route}
 use Rattle.rkt_router.specs.Callbacks.{Reply}
 use Rattle.rkt_router.specs.Calling.{Polls, Starts}
 use Rattle.rkt_router.specs.CallLaws.{making_begins}
 use Rattle.rkt_router.specs.Calls.{GateFits, Made, Making, OnceOver, Turned}
-use Rattle.rkt_router.specs.Catchers.{IsChosen}
-use Rattle.rkt_router.specs.Page.{IsDefaultPage}
 use Rattle.rkt_router.specs.Tries.{IsNextTry}
 use Rattle.rkt_router.specs.declared.step.Step.TheVariants as step
 use Rattle.rkt_router.specs.declared.turn.Final.{Final}
 use Rattle.rkt_router.specs.declared.turn.Final.TheVariants as final
 use Rattle.rkt_router.specs.declared.turn.Turn.{Turn}
 use Rattle.rkt_router.specs.declared.turn.Turn.TheVariants as turn
-use Rattle.rkt_source.specs.declared.source.Gate.{Gate}
-use Rattle.rkt_turn.specs.HandsBack.{HandsBack}
-use Rattle.rkt_exchange.specs.Beginning.{RequestAt, Beginning, Over}
-use Rattle.rkt_exchange.specs.Dressed.{settled}
-use Rattle.rkt_exchange.specs.Lifecycle.{Walks, Goes, Catches, CatcherReplies, Errors, Fails, mounted, is_head, is_retried, turns_of}
-use Rattle.rkt_exchange.specs.Recorded.{recorded, handler_answer, catcher_answer}
+use Rattle.rkt_exchange.specs.Beginning.{Beginning, Over}
+use Rattle.rkt_exchange.specs.Lifecycle.{Walks, Goes, mounted, is_retried, turns_of}
+use Rattle.rkt_exchange.specs.Recorded.{recorded, handler_answer}
 use Rattle.rkt_exchange.specs.Relations.{Relations}
-use Rattle.rkt_exchange.specs.Stands.{Answered, Called, Catching, Caught, Chosen, Finishes, Follows, Forwards, Pages, Replied, RouteTurned, StandsAt, Tried, Trying, WaitsAt}
+use Rattle.rkt_exchange.specs.Stands.{Answered, Finishes, Follows, Forwards, Replied, RouteTurned, StandsAt, Tried, Trying, WaitsAt}
 use Rattle.rkt_exchange.specs.declared.run.Call.{Call}
 use Rattle.rkt_exchange.specs.declared.run.Which.TheVariants as which
 use Rattle.rkt_exchange.specs.declared.stage.Live.{Live}
 use Rattle.rkt_exchange.specs.declared.stage.Stage.TheVariants as stage
 use Rattle.rkt_exchange.specs.Tables.{SeenTables}
-use Rattle.rkt_exchange.proofs.Handles.{hands_back_more}
 use Rattle.rkt_exchange.proofs.Making.{pends, some_turns}
 use Rattle.rkt_exchange.proofs.Steps.{between_call, between_on, follows_again, follows_error, follows_forward, follows_success, walks_none}
 

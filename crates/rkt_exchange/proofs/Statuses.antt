@@ -1,8 +1,6 @@
 -- How a status is answered.
-use Rattle.std.specs.Prelude.{◌≡◌, ◌++◌, ◌==◌, ◌+◌, ◌<◌, ℕ, List, [], ◌∷◌, Bool, true, false, Option, Some, None, Result, Ok, Err, MatchBool, slice_get}
-use Rattle.std.proofs.Common.{refl, sym, ap, ◌∙◌, subst}
-use Rattle.rkt_http.specs.declared.method.Method.TheVariants.{Get, Head}
-use Rattle.rkt_http.specs.declared.outcome.Outcome.TheVariants.{Success, Error, Forward}
+use Rattle.std.specs.Prelude.{◌≡◌, ◌++◌, ◌==◌, ◌+◌, ◌<◌, ℕ, [], ◌∷◌, false, Some, None, Result, Ok, Err, slice_get}
+use Rattle.std.proofs.Common.{refl, sym, ap, subst}
 use Rattle.rkt_http.specs.declared.status.Status.{Status}
 use Rattle.rkt_message.specs.Response.{ResponseOf}
 use Rattle.rkt_request.specs.Lent.{Kept, Lent, Grows}
@@ -11,35 +9,29 @@ use Rattle.rkt_request.specs.Seen.{Seen}
 use Rattle.rkt_route.specs.declared.catcher.Catcher.{Catcher}
 use Rattle.rkt_route.specs.declared.catcher.Catching.{Catching as CatchingOf}
 use Rattle.rkt_route.specs.declared.catcher.Catching.TheVariants.{Rocket, App}
-use Rattle.rkt_route.specs.declared.route.Route.{Route}
-use Rattle.rkt_router.specs.Callbacks.{Reply}
 use Rattle.rkt_router.specs.Calling.{Polls, Starts}
 use Rattle.rkt_router.specs.CallLaws.{making_begins}
 use Rattle.rkt_router.specs.Calls.{GateFits, Made, Making, OnceOver, Turned}
 use Rattle.rkt_router.specs.Catchers.{IsChosen}
 use Rattle.rkt_router.specs.Page.{IsDefaultPage}
-use Rattle.rkt_router.specs.Tries.{IsNextTry}
 use Rattle.rkt_router.specs.declared.step.Step.TheVariants as step
 use Rattle.rkt_router.specs.declared.turn.Final.{Final}
 use Rattle.rkt_router.specs.declared.turn.Final.TheVariants as final
 use Rattle.rkt_router.specs.declared.turn.Turn.{Turn}
 use Rattle.rkt_router.specs.declared.turn.Turn.TheVariants as turn
-use Rattle.rkt_source.specs.declared.source.Gate.{Gate}
-use Rattle.rkt_turn.specs.HandsBack.{HandsBack}
-use Rattle.rkt_exchange.specs.Beginning.{RequestAt, Beginning, Over}
+use Rattle.rkt_exchange.specs.Beginning.{Beginning}
 use Rattle.rkt_exchange.specs.Dressed.{settled}
-use Rattle.rkt_exchange.specs.Lifecycle.{Walks, Goes, Catches, CatcherReplies, Errors, Fails, mounted, is_head, turns_of}
-use Rattle.rkt_exchange.specs.Recorded.{recorded, handler_answer, catcher_answer}
+use Rattle.rkt_exchange.specs.Lifecycle.{Catches, CatcherReplies, turns_of}
+use Rattle.rkt_exchange.specs.Recorded.{recorded, catcher_answer}
 use Rattle.rkt_exchange.specs.Relations.{Relations}
-use Rattle.rkt_exchange.specs.Stands.{Answered, Called, CatcherTurned, Catching, Caught, Chosen, Finishes, Follows, Forwards, Pages, Replied, StandsAt, Tried, Trying, WaitsAt}
+use Rattle.rkt_exchange.specs.Stands.{Answered, Called, CatcherTurned, Catching, Caught, Chosen, Pages, StandsAt, WaitsAt}
 use Rattle.rkt_exchange.specs.declared.run.Call.{Call}
 use Rattle.rkt_exchange.specs.declared.run.Which.TheVariants as which
 use Rattle.rkt_exchange.specs.declared.stage.Live.{Live}
 use Rattle.rkt_exchange.specs.declared.stage.Stage.TheVariants as stage
 use Rattle.rkt_exchange.specs.Tables.{SeenTables}
-use Rattle.rkt_exchange.proofs.Handles.{hands_back_more}
 use Rattle.rkt_exchange.proofs.Making.{pends, some_turns}
-use Rattle.rkt_exchange.proofs.Steps.{between_call, between_on, follows_error, follows_forward, follows_success, walks_none}
+use Rattle.rkt_exchange.proofs.Steps.{between_call, between_on}
 
 -- a catcher has one handler
 pub same_handler : {K : Type 0} {catching : CatchingOf K} {x y : K} → catching ≡ App x → catching ≡ App y → x ≡ y

@@ -1,20 +1,17 @@
 -- How an exchange goes on: what completes a run from a later place completes it from an earlier one.
-use Rattle.std.specs.Prelude.{◌≡◌, ◌++◌, ◌&&◌, not, ℕ, List, [], ◌∷◌, Bool, true, false, Option, Some, None, Result, MatchBool, slice_get}
-use Rattle.std.proofs.Common.{refl, sym, ap, ◌∙◌, subst, append_assoc}
-use Rattle.std.proofs.lemmas.List.{append-nil}
+use Rattle.std.specs.Prelude.{◌≡◌, ◌++◌, ◌&&◌, not, ℕ, List, [], ◌∷◌, Bool, true, false, Option, None}
+use Rattle.std.proofs.Common.{refl, sym, ◌∙◌, append_assoc}
 use Rattle.rkt_http.specs.declared.method.Method.TheVariants.{Get}
 use Rattle.rkt_http.specs.declared.outcome.Outcome.TheVariants.{Success, Error, Forward}
 use Rattle.rkt_http.specs.declared.status.Status.{Status}
 use Rattle.rkt_message.specs.Response.{ResponseOf}
-use Rattle.rkt_request.specs.Lent.{Kept, Lent, Grows}
+use Rattle.rkt_request.specs.Lent.{Kept}
 use Rattle.rkt_request.specs.Seen.{Seen}
 use Rattle.rkt_router.specs.Callbacks.{Reply}
 use Rattle.rkt_router.specs.Tries.{IsNextTry}
-use Rattle.rkt_router.specs.declared.turn.Final.{Final}
-use Rattle.rkt_router.specs.declared.turn.Final.TheVariants as final
 use Rattle.rkt_turn.specs.HandsBack.{HandsBack}
 use Rattle.rkt_exchange.specs.Beginning.{RequestAt, Beginning, Over}
-use Rattle.rkt_exchange.specs.Lifecycle.{Walks, Goes, Errors, Settles, Retries, is_head, is_retried}
+use Rattle.rkt_exchange.specs.Lifecycle.{Walks, Errors, Settles, is_head, is_retried}
 use Rattle.rkt_exchange.specs.Relations.{Relations}
 use Rattle.rkt_exchange.specs.Stands.{Between, Follows}
 use Rattle.rkt_exchange.specs.declared.run.Call.{Call}

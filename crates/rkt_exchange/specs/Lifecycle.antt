@@ -13,7 +13,7 @@ use Rattle.rkt_route.specs.declared.catcher.Catcher.{Catcher}
 use Rattle.rkt_route.specs.declared.catcher.Catching.{Catching}
 use Rattle.rkt_route.specs.declared.catcher.Catching.TheVariants.{Rocket, App}
 use Rattle.rkt_route.specs.declared.route.Route.{Route}
-use Rattle.rkt_router.specs.Callbacks.{Handed, Refused, Reply}
+use Rattle.rkt_router.specs.Callbacks.{Reply}
 use Rattle.rkt_router.specs.Calls.{Made}
 use Rattle.rkt_router.specs.Catchers.{IsChosen}
 use Rattle.rkt_router.specs.Page.{IsDefaultPage}

@@ -1,5 +1,5 @@
 -- What a run records of a call.
-use Rattle.std.specs.Prelude.{ℕ, Result, Ok, Err, length}
+use Rattle.std.specs.Prelude.{Result, Ok, Err, length}
 use Rattle.rkt_http.specs.declared.outcome.Outcome.TheVariants.{Success, Error, Forward}
 use Rattle.rkt_http.specs.declared.status.Status.{Status}
 use Rattle.rkt_message.specs.Response.{ResponseOf}

@@ -26,7 +26,6 @@ use Rattle.rkt_turn.specs.HandsBack.{HandsBack}
 use Rattle.rkt_turn.specs.Shutdown.{Handle}
 use Rattle.rkt_exchange.specs.Backs.{Backs}
 use Rattle.rkt_exchange.specs.Beginning.{RequestAt, Beginning, Over}
-use Rattle.rkt_exchange.specs.Dressed.{settled}
 use Rattle.rkt_exchange.specs.Lifecycle.{Lifecycle, Walks, Goes, Chooses, Errors, Fails, Catches, CatcherReplies, Retries, Settles, Dresses, Bares, is_head, mounted, turns_of}
 use Rattle.rkt_exchange.specs.Ranks.{Falls, rank}
 use Rattle.rkt_exchange.specs.Relations.{Relations, relations}

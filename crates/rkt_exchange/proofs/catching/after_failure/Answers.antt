@@ -1,4 +1,4 @@
-use Rattle.rkt_exchange.proofs.Statuses.{fails_first, fails_last}
+use Rattle.rkt_exchange.proofs.Statuses.{fails_last}
 use Rattle.rkt_exchange.proofs.catching.after_failure.Goals as goal
 
 pub returns-then-status-eq500-clause-falls : goal.returns-then-status-eq500-clause-falls

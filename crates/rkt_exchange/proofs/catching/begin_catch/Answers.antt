@@ -1,4 +1,3 @@
-use Rattle.std.proofs.Common.{refl}
 use Rattle.rkt_exchange.proofs.Statuses.{catch_none, catch_some, catching_begins}
 use Rattle.rkt_exchange.proofs.catching.begin_catch.Goals as goal
 

@@ -1,4 +1,3 @@
-use Rattle.rkt_router.specs.Calls.{any_gate}
 use Rattle.rkt_exchange.specs.Beginning.{beginning}
 use Rattle.rkt_exchange.proofs.Endings.{stands_first}
 use Rattle.rkt_exchange.proofs.exchange.ExchangeOf.new.Goals as goal

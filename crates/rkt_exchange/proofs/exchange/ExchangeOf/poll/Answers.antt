@@ -1,4 +1,4 @@
-use Rattle.std.proofs.Common.{◌≡◌, ◌∙◌, ap, arith, refl, sym}
+use Rattle.std.proofs.Common.{◌∙◌, ap, refl, sym}
 use Rattle.std.proofs.lemmas.Option.{slice_get_within}
 use Rattle.rkt_router.specs.CallLaws.{any_gate_fits}
 use Rattle.rkt_router.specs.Calls.{any_gate}
