@@ -4,6 +4,7 @@ use crate::launch::launch;
 use crate::pieces::send_case;
 use crate::polls::{clock, polls};
 use crate::setting::{Setting, set_header, set_routes};
+use crate::sourced::sourced;
 use crate::words::first_word;
 use std::alloc::Global;
 use std::sync::Wait;
@@ -29,6 +30,7 @@ fn asked(alloc: Global, setting: &Setting, command: &str, rest: &str) -> Result<
         "parted" => parted(alloc, setting),
         "polls" => polls(alloc, setting, rest),
         "clock" => clock(alloc, rest),
+        "source" => sourced(alloc, setting, rest),
         _ => Err(CaseError::Line),
     }
 }

@@ -1,13 +1,13 @@
 //! The application that lines speak of.
-ghost use Rattle.std.specs.Prelude.{◌≡◌};
-
 use crate::error::CaseError;
 use crate::setting::Pair;
-use rkt_base::NoMemory;
-use rkt_data::MemorySource;
-use rkt_http::Origin;
-use rkt_life::{App, Handler, Ignite, Rocket};
-use rkt_request::{Config, Managed, Request, Types};
+use rkt_base::{NoMemory, Want};
+use rkt_data::{MemorySource, Source};
+use rkt_http::{InvalidUri, Method, Outcome, Status};
+use rkt_life::{App, DefaultCatcher, Ignite, Rocket};
+use rkt_message::Response;
+use rkt_request::{Body0, Config, Ctx, Managed, Request, Types};
+use rkt_router::{Handler, Route, RouteOutcome, Router, Step};
 use rkt_turn::Reason;
 use std::alloc::Global;
 
@@ -17,12 +17,40 @@ pub struct Saying {
     text: String,
 }
 
-impl<T: Types> Handler<T> for Saying {
-    ghost may = { λ _ _ _. Unit {0} };
+/// A plain text.
+fn page<S: Source>(alloc: Global, text: &str) -> Result<Response<S>, NoMemory> {
+    let text = String::from_str(alloc, text)?;
+    let mut response = Response::new(alloc);
+    response.set_status(Status::Ok);
+    response.adjoin_raw_header("Content-Type", "text/plain; charset=utf-8")?;
+    response.set_sized_body(None, text.into_bytes());
+    Ok(response)
+}
 
-    fn respond(&self, _alloc: Global, _request: &Request<'_, T>) -> Result<String, NoMemory> {
-        self.text.clone()
+impl<T: Types> Handler<T> for Saying {
+    ghost use Rattle.cases_serve.specs.Sayings.{saying};
+    ghost use Rattle.cases_serve.specs.SayingLaws.{saying_keeps};
+
+    type Task = ();
+
+    ghost calling = { saying };
+
+    fn start(&self, _request: &Request<'_, T>, _body: Body0<T>) {}
+
+    fn poll(
+        &self,
+        alloc: Global,
+        _task: &mut (),
+        _request: &Request<'_, T>,
+        _ctx: &mut Ctx<T>,
+    ) -> Step<RouteOutcome<T>> {
+        match page(alloc, self.text.as_str()) {
+            Ok(response) => Step::Done(Outcome::Success(response)),
+            Err(_) => Step::Starved,
+        }
     }
+
+    ghost keeps = { saying_keeps _ };
 }
 
 /// The one reason for a shutdown.
@@ -30,6 +58,8 @@ impl<T: Types> Handler<T> for Saying {
 pub struct Stopped;
 
 impl Reason for Stopped {
+    ghost use Rattle.std.specs.Prelude.{◌≡◌};
+
     ghost allowed = { λ word. word ≡ 1 };
 
     fn word(self) -> u64 {
@@ -53,31 +83,41 @@ impl Types for Site {
 
 impl App for Site {
     type Handler = Saying;
+
+    type Catch = DefaultCatcher;
+
+    type Sentinel = u8;
 }
 
-type Routes = Vec<(Origin, Saying)>;
+type SiteRouter = Router<Saying, DefaultCatcher, u8>;
 
-fn push_route(alloc: Global, routes: &mut Routes, route: &Pair) -> Result<(), CaseError> {
+type SiteRoute = Route<Saying, u8>;
+
+fn route_of(alloc: Global, path: &str, text: String) -> Result<SiteRoute, Want<InvalidUri>> {
+    SiteRoute::new(alloc, Method::Get, path, Saying { text })
+}
+
+fn push_route(alloc: Global, router: &mut SiteRouter, route: &Pair) -> Result<(), CaseError> {
     let text = route.right.clone()?;
-    let path = Origin::parse(alloc, route.left.as_str())?;
-    Ok(routes.push((path, Saying { text }))?)
+    let route = route_of(alloc, route.left.as_str(), text)?;
+    Ok(router.add_route(route)?)
 }
 
-fn routes_of(alloc: Global, pairs: &[Pair]) -> Result<Routes, CaseError> {
-    let mut routes = Vec::new(alloc);
+fn router_of(alloc: Global, pairs: &[Pair]) -> Result<SiteRouter, CaseError> {
+    let mut router = SiteRouter::new(alloc);
     for pair in pairs {
-        push_route(alloc, &mut routes, pair)?;
+        push_route(alloc, &mut router, pair)?;
     }
-    Ok(routes)
+    Ok(router)
 }
 
-fn assembled(alloc: Global, routes: Routes) -> Result<Rocket<Ignite, Site>, NoMemory> {
+fn assembled(alloc: Global, router: SiteRouter) -> Result<Rocket<Ignite, Site>, NoMemory> {
     let config = Config::default(alloc)?;
-    Rocket::assemble(alloc, routes, config, Managed::new(alloc))
+    Rocket::assemble(alloc, router, config, Managed::new(alloc))
 }
 
 /// A rocket with these routes.
 pub fn rocket(alloc: Global, pairs: &[Pair]) -> Result<Rocket<Ignite, Site>, CaseError> {
-    let routes = routes_of(alloc, pairs)?;
-    Ok(assembled(alloc, routes)?)
+    let router = router_of(alloc, pairs)?;
+    Ok(assembled(alloc, router)?)
 }

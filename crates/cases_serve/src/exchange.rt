@@ -1,16 +1,18 @@
 //! One exchange.
+ghost use Rattle.std.specs.Prelude.{IsSome};
+
 use crate::app::{Site, Stopped, rocket};
 use crate::error::CaseError;
 use crate::heads::head_of;
 use crate::setting::Setting;
 use crate::words::{first_word, number, push_item};
-use rkt_base::NoMemory;
+use rkt_base::{NoMemory, Poll};
 use rkt_cookie::{Cookie, CookieJar};
-use rkt_data::{Gate, MemorySource};
+use rkt_data::{CancellableIo, Data, Gate, MemorySource};
 use rkt_http::Key;
-use rkt_life::{EndedOf, Ignite, Rocket, Run, Tables};
+use rkt_life::{Ended, EndedOf, Exchange, Ignite, Rocket, Run, Tables};
 use rkt_message::Response;
-use rkt_request::{Head, Request};
+use rkt_request::{Body0, Head, Request};
 use rkt_turn::Shutdown;
 use std::alloc::{AllocError, Global};
 
@@ -66,6 +68,21 @@ fn shown(
     Ok(text)
 }
 
+fn no_body(alloc: Global) -> Result<Body0<Site>, NoMemory> {
+    let source = MemorySource::new(Vec::new(alloc), 0, Vec::new(alloc));
+    Data::from_source(alloc, CancellableIo::new(source))
+}
+
+/// The end of an exchange that waits for nothing.
+fn polled(mut exchange: Exchange<'_, Site>, moment: u64) -> Option<Ended<Site>>
+    requires { IsSome exchange.live }
+{
+    match exchange.poll(gate(moment)) {
+        Poll::Ready(ended) => Some(ended),
+        Poll::Pending => None,
+    }
+}
+
 fn dispatched(
     alloc: Global,
     tables: &Tables<Site>,
@@ -74,9 +91,12 @@ fn dispatched(
     moment: u64,
 ) -> Result<String, CaseError> {
     let incoming = Request::from_incoming(alloc, head, &tables.config, &tables.managed)?;
-    match tables.dispatch(alloc, incoming, shutdown, gate(moment)) {
-        EndedOf::Finished { run, response, .. } => shown(alloc, &run, response),
-        EndedOf::Starved { .. } => Err(CaseError::NoMemory),
+    let body = no_body(alloc)?;
+    let exchange = Exchange::new(alloc, tables, incoming, body, shutdown, gate(moment));
+    match polled(exchange, moment) {
+        Some(EndedOf::Finished { run, response, .. }) => shown(alloc, &run, response),
+        Some(EndedOf::Starved { .. }) => Err(CaseError::NoMemory),
+        None => Err(CaseError::Line),
     }
 }
 
@@ -108,7 +128,7 @@ pub fn parted(alloc: Global, setting: &Setting) -> Result<String, CaseError> {
     let rocket = rocket(alloc, setting.routes.as_slice())?;
     let (tables, handle) = rocket.into_parts();
     let rocket: Rocket<Ignite, Site> = Rocket::from_parts(tables, handle);
-    let routes = rocket.tables().routes.len();
+    let routes = rocket.tables().router.routes().len();
     let managed = rocket.tables().managed.get(Key(0)).is_some();
     Ok(format!(in alloc; "{routes} routes, managed {managed}")?)
 }

@@ -1,8 +1,8 @@
 //! Requests and the links that ask them.
-ghost use Rattle.std.specs.Prelude.{◌≡◌, [], IfOk};
+ghost use Rattle.std.specs.Prelude.{IfOk};
 ghost use Rattle.std.specs.List.{AllByRecursion};
 ghost use Rattle.rkt_serve.specs.Listener.{IsFresh};
-ghost use Rattle.rkt_serve.specs.Memory.{HoldsNothing, listener_meaning};
+ghost use Rattle.rkt_serve.specs.Memory.{IsUnused, listener_meaning};
 
 use crate::setting::{Pair, Setting};
 use crate::words::first_word;
@@ -41,22 +41,29 @@ pub fn head_of(alloc: Global, setting: &Setting, text: &str) -> Result<Head, NoM
     })
 }
 
-fn link_of(alloc: Global, setting: &Setting, text: &str) -> Result<MemoryLink, NoMemory>
-    ensures { IfOk result (λ link. link.held ≡ []) }
+/// A link that asks `METHOD TARGET` with this body.
+pub fn link_with(
+    alloc: Global,
+    setting: &Setting,
+    text: &str,
+    body: &str,
+) -> Result<MemoryLink, NoMemory>
+    ensures { IfOk result IsUnused }
 {
     let head = head_of(alloc, setting, text)?;
-    MemoryLink::new(alloc, head)
+    let bytes = body.as_bytes().to_vec(alloc)?;
+    MemoryLink::new(alloc, head, bytes)
 }
 
 fn links_of(alloc: Global, setting: &Setting, text: &str) -> Result<Vec<MemoryLink>, NoMemory>
-    ensures { IfOk result (λ links. AllByRecursion HoldsNothing links.items) }
+    ensures { IfOk result (λ links. AllByRecursion IsUnused links.items) }
 {
     let mut links = Vec::new(alloc);
     if text.is_empty() {
         return Ok(links);
     }
     for piece in text.split(" | ") {
-        links.push(link_of(alloc, setting, piece)?)?;
+        links.push(link_with(alloc, setting, piece, "")?)?;
     }
     Ok(links)
 }

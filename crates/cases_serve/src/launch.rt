@@ -10,12 +10,16 @@ use crate::heads::listener_of;
 use crate::pieces::ended;
 use crate::setting::Setting;
 use crate::words::{first_word, number, numbers};
-use rkt_serve::{Entry, EventOf, History, Launch, Launched, ListClock, ListListener, MemoryLink};
+use rkt_serve::{
+    Entry, Error, EventOf, History, Launch, Launched, ListClock, ListListener, MemoryLink,
+};
 use std::alloc::{AllocError, Global};
 use std::sync::Wait;
 use std::thread::Threads;
 
 type Over = Launched<Site, ListListener, ListClock>;
+
+type Refused = Error<Site, ListListener, ListClock>;
 
 fn run_cookies(alloc: Global, entry: &Entry<Site, MemoryLink>) -> Result<String, AllocError> {
     match &entry.run {
@@ -69,6 +73,11 @@ fn history_text(alloc: Global, history: &History<Site, MemoryLink>) -> Result<St
     Ok(text)
 }
 
+fn refused(error: Refused) -> CaseError {
+    let _text = error.pretty_print();
+    CaseError::NoMemory
+}
+
 fn launched<R: Wait + Threads>(
     rt: &R,
     alloc: Global,
@@ -82,10 +91,7 @@ fn launched<R: Wait + Threads>(
     let rocket = rocket(alloc, setting.routes.as_slice())?;
     match rocket.launch(rt, alloc, listener, clock, workers as usize) {
         Ok(launched) => Ok(launched),
-        Err(error) => {
-            let _text = error.pretty_print();
-            Err(CaseError::NoMemory)
-        }
+        Err(error) => Err(refused(error)),
     }
 }
 

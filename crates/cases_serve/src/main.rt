@@ -2,7 +2,8 @@
 //! its answer. `stdout` is the table of cases with the answers that are wanted; `stdin` has its lines up to the arrow.
 //! An empty line and one that begins with `#` are headings. What is no line of these is answered with `? line`.
 //!
-//!     routes PATH=TEXT ..                  from here on the application has these routes, each of which says its text
+//!     routes PATH=TEXT ..                  from here on the application has these routes of GET, each of which says its
+//!                                          text
 //!     header NAME: VALUE                   from here on every request has this header; without one, it has none
 //!     exchange MOMENT METHOD TARGET        one exchange at this moment: the status, the content type, the size of the
 //!                                          body, the calls, the cookies that came, the cached values and the moment
@@ -13,6 +14,8 @@
 //!                                          0) are Pending, and each link asks METHOD TARGET. How many events there
 //!                                          are, each entry, and the moment of the close
 //!     polls POLLS COUNT LINK | LINK ..     what so many polls of this listener answer
+//!     source TEXT                          what the source of a link with this body gives, and whether it can be taken
+//!                                          again
 //!     clock MOMENTS COUNT                  what a listed clock tells at so many calls
 //!     send TURNS CHUNK READS TEXT          a response with the header above and a streamed body, which gives chunks
 //!                                          and fails at these reads (from 0), is sent: how that ends, and the pieces
@@ -29,6 +32,7 @@ mod launch;
 mod pieces;
 mod polls;
 mod setting;
+mod sourced;
 mod words;
 
 use crate::answer::answer;

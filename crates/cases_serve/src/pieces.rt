@@ -1,6 +1,6 @@
 //! Pieces, and how a response is sent.
 use crate::error::CaseError;
-use crate::heads::head_of;
+use crate::heads::link_with;
 use crate::setting::Setting;
 use crate::words::{first_word, number, numbers, push_item};
 use rkt_base::NoMemory;
@@ -86,8 +86,7 @@ fn send_body<R: Wait>(
     turns: u32,
     source: MemorySource,
 ) -> Result<String, CaseError> {
-    let head = head_of(alloc, setting, "GET /")?;
-    let mut link = MemoryLink::new(alloc, head)?;
+    let mut link = link_with(alloc, setting, "GET /", "")?;
     let response = response(alloc, setting, source)?;
     let end = sent(rt, alloc, &mut link, response, turns)?;
     Ok(ended(alloc, end, &link)?)

@@ -1,5 +1,2 @@
-pub mod Ended
-pub mod Lifecycle
-pub mod Response
+pub mod DefaultCatcher
 pub mod Rocket
-pub mod Routes

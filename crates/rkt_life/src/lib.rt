@@ -1,12 +1,12 @@
-//! One exchange: from what came in to the response that answers it.
+//! A rocket, and the phases that it goes through.
 #![tactic(auto)]
 
-mod app;
-mod dispatch;
-mod response;
+mod default_catcher;
 mod rocket;
-mod run;
 
-pub use app::{App, Handler};
-pub use rocket::{Ignite, Rocket, Tables};
-pub use run::{Answer, Call, Ended, EndedOf, Run, RunOf, Which};
+pub use default_catcher::DefaultCatcher;
+pub use rkt_exchange::{
+    Answer, Call, Ended, EndedOf, Exchange, ExchangeOf, Parts as App, Run, RunOf, Tables, TablesOf,
+    Which,
+};
+pub use rocket::{Ignite, Rocket};

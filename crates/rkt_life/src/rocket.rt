@@ -1,64 +1,48 @@
-//! What a rocket serves by, and the phases that it goes through.
+//! A rocket in its phases: what it serves by, with a handle of its wire.
 ghost use Rattle.std.specs.Prelude.{◌≡◌, IfOk};
 ghost use Rattle.rkt_turn.specs.Shutdown.{fresh};
 
-use crate::App;
-use rkt_base::{NoMemory, Seq};
-use rkt_http::Origin;
+use rkt_base::NoMemory;
+use rkt_exchange::{Parts, Tables, TablesOf};
 use rkt_request::{Config, Managed};
+use rkt_router::Router;
 use rkt_turn::{Shutdown, TripWire};
 use std::alloc::Global;
 use std::marker::{Model, PhantomData};
-
-/// The routes, in mounting order, each with the handler that answers there, and what is lent to every request.
-#[derive(Drop)]
-pub struct Tables<A: App> {
-    pub routes: Seq<(Origin, A::Handler)>,
-    pub config: Config,
-    pub managed: Managed<A::Value>,
-}
-
-impl<A: App> Model for Tables<A> {
-    ghost use Rattle.rkt_life.specs.Rocket.{SeenTables};
-
-    ghost Value = { SeenTables A.Handler A.Value };
-
-    ghost view = { λ t. record { routes = t.routes; config = t.config; managed = t.managed } };
-}
 
 /// The phase of a rocket that may be launched.
 pub struct Ignite;
 
 /// An application in one of its phases, with a handle of its wire.
 #[derive(Drop)]
-pub struct Rocket<P, A: App> {
+pub struct Rocket<P, A: Parts> {
     tables: Tables<A>,
     handle: Shutdown<A::Reason>,
     phase: PhantomData<P>,
 }
 
-impl<P, A: App> Model for Rocket<P, A> {
+impl<P, A: Parts> Model for Rocket<P, A> {
     ghost use Rattle.rkt_life.specs.Rocket.{SeenRocket};
 
-    ghost Value = { SeenRocket A.Handler A.Value };
+    ghost Value = { SeenRocket A.Handler A.Catch A.Sentinel A.Value };
 
     ghost view = { λ r. record { tables = r.tables; handle = r.handle } };
 }
 
-impl<A: App> Rocket<Ignite, A> {
-    /// A rocket with these routes, in mounting order, and a wire of its own.
+impl<A: Parts> Rocket<Ignite, A> {
+    /// A rocket with these tables, and a wire of its own.
     pub fn assemble(
         alloc: Global,
-        routes: Vec<(Origin, A::Handler)>,
+        router: Router<A::Handler, A::Catch, A::Sentinel>,
         config: Config,
         managed: Managed<A::Value>,
     ) -> Result<Rocket<Ignite, A>, NoMemory>
-        ensures tables { IfOk result (λ rocket. rocket.tables ≡ record { routes = routes.items; config = config; managed = managed }) }
+        ensures tables { IfOk result (λ rocket. rocket.tables ≡ record { router = router; config = config; managed = managed }) }
         ensures fresh { IfOk result (λ rocket. rocket.handle ≡ fresh rocket.handle.wire) }
     {
         let (_wire, handle) = TripWire::new(alloc)?;
-        let tables = Tables {
-            routes: Seq::from_vec(routes),
+        let tables = TablesOf {
+            router,
             config,
             managed,
         };

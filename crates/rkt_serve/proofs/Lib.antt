@@ -1,4 +1,5 @@
 pub mod Balance
+pub mod Endings
 pub mod Clocks
 pub mod Core
 pub mod Pieces
@@ -8,3 +9,4 @@ pub mod Pushes
 pub mod Listening
 pub mod Entries
 pub mod Handles
+pub mod Telling

@@ -1,19 +1,20 @@
 -- What a link holds, piece by piece.
-use Rattle.std.proofs.Common.{◌≡◌, ◌++◌, ℕ, max, arith, subst, List, [], Option, Some, None, option_map, Result, Ok, Err, IfOk, ap, ◌∙◌, sym, refl, append_assoc, append-nil}
+use Rattle.std.proofs.Common.{◌≡◌, ◌++◌, ℕ, arith, subst, List, [], Option, Some, None, option_map, Result, Ok, Err, IfOk, ap, ◌∙◌, sym, refl, append_assoc, append-nil}
 use Rattle.std.proofs.lemmas.Grind.{common_steps}
 use Rattle.std.specs.Option.{ForSome}
 use Rattle.rkt_source.specs.Source.{Meaning}
-use Rattle.rkt_request.specs.Seen.{Seen}
-use Rattle.rkt_life.specs.Lifecycle.{Lifecycle}
-use Rattle.rkt_life.specs.Rocket.{SeenTables}
-use Rattle.rkt_life.specs.declared.run.RunOf.{RunOf}
+use Rattle.rkt_exchange.specs.Lifecycle.{turns_of}
+use Rattle.rkt_exchange.specs.Tables.{SeenTables}
+use Rattle.rkt_exchange.specs.declared.run.RunOf.{RunOf}
 use Rattle.rkt_message.specs.Reading.{ReadsOn}
 use Rattle.rkt_message.specs.Response.{ResponseOf}
 use Rattle.rkt_message.specs.Sending.{ReadOn}
 use Rattle.rkt_message.specs.declared.piece.Piece.{Piece}
 use Rattle.rkt_serve.specs.Causes.{CausedAs, Caused}
+use Rattle.rkt_serve.specs.Lifecycle.{Lifecycle}
 use Rattle.rkt_serve.specs.Link.{LinkMeaning, with_taken}
 use Rattle.rkt_serve.specs.Sent.{IsSentAs}
+use Rattle.rkt_serve.specs.Serving.{Serving, callbacks_of}
 use Rattle.rkt_serve.specs.declared.history.End.{End as Ending}
 use Rattle.rkt_serve.specs.declared.history.End.TheVariants.{Answered, Failed, Starved}
 use Rattle.rkt_serve.specs.declared.history.EntryOf.{EntryOf}
@@ -38,13 +39,13 @@ held_only None pieces held fresh is = absurd (cc is)
 held_only (Some old) pieces held fresh is = let empty : old ≡ [] = fresh old refl in grind (arith, common_steps, empty, is)
 
 -- a run whose response was sent on a fresh link
-pub caused_sent : {C S K H V : Type 0} (may : H → Seen V → List ℕ → Type 0) (tables : SeenTables H V) (stream : S → Meaning) (meaning : K → LinkMeaning) (entry : EntryOf C S K) (old : LinkMeaning) (run : RunOf C)
-    (first response : ResponseOf S) (ended : Ending) (taken : List Piece) → entry ≡ record { link = entry.link; run = Some run; response = Some response; end = ended }
-    → ForSome old.asked (λ asked. Lifecycle may tables asked.head run first) → ForSome old.held (λ held. held ≡ []) → ReadOn stream first response
-    → ReadsOn stream None first.body.content response.body.content → IsSentAs stream (max tables.config.turns 1) first response ended taken → meaning entry.link ≡ with_taken old taken → Caused may tables stream meaning entry
-caused_sent may tables stream meaning entry old run first response Starved taken is lifecycle fresh on untripped sent linked = absurd sent
-caused_sent may tables stream meaning entry old run first response Answered taken is lifecycle fresh on untripped sent linked =
-    subst (CausedAs may tables stream meaning entry) (sym (ap (λ (e : EntryOf _ _ _). e.end) is)) (record {
+pub caused_sent : {V S C R H HTask K KTask L N : Type 0} (served : Serving V S C R H HTask K KTask L) (tables : SeenTables H K N V) (entry : EntryOf C R L) (old : LinkMeaning) (run : RunOf C)
+    (first response : ResponseOf R) (ended : Ending) (taken : List Piece) → entry ≡ record { link = entry.link; run = Some run; response = Some response; end = ended }
+    → ForSome old.asked (λ asked. Lifecycle (callbacks_of served tables) tables served.sources asked run first) → ForSome old.held (λ held. held ≡ []) → ReadOn served.streams first response
+    → ReadsOn served.streams None first.body.content response.body.content → IsSentAs served.streams (turns_of tables) first response ended taken → served.links entry.link ≡ with_taken old taken → Caused served tables entry
+caused_sent served tables entry old run first response Starved taken is lifecycle fresh on untripped sent linked = absurd sent
+caused_sent served tables entry old run first response Answered taken is lifecycle fresh on untripped sent linked =
+    subst (CausedAs served tables entry) (sym (ap (λ (e : EntryOf _ _ _). e.end) is)) (record {
       run = run;
       run_kept = ap (λ (e : EntryOf _ _ _). e.run) is;
       first = first;
@@ -57,8 +58,8 @@ caused_sent may tables stream meaning entry old run first response Answered take
       sent = sent;
       held = λ held told. held_only old.held taken held fresh (sym (ap (λ (m : LinkMeaning). m.held) linked) ∙ told);
     })
-caused_sent may tables stream meaning entry old run first response (Failed failure) taken is lifecycle fresh on untripped sent linked =
-    subst (CausedAs may tables stream meaning entry) (sym (ap (λ (e : EntryOf _ _ _). e.end) is)) (record {
+caused_sent served tables entry old run first response (Failed failure) taken is lifecycle fresh on untripped sent linked =
+    subst (CausedAs served tables entry) (sym (ap (λ (e : EntryOf _ _ _). e.end) is)) (record {
       run = run;
       run_kept = ap (λ (e : EntryOf _ _ _). e.run) is;
       first = first;

@@ -1,5 +1,5 @@
 -- What a clock means.
-use Rattle.std.specs.Prelude.{◌≤◌, ℕ, Option}
+use Rattle.std.specs.Prelude.{◌≡◌, ◌≤◌, ℕ, Option}
 use Rattle.std.specs.Option.{ForSome}
 
 pub record ClockMeaning : Type 0 where
@@ -11,3 +11,8 @@ pub record ClockMeaning : Type 0 where
 -- the moment lies in the window, where there is one
 abbrev pub IsWithin : Option (ℕ × ℕ) → ℕ → Type 0
 IsWithin window moment = ForSome window (λ w. (w.0 ≤ moment) × (moment ≤ w.1))
+
+-- a clock that has told some more moments, or none
+pub record TellsOn (old new : ClockMeaning) : Type 0 where
+  pub rises : old.last ≤ new.last
+  pub window : new.window ≡ old.window

@@ -1,12 +1,15 @@
 pub mod After
 pub mod Asked
+pub mod Begun
 pub mod Causes
 pub mod Clock
 pub mod Events
 pub mod Headline
 pub mod Kept
+pub mod Lifecycle
 pub mod Link
 pub mod Listener
 pub mod Memory
 pub mod Progress
 pub mod Sent
+pub mod Serving

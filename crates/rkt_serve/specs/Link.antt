@@ -1,5 +1,5 @@
 -- What a link means, and what its calls do.
-use Rattle.std.specs.Prelude.{◌≡◌, ◌++◌, ℕ, List, [], ◌∷◌, Bool, Option, Result, Ok, Err, option_map}
+use Rattle.std.specs.Prelude.{◌≡◌, ◌++◌, ℕ, List, [], ◌∷◌, Bool, true, false, Option, Result, Ok, Err, option_map}
 use Rattle.std.specs.Option.{ForSome}
 use Rattle.rkt_base.specs.declared.poll.Poll.{Poll}
 use Rattle.rkt_base.specs.declared.poll.Poll.TheVariants.{Ready, Pending}
@@ -11,12 +11,18 @@ use Rattle.rkt_serve.specs.declared.link.Handed.TheVariants.{Taken, Back, Refuse
 pub record LinkMeaning : Type 0 where
   -- what it asks, where it tells that
   pub asked : Option Asked
+  -- the source of the body was taken
+  pub source_taken : Bool
   -- the pieces that it has taken, where it tells them
   pub held : Option (List Piece)
   -- how often it has failed
   pub faults : ℕ
   -- it says that it never fails
   pub never_faults : Bool
+
+-- the same link, whose source was taken
+abbrev pub with_source_taken : LinkMeaning → LinkMeaning
+with_source_taken link = record link { source_taken = true }
 
 -- the same link, with these pieces taken besides
 abbrev pub with_taken : LinkMeaning → List Piece → LinkMeaning
@@ -40,7 +46,8 @@ ComesBack Taken piece = Unit {0}
 ComesBack (Back other) piece = other ≡ piece
 ComesBack (Refused e) piece = Unit {0}
 
--- nothing was sent, and nothing has failed
+-- nothing was taken and sent, and nothing has failed
 pub record IsFreshLink (link : LinkMeaning) : Type 0 where
+  pub source_there : link.source_taken ≡ false
   pub none_held : ForSome link.held (λ held. held ≡ [])
   pub no_fault : link.faults ≡ 0

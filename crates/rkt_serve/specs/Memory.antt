@@ -1,10 +1,11 @@
 -- What the objects in memory keep, and what they mean.
-use Rattle.std.specs.Prelude.{◌≡◌, ◌≤◌, ℕ, max, List, [], ◌∷◌, Bool, true, Option, Some, length, map, take, drop}
+use Rattle.std.specs.Prelude.{◌≡◌, ◌≤◌, ℕ, max, List, [], ◌∷◌, Bool, true, false, IfSome, Option, Some, length, map, take, drop}
 use Rattle.std.proofs.Common.{ap, sym}
 use Rattle.std.specs.List.{AllByRecursion}
 use Rattle.std.specs.Option.{option_map_or}
 use Rattle.rkt_message.specs.declared.piece.Piece.{Piece}
 use Rattle.rkt_request.specs.declared.head.Head.{Head}
+use Rattle.rkt_source.specs.Memory.{SourceInMemory}
 use Rattle.rkt_serve.specs.Asked.{Asked}
 use Rattle.rkt_serve.specs.Clock.{ClockMeaning}
 use Rattle.rkt_serve.specs.Link.{LinkMeaning}
@@ -12,21 +13,33 @@ use Rattle.rkt_serve.specs.Listener.{ListenerMeaning}
 
 pub record LinkInMemory : Type 0 where
   pub head : Head
+  -- the bytes of the body
+  pub body : List ℕ
+  pub source_taken : Bool
   -- the pieces that it has taken
   pub held : List Piece
 
 abbrev pub asked_of : LinkInMemory → Asked
-asked_of link = record { head = link.head; never_faults = true }
+asked_of link = record { head = link.head; body = Some link.body; body_never_faults = true; never_faults = true }
 
 -- a link in memory tells all, and never fails
 abbrev pub link_meaning : LinkInMemory → LinkMeaning
-link_meaning link = record { asked = Some (asked_of link); held = Some link.held; faults = 0; never_faults = true }
+link_meaning link = record { asked = Some (asked_of link); source_taken = link.source_taken; held = Some link.held; faults = 0; never_faults = true }
 
 pub says_so : (link : LinkInMemory) (asked : Asked) → (link_meaning link).asked ≡ Some asked → asked.never_faults ≡ (link_meaning link).never_faults
 says_so link asked told = ap (λ (o : Option Asked). option_map_or (λ a. a.never_faults) o true) (sym told)
 
-abbrev pub HoldsNothing : LinkInMemory → Type 0
-HoldsNothing link = link.held ≡ []
+-- nothing was taken from it and sent to it
+abbrev pub IsUnused : LinkInMemory → Type 0
+IsUnused link = (link.source_taken ≡ false) × (link.held ≡ [])
+
+-- a source of the whole body, which gives all that it is asked for
+abbrev pub whole_source : List ℕ → SourceInMemory
+whole_source bytes = record { bytes = bytes; at = 0; chunk = max (length bytes) 1; fails = []; calls = 0; faults = 0 }
+
+-- the source of the body stands by, untouched, until it is taken
+abbrev pub StandsBy : Option SourceInMemory → List ℕ → Type 0
+StandsBy source bytes = IfSome source (λ s. s ≡ whole_source bytes)
 
 pub record ListenerInMemory : Type 0 where
   -- all its links, as they were at first
@@ -47,7 +60,7 @@ pub record IsListenerInMemory (left offered : List LinkInMemory) (given : ℕ) (
   pub within : given ≤ length offered
   pub left_is : left ≡ drop given offered
   pub over : ended ≡ true → length offered ≤ given
-  pub fresh : AllByRecursion HoldsNothing offered
+  pub fresh : AllByRecursion IsUnused offered
 
 pub record ClockInMemory : Type 0 where
   pub moments : List ℕ

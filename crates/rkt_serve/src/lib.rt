@@ -4,6 +4,7 @@
 mod boxed;
 mod clock;
 mod error;
+mod exchanging;
 mod history;
 mod launch;
 mod link;

@@ -1,11 +1,12 @@
 //! One connection with one request.
-ghost use Rattle.std.specs.Prelude.{◌≡◌};
+ghost use Rattle.std.specs.Prelude.{◌≡◌, ◌↔◌, false, IfSome, IsSome};
 ghost use Rattle.std.specs.Option.{ForSome};
 ghost use Rattle.rkt_base.specs.declared.poll.Poll.{Poll};
-ghost use Rattle.rkt_serve.specs.Link.{LinkMeaning, after_send, after_hand, ComesBack};
+ghost use Rattle.rkt_serve.specs.Asked.{GivesBody, IsUntouched};
+ghost use Rattle.rkt_serve.specs.Link.{LinkMeaning, with_source_taken, after_send, after_hand, ComesBack};
 
 use rkt_base::Poll;
-use rkt_data::Shut;
+use rkt_data::{Shut, Source};
 use rkt_message::Piece;
 use rkt_request::Head;
 
@@ -28,12 +29,22 @@ pub enum Handed {
 
 /// Where a request comes from, and where the pieces of its response go.
 pub trait Link: Shut {
+    /// What gives the body of its request.
+    type Source: Source;
+
     /// What contracts see of a link.
     ghost meaning: { Self → LinkMeaning };
 
     /// The head of its request.
     fn head(&self) -> &Head
         ensures { ForSome (meaning self.now).asked (λ asked. asked.head ≡ result.now) };
+
+    /// The source of the body, which can be taken once.
+    fn take_source(&mut self) -> Option<Self::Source>
+        ensures once { IsSome result ↔ ((meaning self.old).source_taken ≡ false) }
+        ensures link { meaning self.new ≡ with_source_taken (meaning self.old) }
+        ensures untouched { IfSome result (λ source. IsUntouched (Self.Source.meaning source)) }
+        ensures body { IfSome result (λ source. ForSome (meaning self.old).asked (λ asked. GivesBody asked (Self.Source.meaning source))) };
 
     /// Takes a piece of the response.
     fn poll_send(&mut self, piece: &Piece) -> Poll<Result<(), SendError>>

@@ -2,7 +2,7 @@
 ghost use Rattle.std.specs.Prelude.{◌≡◌, [], false, List, IfOk, vec_len};
 ghost use Rattle.std.specs.List.{AllByRecursion};
 ghost use Rattle.rkt_serve.specs.Listener.{IsFresh};
-ghost use Rattle.rkt_serve.specs.Memory.{HoldsNothing, listener_meaning};
+ghost use Rattle.rkt_serve.specs.Memory.{IsUnused, listener_meaning};
 
 use crate::{Accepted, Listener, MemoryLink};
 use rkt_base::{NoMemory, Poll};
@@ -40,7 +40,7 @@ impl ListListener {
         links: Vec<MemoryLink>,
         pends: Vec<u64>,
     ) -> Result<ListListener, NoMemory>
-        requires fresh { AllByRecursion HoldsNothing links.items }
+        requires fresh { AllByRecursion IsUnused links.items }
         ensures fresh { IfOk result (λ l. IsFresh (listener_meaning l)) }
         ensures made { IfOk result (λ l. l ≡ record { offered = links.items; given = 0; ended = false; pends = pends.items; polls = 0 }) }
     {

@@ -1,16 +1,16 @@
 //! A link in memory.
-ghost use Rattle.std.specs.Prelude.{◌≡◌, ◌++◌, ◌∷◌, [], List, IfOk, OnOk, OnErr};
+ghost use Rattle.std.specs.Prelude.{◌≡◌, ◌++◌, ◌∷◌, [], false, List, IfOk, OnOk, OnErr};
 
 use crate::{Handed, Link, SendError};
 use rkt_base::{NoMemory, Poll};
-use rkt_data::Shut;
+use rkt_data::{MemorySource, Shut};
 use rkt_message::Piece;
 use rkt_request::Head;
 use std::alloc::Global;
 use std::marker::Model;
 
-/// A link that keeps what it asks, and the pieces that it takes. It is moved from hand to hand, so all this is on the
-/// heap.
+/// A link that keeps what it asks, and the pieces that it takes. It keeps the bytes of the body beside their source. It is
+/// moved from hand to hand, so all this is on the heap.
 #[derive(Debug, Drop)]
 pub struct MemoryLink {
     kept: Box<Kept>,
@@ -20,15 +20,20 @@ pub struct MemoryLink {
 #[derive(Debug, Drop)]
 struct Kept {
     head: Head,
+    body: Vec<u8>,
+    source: Option<MemorySource>,
     held: Vec<Piece>,
 }
 
 impl Model for MemoryLink {
-    ghost use Rattle.rkt_serve.specs.Memory.{LinkInMemory};
+    ghost use Rattle.std.specs.Prelude.{is_none};
+    ghost use Rattle.rkt_serve.specs.Memory.{LinkInMemory, StandsBy};
 
     ghost Value = { LinkInMemory };
 
-    ghost view = { λ k. record { head = k.kept.value.head; held = k.kept.value.held.items } };
+    ghost view = { λ k. record { head = k.kept.value.head; body = k.kept.value.body.items; source_taken = is_none k.kept.value.source; held = k.kept.value.held.items } };
+
+    ghost invariant = { λ k. StandsBy k.kept.value.source k.kept.value.body.items };
 }
 
 // How many pieces most responses are sent as: the head, a chunk and the end.
@@ -47,13 +52,28 @@ fn hold(held: &mut Vec<Piece>, piece: Piece) -> Result<(), NoMemory>
 }
 
 impl MemoryLink {
-    /// A link that asks this and has taken nothing.
-    pub fn new(alloc: Global, head: Head) -> Result<MemoryLink, NoMemory>
-        ensures { IfOk result (λ link. link ≡ record { head = head; held = [] }) }
+    /// A link that asks this, with these bytes as the body, and has taken nothing.
+    pub fn new(alloc: Global, head: Head, bytes: Vec<u8>) -> Result<MemoryLink, NoMemory>
+        ensures { IfOk result (λ link. link ≡ record { head = head; body = bytes.items; source_taken = false; held = [] }) }
     {
-        let held = Vec::new(alloc);
-        let kept = Box::new(alloc, Kept { head, held })?;
+        let source = MemorySource::new(bytes.clone()?, bytes.len(), Vec::new(alloc));
+        let kept = Box::new(
+            alloc,
+            Kept {
+                head,
+                body: bytes,
+                source: Some(source),
+                held: Vec::new(alloc),
+            },
+        )?;
         Ok(MemoryLink { kept, alloc })
+    }
+
+    /// The bytes of the body.
+    pub fn body(&self) -> &[u8]
+        ensures { result.now ≡ self.now.body }
+    {
+        self.kept.body.as_slice()
     }
 
     /// The pieces that it has taken.
@@ -78,10 +98,16 @@ impl Link for MemoryLink {
     ghost use Rattle.std.proofs.Common.{ap};
     ghost use Rattle.rkt_serve.specs.Memory.{link_meaning, says_so};
 
+    type Source = MemorySource;
+
     ghost meaning = { link_meaning };
 
     fn head(&self) -> &Head {
         &self.kept.head
+    }
+
+    fn take_source(&mut self) -> Option<MemorySource> {
+        self.kept.source.take()
     }
 
     fn poll_send(&mut self, piece: &Piece) -> Poll<Result<(), SendError>> {

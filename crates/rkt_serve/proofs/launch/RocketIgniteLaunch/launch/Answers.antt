@@ -1,28 +1,27 @@
-use Rattle.std.proofs.Common.{◌∙◌, sym, ap, subst}
+use Rattle.std.proofs.Common.{◌≡◌, ◌∙◌, refl, sym, ap, subst}
 use Rattle.rkt_turn.specs.HandsBack.{HandsBack}
-use Rattle.rkt_serve.specs.Clock.{IsWithin}
-use Rattle.rkt_serve.specs.Headline.{IsLegal}
+use Rattle.rkt_serve.specs.Clock.{ClockMeaning, IsWithin}
+use Rattle.rkt_serve.specs.Events.{admitted}
+use Rattle.rkt_serve.specs.Headline.{Balanced, IsLegal}
+use Rattle.rkt_serve.specs.Serving.{serving}
 use Rattle.rkt_serve.proofs.Balance.{balanced_lift, legal_closed}
 use Rattle.rkt_serve.proofs.Handles.{rejoined}
 use Rattle.rkt_serve.proofs.launch.RocketIgniteLaunch.launch.Goals as goal
 
-pub serve_all-shutdown-requires-clause-balanced : goal.serve_all-shutdown-requires-clause-balanced
-serve_all-shutdown-requires-clause-balanced g c =
-    let lifted = rw (c.in-Ok-with_capacity.ensures.items, c.new-2.ensures) at c.enter.ensures.items in
-    rw lifted (balanced_lift g.A.Handler.Handler.may c.into_parts-tables.result.0 g.A.Stream.Source.meaning g.L.Link.Link.meaning (g.L.Listener.meaning c.args.listener).given (g.C.Clock.meaning c.args.clock).window
-    (g.C.Clock.meaning c.args.clock).last c.requires.fresh.none_given)
-
 pub returns-in-Ok-served : goal.returns-in-Ok-served
 returns-in-Ok-served g c =
-    let may = g.A.Handler.Handler.may in
-    let stream = g.A.Stream.Source.meaning in
-    let meaning = g.L.Link.Link.meaning in
-    let given = (g.L.Listener.meaning c.serve_all-shutdown.new.listener).given in
     let window = (g.C.Clock.meaning c.args.clock).window in
-    let within = subst (λ w. IsWithin w c.now-moment.result) c.serve_all-shutdown.ensures.window c.now-moment.ensures.window in
-    let closed = legal_closed may c.into_parts-tables.result.0 stream meaning given window _ c.now-moment.result c.serve_all-shutdown.new.events.items c.serve_all-shutdown.ensures.balanced c.now-moment.ensures.rises within in
-    let legal = subst (λ ts. IsLegal may ts stream meaning given window c.from_vec.result) (sym (ap (λ r. r.tables) c.from_parts.ensures))
-    (subst (λ es. IsLegal may c.into_parts-tables.result.0 stream meaning given window es) (sym (c.from_vec.ensures ∙ c.enter-2.ensures.items)) closed) in
+    let served = serving g.A-Handler-Handler.calling g.A.Catch.CatchHandler.calling g.A.Source.Source.meaning g.A.Stream.Source.meaning g.L.Link.Link.meaning window in
+    let tables = c.into_parts-tables.result.0 in
+    let given = (g.L.Listener.meaning c.serve_all-shutdown.new.listener).given in
+    let lifted = rw (c.in-Ok-with_capacity.ensures.items, c.new-2.ensures) at c.enter.ensures.items in
+    let none : admitted c.enter.new.list.items ≡ 0 = rw lifted refl in
+    let begun : Balanced served tables (g.L.Listener.meaning c.args.listener).given (g.C.Clock.meaning c.args.clock).last c.enter.new.list.items =
+    rw lifted (balanced_lift served tables (g.L.Listener.meaning c.args.listener).given (g.C.Clock.meaning c.args.clock).last c.requires.fresh.none_given) in
+    let within = subst (λ w. IsWithin w c.now-moment.result) c.serve_all-shutdown.ensures.clock.window c.now-moment.ensures.window in
+    let closed = legal_closed served tables given _ c.now-moment.result c.serve_all-shutdown.new.events.items (c.serve_all-shutdown.ensures.balanced none begun) c.now-moment.ensures.rises within in
+    let legal = subst (λ ts. IsLegal served ts given c.from_vec.result) (sym (ap (λ r. r.tables) c.from_parts.ensures))
+    (subst (λ es. IsLegal served tables given es) (sym (c.from_vec.ensures ∙ c.enter-2.ensures.items)) closed) in
     let back = rejoined c.args.self.handle c.split.new.self c.rejoin.new.self c.serve_all-shutdown.result.0 (c.split.ensures.same ∙ c.into_parts-tables.ensures.handle) c.rejoin.ensures.wire c.rejoin.ensures.looked c.rejoin.ensures.again in
     record {
       tables = ap (λ r. r.tables) c.from_parts.ensures ∙ c.into_parts-tables.ensures.tables;
@@ -37,10 +36,13 @@ returns-in-Ok-served g c =
       ends = legal.once;
       entries = legal.entries;
       moments = legal.timed;
+      callers = legal.callers;
+      window = ap (λ (m : ClockMeaning). m.window) c.now-moment.ensures.last ∙ c.serve_all-shutdown.ensures.clock.window;
       kept_tables = tt;
       kept_handle = tt;
       kept_legal = tt;
       kept_sound = tt;
+      kept_window = tt;
     }
 
 pub returns-in-Err-clause-kept_tables : goal.returns-in-Err-clause-kept_tables
@@ -54,15 +56,21 @@ returns-in-Err-clause-kept_handle g c =
 pub returns-in-Err-clause-kept_sound : goal.returns-in-Err-clause-kept_sound
 returns-in-Err-clause-kept_sound g c = rw c.new-in-Err.ensures (c.serve_all-shutdown.ensures.sound ∙ c.requires.fresh.no_fault)
 
+pub returns-in-Err-clause-kept_window : goal.returns-in-Err-clause-kept_window
+returns-in-Err-clause-kept_window g c = rw c.new-in-Err.ensures (ap (λ (m : ClockMeaning). m.window) c.now-moment.ensures.last ∙ c.serve_all-shutdown.ensures.clock.window)
+
 pub returns-in-Err-clause-kept_legal : goal.returns-in-Err-clause-kept_legal
 returns-in-Err-clause-kept_legal g c =
-    let may = g.A.Handler.Handler.may in
-    let stream = g.A.Stream.Source.meaning in
-    let meaning = g.L.Link.Link.meaning in
-    let given = (g.L.Listener.meaning c.serve_all-shutdown.new.listener).given in
     let window = (g.C.Clock.meaning c.args.clock).window in
-    let within = subst (λ w. IsWithin w c.now-moment.result) c.serve_all-shutdown.ensures.window c.now-moment.ensures.window in
-    let closed = legal_closed may c.into_parts-tables.result.0 stream meaning given window _ c.now-moment.result c.serve_all-shutdown.new.events.items c.serve_all-shutdown.ensures.balanced c.now-moment.ensures.rises within in
-    let legal = subst (λ ts. IsLegal may ts stream meaning given window c.from_vec.result) (sym (ap (λ r. r.tables) c.from_parts.ensures))
-    (subst (λ es. IsLegal may c.into_parts-tables.result.0 stream meaning given window es) (sym (c.from_vec.ensures ∙ c.enter-2.ensures.items)) closed) in
+    let served = serving g.A-Handler-Handler.calling g.A.Catch.CatchHandler.calling g.A.Source.Source.meaning g.A.Stream.Source.meaning g.L.Link.Link.meaning window in
+    let tables = c.into_parts-tables.result.0 in
+    let given = (g.L.Listener.meaning c.serve_all-shutdown.new.listener).given in
+    let lifted = rw (c.in-Ok-with_capacity.ensures.items, c.new-2.ensures) at c.enter.ensures.items in
+    let none : admitted c.enter.new.list.items ≡ 0 = rw lifted refl in
+    let begun : Balanced served tables (g.L.Listener.meaning c.args.listener).given (g.C.Clock.meaning c.args.clock).last c.enter.new.list.items =
+    rw lifted (balanced_lift served tables (g.L.Listener.meaning c.args.listener).given (g.C.Clock.meaning c.args.clock).last c.requires.fresh.none_given) in
+    let within = subst (λ w. IsWithin w c.now-moment.result) c.serve_all-shutdown.ensures.clock.window c.now-moment.ensures.window in
+    let closed = legal_closed served tables given _ c.now-moment.result c.serve_all-shutdown.new.events.items (c.serve_all-shutdown.ensures.balanced none begun) c.now-moment.ensures.rises within in
+    let legal = subst (λ ts. IsLegal served ts given c.from_vec.result) (sym (ap (λ r. r.tables) c.from_parts.ensures))
+    (subst (λ es. IsLegal served tables given es) (sym (c.from_vec.ensures ∙ c.enter-2.ensures.items)) closed) in
     rw c.new-in-Err.ensures legal

@@ -1,8 +1,18 @@
-use Rattle.std.proofs.Common.{sym, subst}
-use Rattle.rkt_request.specs.declared.head.Head.{Head}
-use Rattle.rkt_life.specs.Lifecycle.{Lifecycle}
+use Rattle.std.proofs.Common.{ap, sym, subst, ◌∙◌}
+use Rattle.rkt_serve.specs.Clock.{IsWithin}
+use Rattle.rkt_serve.specs.Link.{LinkMeaning}
 use Rattle.rkt_serve.proofs.working.Worker.serve.Goals as goal
 
-pub answer-requires-clause-lifecycle : goal.answer-requires-clause-lifecycle
-answer-requires-clause-lifecycle g c asked told =
-    subst (λ (h : Head). Lifecycle g.A.Handler.Handler.may c.args.self.now.tables.now h c.in-Finished.run' c.in-Finished.response) (sym (c.head.ensures asked told)) c.in-Finished.ensures.lifecycle
+pub returns-in-Finished-clause-caused : goal.returns-in-Finished-clause-caused
+returns-in-Finished-clause-caused g c fresh =
+    let taken = c.in-Some.ensures in
+    let asks = sym (ap (λ (m : LinkMeaning). m.asked) taken.link) in
+    let holds = sym (ap (λ (m : LinkMeaning). m.held) taken.link) in
+    c.answer.ensures.caused (g.C.Clock.meaning c.args.clock.now).window (λ held told. fresh.none_held held (holds ∙ told))
+    (λ asked told. c.in-Finished.ensures.lifecycle asked (c.head.ensures asked told) taken.untouched (taken.body asked (asks ∙ told)))
+
+pub returns-in-Finished-clause-moment : goal.returns-in-Finished-clause-moment
+returns-in-Finished-clause-moment g c x told =
+    let same = c.answer.ensures.moment x told in
+    let moment = c.in-Finished.ensures.moment in
+    (same ∙ moment.0, subst (λ m. IsWithin (g.C.Clock.meaning c.args.clock.now).window m) (sym same) moment.1)
