@@ -1,37 +1,39 @@
--- The sample has one answer to each request, and one text for it.
-use Rattle.std.proofs.Common.{◌≡◌, ◌++◌, ◌&&◌, ℕ, List, [], ◌∷◌, Bool, true, false, Option, Some, None, is_some, unwrap_or, if◌then◌else◌, codes, map, flat_map, refl, ap, ◌∙◌, sym, subst, append-nil, nat_eq}
-use Rattle.std.specs.Cmp.Lexicographic.{pointwise}
+-- The sample has one answer to each request that the program serves, and one text for it.
+use Rattle.std.proofs.Common.{◌≡◌, ◌++◌, ◌&&◌, inl, inr, ℕ, List, [], ◌∷◌, Bool, true, false, Option, Some, None, is_some, unwrap_or, if◌then◌else◌, codes, map, flat_map, refl, ap, ◌∙◌, sym, subst, append-nil}
 use Rattle.std.specs.List.{concat}
+use Rattle.std.specs.Option.{ForSome}
 use Rattle.std.proofs.lemmas.Bool.{false≢true}
 use Rattle.std.proofs.lemmas.Option.{none-some}
+use Rattle.rkt_config.specs.declared.config.Config.{Config}
+use Rattle.rkt_cookie.specs.Jar.{JarParts}
+use Rattle.rkt_exchange.specs.Dressed.{with_body_rule}
+use Rattle.rkt_exchange.specs.Lifecycle.{is_head}
 use Rattle.rkt_http.specs.DefaultPage.{html_page}
-use Rattle.rkt_http.specs.Method.{method_of}
-use Rattle.rkt_uri.specs.Origin.{Target, Spells, SaysWhatItSpells, target_of, segments_of}
-use Rattle.rkt_http.specs.declared.method.Method.{Method}
-use Rattle.rkt_uri.specs.declared.origin_place.Profile.TheVariants.{Request}
-use Rattle.rkt_request.specs.Incoming.{faults_of, headers_of, root}
-use Rattle.rkt_media.specs.Accept.{Weighed}
 use Rattle.rkt_http.specs.Headers.{Group}
+use Rattle.rkt_http.specs.Method.{method_of}
+use Rattle.rkt_http.specs.declared.method.Method.{Method}
+use Rattle.rkt_http.specs.declared.method.Method.TheVariants.{Get}
+use Rattle.rkt_media.specs.Accept.{Weighed}
 use Rattle.rkt_media.specs.Media.{Media, is_kind}
-use Rattle.rkt_request.specs.Seen.{Seen, ReadAs, IsAccepted}
-use Rattle.rkt_request.specs.declared.bad.Bad.{Bad}
-use Rattle.rkt_request.specs.declared.head.Head.{Head}
-use Rattle.rkt_life.specs.Lifecycle.{Outcome, Success, Forward, Lifecycle, Responds, Served, Tried, Finished}
-use Rattle.rkt_life.specs.Response.{text_page}
-use Rattle.rkt_router.specs.Page.{typed, page_of, IsDefaultPage, PrefersJson}
-use Rattle.rkt_life.specs.Rocket.{SeenTables}
-use Rattle.rkt_life.specs.Routes.{matches, tries}
-use Rattle.rkt_life.specs.declared.run.Call.{Call}
-use Rattle.rkt_life.specs.declared.run.RunOf.{RunOf}
-use Rattle.rkt_source.specs.Memory.{SourceInMemory, source_meaning}
 use Rattle.rkt_message.specs.Response.{ResponseOf}
 use Rattle.rkt_message.specs.Sent.{Sent, head_of}
 use Rattle.rkt_message.specs.declared.piece.Piece.{Piece}
 use Rattle.rkt_message.specs.declared.piece.Piece.TheVariants.{Chunk, End}
+use Rattle.rkt_request.specs.Incoming.{IsIncoming, faults_of, headers_of, root}
+use Rattle.rkt_request.specs.Seen.{Seen, ReadAs, IsAccepted}
+use Rattle.rkt_request.specs.declared.bad.Bad.{Bad}
+use Rattle.rkt_request.specs.declared.head.Head.{Head}
+use Rattle.rkt_router.specs.Page.{typed, page_of, IsDefaultPage, PrefersJson}
+use Rattle.rkt_source.specs.Memory.{SourceInMemory, source_meaning}
+use Rattle.rkt_uri.specs.Origin.{Target, Spells, SaysWhatItSpells, target_of}
+use Rattle.rkt_uri.specs.declared.origin_place.Profile.TheVariants.{Request}
+use Rattle.rkt_demo.proofs.Exchanges.{Answers, Finds, Meets}
+use Rattle.rkt_demo.proofs.Origins.{is_origin-read, second_of_both}
+use Rattle.rkt_demo.proofs.PageRoute.{is_page, page_matches}
 use Rattle.rkt_demo.specs.Output.{head_text, body_bytes, sent_section}
-use Rattle.rkt_demo.proofs.Origins.{is_origin-read}
 use Rattle.rkt_demo.specs.Printed.{asks_page, is_good, page_section, typed_section, printed_section}
-use Rattle.rkt_demo.specs.Sample.{page_may, page_target, IsSample}
+use Rattle.rkt_demo.specs.Sample.{hello}
+use Rattle.rkt_demo.specs.Script.{IsServed}
 use Rattle.rkt_demo.specs.declared.sample.Page.{Page}
 
 abbrev Response : Type 0
@@ -74,8 +76,8 @@ page_without_headers code request response none is =
     is.2 ∙ ap (λ (b : Bool). page_of b code) json
 
 -- whether the head is good, and whether it asks for the page
-abbrev sample_response : Bool → Bool → Response
-sample_response true true = text_page (codes "hello")
+abbrev pub sample_response : Bool → Bool → Response
+sample_response true true = hello
 sample_response true false = page 404
 sample_response false _ = page 400
 
@@ -85,71 +87,67 @@ section_by_tests true true k pieces sent = section_of_typed k 200 (codes "text/p
 section_by_tests true false k pieces sent = section_of_typed k 404 (codes "text/html; charset=utf-8") (html_page 404) pieces sent
 section_by_tests false _ k pieces sent = section_of_typed k 400 (codes "text/html; charset=utf-8") (html_page 400) pieces sent
 
-module _ {V : Type 0} (tables : SeenTables Page V) where
-  finished_as : (request : Seen V) (outcome expected : Outcome SourceInMemory) (response : Response) → outcome ≡ expected → Finished page_may tables request outcome response → Finished page_may tables request expected response
-  finished_as request outcome expected response is finished = subst (λ (o : Outcome SourceInMemory). Finished page_may tables request o response) is finished
+-- the body rule leaves what answers a GET request as it is
+unruled : (asks : Bool) → with_body_rule false (sample_response true asks) ≡ sample_response true asks
+unruled true = refl
+unruled false = refl
 
-  -- by whether the one route matches
-  by_match : (asks : Bool) (one : Page) (request : Seen V) (calls : List Call) (outcome : Outcome SourceInMemory) (response : Response) → request.headers ≡ [] → tables.routes ≡ (page_target, one) ∷ []
-      → Tried page_may tables (if asks then 0 ∷ [] else []) request calls outcome → Finished page_may tables request outcome response → response ≡ sample_response true asks
-  by_match true one request calls outcome response none routes tried finished =
-      let text : tried.0 ≡ codes "hello" = tried.1.2 in
-      finished_as request outcome (Success (text_page tried.0)) response tried.3 finished ∙ ap text_page text
-  by_match false one request calls outcome response none routes tried finished =
-      page_without_headers 404 request response none (finished_as request outcome (Forward 404) response tried.1 finished)
+module _ {V : Type 0} (one : Page) (request : Seen V) (get : request.method ≡ Get) (none : request.headers ≡ []) where
+  not_head : is_head request.method ≡ false
+  not_head = ap is_head get
 
-  -- a request for an origin is tried on the one route where it asks for the page
-  tries_page : (one : Page) (request : Seen V) → tables.routes ≡ (page_target, one) ∷ [] → tries tables.routes request ≡ (if matches page_target request then 0 ∷ [] else [])
-  tries_page one request routes = ap (λ (rs : List (Target × Page)). tries rs request) routes
+  not_met : is_page request.uri ≡ false → Meets one request → ⊥
+  not_met other (inl matching) = false≢true (sym other ∙ ((page_matches one request).0 matching).1)
+  not_met other (inr again) = false≢true (sym not_head ∙ again.0)
 
-  served_as : (asks : Bool) (one : Page) (request : Seen V) (calls : List Call) (response : Response) → request.headers ≡ [] → tables.routes ≡ (page_target, one) ∷ [] → matches page_target request ≡ asks
-      → Served page_may tables request calls response → response ≡ sample_response true asks
-  served_as asks one request calls response none routes test served =
-      let tried = tries_page one request routes ∙ ap (λ (t : Bool). if t then 0 ∷ [] else []) test in
-      by_match asks one request calls served.0 response none routes (subst (λ (ks : List ℕ). Tried page_may tables ks request calls served.0) tried served.1) served.2
+  found_as : (asks : Bool) (found : Response) → is_page request.uri ≡ asks → Finds one request found → found ≡ sample_response true asks
+  found_as true found asks (inl met) = met.1
+  found_as true found asks (inr other) = absurd (other.0 (inl ((page_matches one request).1 (get, asks))))
+  found_as false found asks (inl met) = absurd (not_met asks met.0)
+  found_as false found asks (inr other) = page_without_headers 404 request found none other.1
+
+  answered_as : (asks : Bool) (response : Response) → is_page request.uri ≡ asks → Answers one [] request response → response ≡ sample_response true asks
+  answered_as asks response is answers =
+      answers.2 ∙ ap (λ (head : Bool). with_body_rule head answers.0) not_head ∙ ap (with_body_rule false) (found_as asks answers.0 is answers.1) ∙ unruled asks
 
   -- a head without faults is served, and any other is answered by the page of 400
-  responds_good : (method : Option Method) (target : Option Target) (request : Seen V) (calls : List Call) (response : Response) → (is_some method && is_some target) ≡ true
-      → Responds page_may tables (faults_of method target) request calls response → Served page_may tables request calls response
-  responds_good None target request calls response good responds = absurd (false≢true good)
-  responds_good (Some m) None request calls response good responds = absurd (false≢true good)
-  responds_good (Some m) (Some t) request calls response good responds = responds
+  good_answers : (method : Option Method) (target : Option Target) (response : Response) → (is_some method && is_some target) ≡ true → Answers one (faults_of method target) request response → Answers one [] request response
+  good_answers None target response good answers = absurd (false≢true good)
+  good_answers (Some m) None response good answers = absurd (false≢true good)
+  good_answers (Some m) (Some t) response good answers = answers
 
-  responds_bad : (method : Option Method) (target : Option Target) (request : Seen V) (calls : List Call) (response : Response) → request.headers ≡ [] → (is_some method && is_some target) ≡ false
-      → Responds page_may tables (faults_of method target) request calls response → response ≡ page 400
-  responds_bad None None request calls response none bad responds = page_without_headers 400 request response none responds.1
-  responds_bad None (Some t) request calls response none bad responds = page_without_headers 400 request response none responds.1
-  responds_bad (Some m) None request calls response none bad responds = page_without_headers 400 request response none responds.1
-  responds_bad (Some m) (Some t) request calls response none bad responds = absurd (false≢true (sym bad))
+  bad_answers : (method : Option Method) (target : Option Target) (response : Response) → (is_some method && is_some target) ≡ false → Answers one (faults_of method target) request response → response ≡ page 400
+  bad_answers None None response bad answers = page_without_headers 400 request response none answers
+  bad_answers None (Some t) response bad answers = page_without_headers 400 request response none answers
+  bad_answers (Some m) None response bad answers = page_without_headers 400 request response none answers
+  bad_answers (Some m) (Some t) response bad answers = absurd (false≢true (sym bad))
 
   -- the request asks for what the target of its head says
-  asks_as : SaysWhatItSpells → (head : Head) (target : Option Target) (uri : Target) → is_some target ≡ true → ReadAs (Spells Request) head.target target → uri ≡ unwrap_or target root → target_of head.target ≡ uri
-  asks_as says head None uri some read is = absurd (false≢true some)
-  asks_as says head (Some t) uri some read is = says Request head.target t read ∙ sym is
+  asks_as : SaysWhatItSpells → (head : Head) (target : Option Target) → is_some target ≡ true → ReadAs (Spells Request) head.target target → request.uri ≡ unwrap_or target root → target_of head.target ≡ request.uri
+  asks_as says head None some read is = absurd (false≢true some)
+  asks_as says head (Some t) some read is = says Request head.target t read ∙ sym is
 
-  by_good : SaysWhatItSpells → (good : Bool) (head : Head) (one : Page) (method : Option Method) (target : Option Target) (request : Seen V) (calls : List Call) (response : Response)
-      → request.headers ≡ [] → tables.routes ≡ (page_target, one) ∷ [] → (is_some method && is_some target) ≡ good → ReadAs (Spells Request) head.target target → request.uri ≡ unwrap_or target root
-      → Responds page_may tables (faults_of method target) request calls response → response ≡ sample_response good (asks_page head)
-  by_good says true head one method target request calls response none routes good read uri responds =
-      let said : target_of head.target ≡ request.uri = asks_as says head target request.uri (both (is_some method) (is_some target) good) read uri in
-      let test : matches page_target request ≡ asks_page head = ap (λ (t : Target). pointwise (pointwise nat_eq) (segments_of page_target) (segments_of t)) (sym said) in
-      served_as (asks_page head) one request calls response none routes test (responds_good method target request calls response good responds)
-    where
-      both : (a b : Bool) → (a && b) ≡ true → b ≡ true
-      both true b e = e
-      both false b e = absurd (false≢true e)
-  by_good says false head one method target request calls response none routes bad read uri responds = responds_bad method target request calls response none bad responds
+  by_good : SaysWhatItSpells → (good : Bool) (head : Head) (method : Option Method) (target : Option Target) (response : Response) → (is_some method && is_some target) ≡ good
+      → ReadAs (Spells Request) head.target target → request.uri ≡ unwrap_or target root → Answers one (faults_of method target) request response → response ≡ sample_response good (asks_page head)
+  by_good says true head method target response good read uri answers =
+      let said : target_of head.target ≡ request.uri = asks_as says head target (second_of_both (is_some method) (is_some target) good) read uri in
+      answered_as (asks_page head) response (ap is_page (sym said)) (good_answers method target response good answers)
+  by_good says false head method target response bad read uri answers = bad_answers method target response bad answers
 
-one_response : SaysWhatItSpells → (head : Head) (tables : SeenTables Page ℕ) (run : RunOf ℕ) (response : Response) → head.headers ≡ [] → IsSample tables → Lifecycle page_may tables head run response
-    → response ≡ sample_response (is_good head) (asks_page head)
-one_response says head tables run response none sample life =
-    let came = life.incoming in
+-- a method that is served is GET, and what nothing knows is taken for it
+served_get : (method : Option Method) → ForSome method (λ m. m ≡ Get) → unwrap_or method Get ≡ Get
+served_get None served = refl
+served_get (Some m) served = served m refl
+
+-- a head without headers, with a method that is served, has one response
+pub one_response : {V : Type 0} → SaysWhatItSpells → (head : Head) (config : Config) (managed : List (ℕ × V)) (one : Page) (request : Seen V) (jar : JarParts) (faults : List Bad) (response : Response)
+    → head.headers ≡ [] → IsServed head.method → IsIncoming head config managed request jar faults → Answers one faults request response → response ≡ sample_response (is_good head) (asks_page head)
+one_response says head config managed one request jar faults response none served came answers =
     let good : (is_some (method_of head.method) && is_some came.target) ≡ is_good head = ap (λ (t : Bool). is_some (method_of head.method) && t) (sym (is_origin-read says head.target came.target came.target_read)) in
-    let responds = subst (λ (fs : List Bad). Responds page_may tables fs life.request run.calls response) came.faults_are life.leads.answered in
-    by_good tables says (is_good head) head sample.page (method_of head.method) came.target life.request run.calls response (came.headers ∙ ap headers_of none) sample.routes good came.target_read came.uri responds
+    by_good one request (came.method ∙ served_get (method_of head.method) served) (came.headers ∙ ap headers_of none) says (is_good head) head (method_of head.method) came.target response good came.target_read came.uri
+    (subst (λ (fs : List Bad). Answers one fs request response) came.faults_are answers)
 
-pub one_section : SaysWhatItSpells → (k : ℕ) (tables : SeenTables Page ℕ) (head : Head) (run : RunOf ℕ) (response : Response) (pieces : List Piece) → head.headers ≡ [] → IsSample tables
-    → Lifecycle page_may tables head run response → Sent source_meaning response pieces → sent_section k pieces ≡ printed_section k head
+pub one_section : (k : ℕ) (head : Head) (response : Response) (pieces : List Piece) → response ≡ sample_response (is_good head) (asks_page head) → Sent source_meaning response pieces
+    → sent_section k pieces ≡ printed_section k head
 unfolding printed_section
-one_section says k tables head run response pieces none sample life sent =
-    section_by_tests (is_good head) (asks_page head) k pieces (subst (λ (r : Response). Sent source_meaning r pieces) (one_response says head tables run response none sample life) sent)
+one_section k head response pieces is sent = section_by_tests (is_good head) (asks_page head) k pieces (subst (λ (r : Response). Sent source_meaning r pieces) is sent)

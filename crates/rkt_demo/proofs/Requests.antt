@@ -26,6 +26,10 @@ space_below b is = grind (arith, nat_tests)
 all_of_word : (test : ℕ → Bool) (word : List ℕ) → is_word test word ≡ true → list_all test word ≡ true
 all_of_word test word is = second_of_both (not (length word == 0)) (list_all test word) is
 
+-- visible characters are text
+pub IsUtf8-visible : (word : List ℕ) → list_all is_visible word ≡ true → IsUtf8 word
+IsUtf8-visible word all = IsUtf8-from_ascii word (ascii_of_all is_visible visible_below word all)
+
 pub IsUtf8-request : (content method target : List ℕ) → IsRequest content method target → IsUtf8 content
 IsUtf8-request content method target request =
     let letters = ascii_of_all is_capital capital_below method (all_of_word is_capital method request.letters) in

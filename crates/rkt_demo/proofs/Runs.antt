@@ -6,7 +6,8 @@ use Rattle.rkt_source.specs.Source.{Meaning}
 use Rattle.rkt_uri.specs.Origin.{SaysWhatItSpells}
 use Rattle.rkt_request.specs.declared.head.Head.{Head}
 use Rattle.rkt_demo.proofs.Cuts.{bad_front, good_front}
-use Rattle.rkt_demo.proofs.Prints.{none_in_lines, printed_but_starved}
+use Rattle.rkt_demo.proofs.Plain.{plain_in_lines}
+use Rattle.rkt_demo.proofs.Prints.{printed_but_starved}
 use Rattle.rkt_demo.specs.Printed.{printed_but}
 use Rattle.rkt_demo.specs.Program.{IsScript, IsGoodScript}
 use Rattle.rkt_demo.specs.Script.{lines_of, AreGood, IsFirstBad, heads_of}
@@ -47,7 +48,7 @@ pub printed_script : SaysWhatItSpells → (whole : Option (List ℕ)) (taken roo
     → AreGood room (lines_of bytes) → heads ≡ heads_of (lines_of bytes) → ShownFrom window 0 heads text → ForSome whole (λ w. (starved : ℕ → Bool) × (text ≡ printed_but starved (drop taken w)))
 printed_script says whole taken room bytes window heads text read good heads_are shown w is =
     let same : heads ≡ heads_of (lines_of (drop taken w)) = heads_are ∙ ap (λ (t : List ℕ). heads_of (lines_of t)) (good_read whole taken room bytes read good w is) in
-    printed_but_starved says window 0 (heads_of (lines_of (drop taken w))) text (none_in_lines (lines_of (drop taken w))) (subst (λ (hs : List Head). ShownFrom window 0 hs text) same shown)
+    printed_but_starved says window 0 (heads_of (lines_of (drop taken w))) text (plain_in_lines room (lines_of (drop taken w)) (good_script whole taken room bytes read good w is)) (subst (λ (hs : List Head). ShownFrom window 0 hs text) same shown)
 
 -- no line is bad of lines that are good
 good_not_bad : (from room number : ℕ) (lines : List (List ℕ)) → AreGood room lines → IsFirstBad from room lines number → ⊥

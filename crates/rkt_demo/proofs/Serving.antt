@@ -2,36 +2,25 @@
 use Rattle.std.proofs.Common.{suc, ◌≡◌, ◌<◌, ◌+◌, inl, inr, ℕ, List, [], ◌∷◌, Bool, true, false, ◌==◌, Option, Some, if◌then◌else◌, length, map, slice_get, refl, ap, ◌∙◌, sym, subst, arith}
 use Rattle.std.specs.Option.{ForSome, option_map}
 use Rattle.std.proofs.lemmas.List.{length-map}
-use Rattle.std.proofs.lemmas.Simd.{map-map}
 use Rattle.std.proofs.lemmas.Option.{none-some, same_Some, slice_get-map, slice_get_within}
 use Rattle.rkt_source.specs.Memory.{SourceInMemory, source_meaning}
 use Rattle.rkt_request.specs.declared.head.Head.{Head}
-use Rattle.rkt_life.specs.Lifecycle.{Lifecycle}
-use Rattle.rkt_life.specs.Rocket.{SeenTables}
 use Rattle.rkt_serve.specs.Asked.{Asked}
 use Rattle.rkt_serve.specs.Causes.{Caused, CausedAs}
 use Rattle.rkt_serve.specs.Clock.{IsWithin}
 use Rattle.rkt_serve.specs.Events.{admitted, end_of}
 use Rattle.rkt_serve.specs.Headline.{AllAdmitted, AllTimed, HasEntry}
-use Rattle.rkt_serve.specs.Memory.{LinkInMemory, asked_of, link_meaning}
+use Rattle.rkt_serve.specs.Memory.{LinkInMemory, asked_of}
 use Rattle.rkt_serve.specs.declared.history.End.{End as Ending}
 use Rattle.rkt_serve.specs.declared.history.End.TheVariants.{Answered, Failed, Starved}
 use Rattle.rkt_serve.specs.declared.history.EntryOf.{EntryOf}
 use Rattle.rkt_serve.specs.declared.history.EventOf.{EventOf}
 use Rattle.rkt_serve.specs.declared.history.EventOf.TheVariants.{Lift, Admit, End, Close}
 use Rattle.rkt_message.specs.Sent.{Sent}
-use Rattle.rkt_demo.proofs.Sendable.{none_failed}
+use Rattle.rkt_demo.proofs.Lifecycles.{none_failed}
 use Rattle.rkt_demo.specs.Entries.{ended_section, entry_section, entries_text, AreEntries}
-use Rattle.rkt_demo.specs.Sample.{page_may, IsSample}
-use Rattle.rkt_demo.specs.Shown.{IsSection, ShownFrom}
-use Rattle.rkt_demo.specs.declared.sample.Page.{Page}
-
--- what a link in memory asks that has this head
-abbrev asked_for : Head → Asked
-asked_for head = record { head = head; never_faults = true }
-
-abbrev Tables : Type 0
-Tables = SeenTables Page ℕ
+use Rattle.rkt_demo.specs.Sample.{IsSample}
+use Rattle.rkt_demo.specs.Shown.{IsSection, LeadsTo, SampleTables, ShownFrom, asked_for, served_in}
 
 abbrev Kept : Type 0
 Kept = EntryOf ℕ SourceInMemory LinkInMemory
@@ -50,33 +39,33 @@ timed_end window k (End n other m b ∷ es) entry timed found = by_number (n == 
     by_number false here later = later here
 
 -- an entry of a request with this head
-record ServedFor (window : Option (ℕ × ℕ)) (tables : Tables) (head : Head) (entry : Kept) : Type 0 where
-  pub caused : Caused page_may tables source_meaning link_meaning entry
-  pub asks : entry.link.head ≡ head
+record ServedFor (window : Option (ℕ × ℕ)) (tables : SampleTables) (head : Head) (entry : Kept) : Type 0 where
+  pub caused : Caused (served_in window) tables entry
+  pub asks : asked_of entry.link ≡ asked_for head
   pub timed : ForSome entry.run (λ run. IsWithin window run.moment)
 
-section_of_cause : (window : Option (ℕ × ℕ)) (tables : Tables) (k : ℕ) (head : Head) (entry : Kept) (ended : Ending) → IsSample tables
-    → CausedAs page_may tables source_meaning link_meaning entry ended → ServedFor window tables head entry → IsSection window k head (ended_section k ended entry.link.held)
+section_of_cause : (window : Option (ℕ × ℕ)) (tables : SampleTables) (k : ℕ) (head : Head) (entry : Kept) (ended : Ending) → IsSample tables
+    → CausedAs (served_in window) tables entry ended → ServedFor window tables head entry → IsSection window k head (ended_section k ended entry.link.held)
 section_of_cause window tables k head entry Starved sample caused served = inl refl
 section_of_cause window tables k head entry (Failed failure) sample caused served =
-    absurd (none_failed page_may tables entry.link.head caused.run caused.first caused.response _ failure caused.pieces (caused.lifecycle (asked_of entry.link) refl) caused.sent)
+    absurd (none_failed window tables sample (asked_of entry.link) caused.run caused.first caused.response _ failure caused.pieces (caused.lifecycle (asked_of entry.link) refl) caused.sent)
 section_of_cause window tables k head entry Answered sample caused served = inr (record {
   tables = tables;
   sample = sample;
   run = caused.run;
   timed = served.timed caused.run caused.run_kept;
   response = caused.first;
-  lifecycle = subst (λ (h : Head). Lifecycle page_may tables h caused.run caused.first) served.asks (caused.lifecycle (asked_of entry.link) refl);
+  lifecycle = subst (λ (a : Asked). LeadsTo window tables a caused.run caused.first) served.asks (caused.lifecycle (asked_of entry.link) refl);
   pieces = entry.link.held;
   sent = subst (Sent source_meaning caused.first) (sym (caused.held entry.link.held refl)) caused.sent;
   text = refl;
 })
 
 -- the i-th entry is one of a request with the i-th head
-abbrev ServedAt : Option (ℕ × ℕ) → Tables → List (Option Kept) → ℕ → Head → Type 0
+abbrev ServedAt : Option (ℕ × ℕ) → SampleTables → List (Option Kept) → ℕ → Head → Type 0
 ServedAt window tables entries i head = (entry : Kept) × (slice_get entries i ≡ Some (Some entry)) × ServedFor window tables head entry
 
-shown_from : (window : Option (ℕ × ℕ)) (tables : Tables) (k : ℕ) (entries : List (Option Kept)) (heads : List Head) → IsSample tables → length entries ≡ length heads
+shown_from : (window : Option (ℕ × ℕ)) (tables : SampleTables) (k : ℕ) (entries : List (Option Kept)) (heads : List Head) → IsSample tables → length entries ≡ length heads
     → ((i : ℕ) (head : Head) → slice_get heads i ≡ Some head → ServedAt window tables entries i head) → ShownFrom window k heads (entries_text k entries)
 shown_from window tables k [] [] sample same served = refl
 shown_from window tables k [] (head ∷ heads) sample same served = absurd (omega (arith, same))
@@ -93,27 +82,23 @@ shown_from window tables k (entry ∷ entries) (head ∷ heads) sample same serv
       refl,
     )
 
--- what the links ask
-asks_of_heads : (links : List LinkInMemory) (heads : List Head) → map (λ (l : LinkInMemory). l.head) links ≡ heads → map asked_of links ≡ map asked_for heads
-asks_of_heads links heads same = sym (map-map asked_for (λ (l : LinkInMemory). l.head) links) ∙ ap (map asked_for) same
-
-pub launched_shown : (window : Option (ℕ × ℕ)) (tables : Tables) (given : Option (List Asked)) (events : List (EventOf ℕ SourceInMemory LinkInMemory)) (entries : List (Option Kept)) (links : List LinkInMemory) (heads : List Head)
-    → IsSample tables → map (λ (l : LinkInMemory). l.head) links ≡ heads → given ≡ Some (map asked_of links) → AllAdmitted given events → AllTimed window events
-    → ((k : ℕ) → k < admitted events → HasEntry page_may tables source_meaning link_meaning given events k) → AreEntries events entries → ShownFrom window 0 heads (entries_text 0 entries)
+pub launched_shown : (window : Option (ℕ × ℕ)) (tables : SampleTables) (given : Option (List Asked)) (events : List (EventOf ℕ SourceInMemory LinkInMemory)) (entries : List (Option Kept)) (links : List LinkInMemory) (heads : List Head)
+    → IsSample tables → map asked_of links ≡ map asked_for heads → given ≡ Some (map asked_of links) → AllAdmitted given events → AllTimed window events
+    → ((k : ℕ) → k < admitted events → HasEntry (served_in window) tables given events k) → AreEntries events entries → ShownFrom window 0 heads (entries_text 0 entries)
 launched_shown window tables given events entries links heads sample same all_given all timed has are =
     let asks : List Asked = map asked_for heads in
-    let given_is : given ≡ Some asks = all_given ∙ ap Some (asks_of_heads links heads same) in
+    let given_is : given ≡ Some asks = all_given ∙ ap Some same in
     let count : admitted events ≡ length heads = all asks given_is ∙ length-map heads asked_for in
     shown_from window tables 0 entries heads sample (are.count ∙ count) (λ i head there.
     let within : i < admitted events = omega (arith, slice_get_within heads i head there, count) in
     let entry = has i within in
-    let asked : Some (asked_for entry.entry.link.head) ≡ Some (asked_for head) =
+    let asked : Some (asked_of entry.entry.link) ≡ Some (asked_for head) =
     entry.asks asks given_is ∙ slice_get-map asked_for heads i ∙ ap (option_map asked_for) there in (
       entry.entry,
       are.each i within ∙ ap Some entry.found,
       record {
         caused = entry.caused;
-        asks = ap (λ (a : Asked). a.head) (same_Some _ _ asked);
+        asks = same_Some _ _ asked;
         timed = timed_end window i events entry.entry timed entry.found;
       },
     ))

@@ -1,27 +1,48 @@
 -- What the program writes of the requests that it served.
-use Rattle.std.specs.Prelude.{◌≡◌, ◌⊎◌, ℕ, ◌+◌, ◌++◌, List, [], ◌∷◌, Option, take}
-use Rattle.rkt_source.specs.Memory.{SourceInMemory, source_meaning}
-use Rattle.rkt_request.specs.declared.head.Head.{Head}
+use Rattle.std.specs.Prelude.{◌≡◌, ◌⊎◌, ℕ, ◌+◌, ◌++◌, List, [], ◌∷◌, true, Option, Some, take}
+use Rattle.rkt_exchange.specs.Tables.{SeenTables}
+use Rattle.rkt_exchange.specs.declared.run.RunOf.{RunOf}
+use Rattle.rkt_http.specs.declared.status.Status.{Status}
 use Rattle.rkt_message.specs.Response.{ResponseOf}
 use Rattle.rkt_message.specs.Sent.{Sent}
 use Rattle.rkt_message.specs.declared.piece.Piece.{Piece}
-use Rattle.rkt_life.specs.Lifecycle.{Lifecycle}
-use Rattle.rkt_life.specs.Rocket.{SeenTables}
-use Rattle.rkt_life.specs.declared.run.RunOf.{RunOf}
+use Rattle.rkt_request.specs.declared.head.Head.{Head}
+use Rattle.rkt_serve.specs.Asked.{Asked}
 use Rattle.rkt_serve.specs.Clock.{IsWithin}
+use Rattle.rkt_serve.specs.Lifecycle.{Lifecycle}
+use Rattle.rkt_serve.specs.Memory.{LinkInMemory, link_meaning}
+use Rattle.rkt_serve.specs.Serving.{Serving, callbacks_of, serving}
+use Rattle.rkt_source.specs.Memory.{SourceInMemory, source_meaning}
 use Rattle.rkt_demo.specs.Output.{sent_section, starved_section, last_line}
-use Rattle.rkt_demo.specs.Sample.{page_may, IsSample}
+use Rattle.rkt_demo.specs.Sample.{IsSample, page_calling}
 use Rattle.rkt_demo.specs.Script.{lines_of, heads_of}
+use Rattle.rkt_life.specs.DefaultCatcher.{default_calling}
+use Rattle.rkt_life.specs.declared.default_catcher.DefaultCatcher.{DefaultCatcher}
 use Rattle.rkt_demo.specs.declared.sample.Page.{Page}
+
+abbrev pub SampleTables : Type 0
+SampleTables = SeenTables Page DefaultCatcher ℕ ℕ
+
+-- the sample, served over links in memory in this window of moments
+abbrev pub served_in : Option (ℕ × ℕ) → Serving ℕ SourceInMemory ℕ SourceInMemory Page (Unit {0}) DefaultCatcher Status LinkInMemory
+served_in window = serving page_calling default_calling source_meaning source_meaning link_meaning window
+
+-- a head and an empty body, of a link that never fails
+abbrev pub asked_for : Head → Asked
+asked_for head = record { head = head; body = Some []; body_never_faults = true; never_faults = true }
+
+-- what is asked leads by this run to this response
+abbrev pub LeadsTo : Option (ℕ × ℕ) → SampleTables → Asked → RunOf ℕ → ResponseOf SourceInMemory → Type 0
+LeadsTo window tables asked run response = Lifecycle (callbacks_of (served_in window) tables) tables source_meaning asked run response
 
 -- a section tells of a response that was sent, and which an exchange of the sample made of this head
 pub record IsAnswered (window : Option (ℕ × ℕ)) (k : ℕ) (head : Head) (section : List ℕ) : Type 0 where
-  pub tables : SeenTables Page ℕ
+  pub tables : SampleTables
   pub sample : IsSample tables
   pub run : RunOf ℕ
   pub timed : IsWithin window run.moment
   pub response : ResponseOf SourceInMemory
-  pub lifecycle : Lifecycle page_may tables head run response
+  pub lifecycle : LeadsTo window tables (asked_for head) run response
   pub pieces : List Piece
   pub sent : Sent source_meaning response pieces
   pub text : section ≡ sent_section k pieces

@@ -3,11 +3,11 @@ ghost use Rattle.std.specs.Prelude.{◌≡◌, ◌↔◌, ◌⊎◌, ◌≤◌, 
 ghost use Rattle.std.specs.List.{AllByRecursion};
 ghost use Rattle.rkt_base.specs.Counts.{Rose};
 ghost use Rattle.rkt_source.specs.Sink.{Gains};
-ghost use Rattle.rkt_serve.specs.Memory.{HoldsNothing};
+ghost use Rattle.rkt_serve.specs.Memory.{IsUnused, asked_of};
 ghost use Rattle.rkt_demo.specs.Printed.{printed_but};
 ghost use Rattle.rkt_demo.specs.Program.{OfScript, IsScript, IsGoodScript, IsFirstBadLine, IsText, IsAllRead, refusal};
 ghost use Rattle.rkt_demo.specs.Script.{lines_of, heads_of};
-ghost use Rattle.rkt_demo.specs.Shown.{Shown, ShownFrom};
+ghost use Rattle.rkt_demo.specs.Shown.{Shown, ShownFrom, asked_for};
 ghost use Rattle.rkt_demo.specs.Streams.{GainsFront, GainsUnlessRefused};
 ghost use Rattle.rkt_demo.specs.Words.{IsCommand, IsStatus};
 
@@ -25,14 +25,14 @@ use std::alloc::{AllocError, Global};
 use std::sync::Wait;
 use std::thread::Threads;
 
-// A link for each head.
+// A link for each head, with an empty body.
 fn links_for(alloc: Global, heads: Vec<Head>) -> Result<Vec<MemoryLink>, NoMemory>
-    ensures heads { IfOk result (λ links. map (λ link. link.head) links.items ≡ heads.items) }
-    ensures fresh { IfOk result (λ links. AllByRecursion HoldsNothing links.items) }
+    ensures asked { IfOk result (λ links. map asked_of links.items ≡ map asked_for heads.items) }
+    ensures unused { IfOk result (λ links. AllByRecursion IsUnused links.items) }
 {
     let mut links = Vec::with_capacity(alloc, heads.len())?;
     for head in heads {
-        links.push(MemoryLink::new(alloc, head)?)?;
+        links.push(MemoryLink::new(alloc, head, Vec::new(alloc))?)?;
     }
     Ok(links)
 }

@@ -1,12 +1,14 @@
 //! The sample application.
 ghost use Rattle.std.specs.Prelude.{◌≡◌, IfOk};
-ghost use Rattle.rkt_demo.specs.Sample.{IsSample, page_target};
+ghost use Rattle.rkt_demo.specs.Sample.{IsSample, hello, page_route};
 
 use rkt_base::{NoMemory, Want};
-use rkt_data::MemorySource;
-use rkt_http::Origin;
-use rkt_life::{App, Handler, Ignite, Rocket};
-use rkt_request::{Config, Managed, Request, Types};
+use rkt_data::{MemorySource, Source};
+use rkt_http::{Method, Outcome, Status};
+use rkt_life::{App, DefaultCatcher, Ignite, Rocket};
+use rkt_message::Response;
+use rkt_request::{Body0, Config, Ctx, Managed, Request, Types};
+use rkt_router::{Handler, Route, RouteOutcome, Router, Step};
 use rkt_turn::Reason;
 use std::alloc::{AllocError, Global};
 
@@ -41,25 +43,58 @@ impl Types for Sample {
 #[derive(Clone, Copy)]
 pub struct Page;
 
+// The plain text `hello`.
+fn hello<S: Source>(alloc: Global) -> Result<Response<S>, NoMemory>
+    ensures { IfOk result (λ response. response ≡ hello) }
+{
+    let text = String::from_str(alloc, "hello")?;
+    let mut response = Response::new(alloc);
+    response.set_status(Status::Ok);
+    response.adjoin_raw_header("Content-Type", "text/plain; charset=utf-8")?;
+    response.set_sized_body(None, text.into_bytes());
+    Ok(response)
+}
+
 impl<T: Types> Handler<T> for Page {
-    ghost use Rattle.rkt_demo.specs.Sample.{page_may};
+    ghost use Rattle.rkt_demo.specs.Sample.{page_calling};
+    ghost use Rattle.rkt_demo.specs.SampleLaws.{page_keeps};
 
-    ghost may = { page_may };
+    type Task = ();
 
-    fn respond(&self, alloc: Global, _request: &Request<'_, T>) -> Result<String, NoMemory> {
-        String::from_str(alloc, "hello")
+    ghost calling = { page_calling };
+
+    fn start(&self, _request: &Request<'_, T>, _body: Body0<T>) {}
+
+    fn poll(
+        &self,
+        alloc: Global,
+        _task: &mut (),
+        _request: &Request<'_, T>,
+        _ctx: &mut Ctx<T>,
+    ) -> Step<RouteOutcome<T>> {
+        match hello(alloc) {
+            Ok(response) => Step::Done(Outcome::Success(response)),
+            Err(_) => Step::Starved,
+        }
     }
+
+    ghost keeps = { page_keeps _ };
 }
 
 impl App for Sample {
     type Handler = Page;
+
+    type Catch = DefaultCatcher;
+
+    type Sentinel = u8;
 }
 
-fn page_origin(alloc: Global) -> Result<Origin, NoMemory>
-    ensures { IfOk result (λ page. page ≡ page_target) }
+// The one route.
+fn page_route(alloc: Global) -> Result<Route<Page, u8>, NoMemory>
+    ensures { IfOk result (λ route. (page : _) × (route ≡ page_route page)) }
 {
-    match Origin::parse(alloc, "/page") {
-        Ok(page) => Ok(page),
+    match Route::new(alloc, Method::Get, "/page", Page) {
+        Ok(route) => Ok(route),
         Err(Want::Refused(_)) => unreachable!(),
         Err(Want::NoMemory) => Err(AllocError),
     }
@@ -70,12 +105,12 @@ impl Sample {
     pub fn rocket(alloc: Global) -> Result<Rocket<Ignite, Sample>, NoMemory>
         ensures { IfOk result (λ rocket. IsSample rocket.tables) }
     {
-        let page = page_origin(alloc)?;
-        let mut routes = Vec::new(alloc);
-        routes.push((page, Page))?;
+        let route = page_route(alloc)?;
+        let mut router = Router::new(alloc);
+        router.add_route(route)?;
         let config = Config::default(alloc)?;
         let managed = Managed::new(alloc);
-        let rocket = Rocket::<Ignite, Sample>::assemble(alloc, routes, config, managed)?;
+        let rocket = Rocket::<Ignite, Sample>::assemble(alloc, router, config, managed)?;
         Ok(rocket)
     }
 }

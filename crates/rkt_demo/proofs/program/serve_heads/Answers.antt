@@ -14,5 +14,5 @@ returns-in_ok-text-in-Ok g c =
     let offered : c.in_ok-listener.listener.offered ≡ c.in_ok-links.links.items = ap (λ (l : ListenerInMemory). l.offered) c.in_ok-listener.ensures.made in
     let given = launched.offers (map asked_of c.in_ok-listener.listener.offered) refl ∙ ap (λ (ls : List LinkInMemory). Some (map asked_of ls)) offered in
     let shown = launched_shown window c.in-Ok.launched.rocket.tables (listener_meaning c.in-Ok.launched.listener).given c.in-Ok.launched.history.events printed.0 c.in_ok-links.links.items c.args.heads.items
-    sample c.in_ok-links.ensures.heads given launched.requests launched.moments launched.entries printed.1 in
+    sample c.in_ok-links.ensures.asked given launched.requests launched.moments launched.entries printed.1 in
     subst (λ (t : List ℕ). ShownFrom window 0 c.args.heads.items t) (sym printed.2) shown
