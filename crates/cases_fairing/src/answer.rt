@@ -1,0 +1,125 @@
+use crate::build::{
+    Built, configure_answer, manage_answer, mount_answer, register_answer, text_answer,
+};
+use crate::kinds::{kinds_answer, read_event};
+use crate::named::{Named, read_named};
+use crate::shown::{push_active, push_audit, push_fairings};
+use cases::{Answers, CaseError, first_word, parsed};
+use rkt_fairing::{Attach, BuildingOf, Fairings, Slot};
+use rkt_request::ConfigTable;
+use rkt_shield::Shield;
+use std::alloc::Global;
+
+/// What is kept from line to line.
+#[derive(Drop)]
+pub struct Kept {
+    built: Built,
+    others: Fairings<Named>,
+}
+
+impl Kept {
+    pub fn new(alloc: Global) -> Kept {
+        Kept {
+            built: BuildingOf::new(alloc, ConfigTable::new(alloc)),
+            others: Fairings::new(alloc),
+        }
+    }
+}
+
+fn read_slot(alloc: Global, text: &str) -> Result<Slot<Named>, CaseError> {
+    if text == "shield" {
+        return Ok(Slot::Shield(Shield::new(alloc)));
+    }
+    Ok(Slot::App(read_named(text)?))
+}
+
+fn attach_answer(
+    alloc: Global,
+    built: &mut Built,
+    text: &str,
+    out: &mut String,
+) -> Result<(), CaseError> {
+    built.attach(read_slot(alloc, text)?)?;
+    Ok(push_fairings(out, &built.fairings)?)
+}
+
+fn other_answer(
+    alloc: Global,
+    others: &mut Fairings<Named>,
+    text: &str,
+    out: &mut String,
+) -> Result<(), CaseError> {
+    others.add(read_slot(alloc, text)?)?;
+    Ok(push_fairings(out, others)?)
+}
+
+fn append_answer(kept: &mut Kept, out: &mut String) -> Result<(), CaseError> {
+    kept.built.fairings.append(&mut kept.others)?;
+    push_fairings(out, &kept.built.fairings)?;
+    out.push_str(" others ")?;
+    Ok(push_fairings(out, &kept.others)?)
+}
+
+fn at_answer(fairings: &Fairings<Named>, text: &str, out: &mut String) -> Result<(), CaseError> {
+    let (event, place) = first_word(text);
+    let event = read_event(event)?;
+    let found = fairings.get(event, parsed::<usize>(place)?);
+    let name = match found {
+        Some(fairing) => fairing.info().name,
+        None => "none",
+    };
+    Ok(write!(out, "{name} of {}", fairings.count(event))?)
+}
+
+/// Adds the answer to a line on fairings.
+fn fairings_answer(
+    alloc: Global,
+    kept: &mut Kept,
+    command: &str,
+    rest: &str,
+    out: &mut String,
+) -> Result<(), CaseError> {
+    match command {
+        "attach" => attach_answer(alloc, &mut kept.built, rest, out),
+        "other" => other_answer(alloc, &mut kept.others, rest, out),
+        "append" => append_answer(kept, out),
+        "audit" => Ok(push_audit(out, &kept.built.fairings)?),
+        "active" => Ok(push_active(out, &kept.built.fairings)?),
+        "at" => at_answer(&kept.built.fairings, rest, out),
+        _ => Err(CaseError::Line),
+    }
+}
+
+/// Adds the answer to a line on what else is built.
+fn build_answer(
+    alloc: Global,
+    built: &mut Built,
+    command: &str,
+    rest: &str,
+    out: &mut String,
+) -> Result<(), CaseError> {
+    match command {
+        "mount" => mount_answer(alloc, built, rest, out),
+        "register" => register_answer(alloc, built, rest, out),
+        "manage" => manage_answer(built, rest, out),
+        "configure" => configure_answer(alloc, built, rest, out),
+        _ => text_answer(built, rest, out),
+    }
+}
+
+impl Answers for Kept {
+    fn answer(&mut self, alloc: Global, line: &str, out: &mut String) -> Result<(), CaseError> {
+        let (command, rest) = first_word(line);
+        match command {
+            "kind" | "is" | "is_exactly" => kinds_answer(command, rest, out),
+            "build" => {
+                *self = Kept::new(alloc);
+                Ok(out.push_str("new")?)
+            }
+            "mount" | "register" | "manage" | "configure" | "text" => {
+                build_answer(alloc, &mut self.built, command, rest, out)
+            }
+            _ => fairings_answer(alloc, self, command, rest, out),
+        }
+    }
+}

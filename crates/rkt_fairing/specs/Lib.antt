@@ -1,0 +1,13 @@
+pub mod AdHoc
+pub mod Below
+pub mod Building
+pub mod Callbacks
+pub mod Changes
+pub mod Fairings
+pub mod Info
+pub mod Kind
+pub mod Life
+pub mod Names
+pub mod Places
+pub mod Slot
+pub mod Told
