@@ -2,16 +2,21 @@
 use crate::body::use_body;
 use crate::capped::{capped_answer, mapped_answer, whole_answer};
 use crate::chunks::{push_chunks, push_join};
-use crate::error::CaseError;
 use crate::made::{made_peer, made_pieces, made_sources};
 use crate::objects::{Counts, Listed};
 use crate::shown::push_count;
 use crate::steps::{take_chain_steps, take_cut_steps, take_steps};
-use crate::words::{both_sides, first_step, first_word, quoted, size};
+use crate::words::{both_sides, first_step, quoted};
+use cases::{Answers, CaseError, first_word, parsed};
+use rkt_base::NoMemory;
 use rkt_data::stream::ReaderStream;
 use rkt_data::{CancellableIo, Chain, Data, MemorySource, Source, StreamReader};
 use std::alloc::Global;
 use std::cell::Cell;
+
+/// The program, which keeps nothing from line to line.
+#[derive(Drop)]
+pub struct Program;
 
 /// What is done with a source.
 #[derive(Clone, Copy)]
@@ -29,102 +34,112 @@ struct Case<'a> {
     steps: &'a str,
 }
 
+impl<'a> Case<'a> {
+    fn new(usage: Use, words: &'a str, steps: &'a str) -> Case<'a> {
+        Case {
+            usage,
+            words,
+            steps,
+        }
+    }
+}
+
 fn use_source<S: Source>(
     alloc: Global,
-    log: &mut String,
     source: S,
     case: Case<'_>,
+    out: &mut String,
 ) -> Result<(), CaseError> {
     match case.usage {
-        Use::Steps => take_steps(alloc, log, source, case.steps),
-        Use::Body => use_body(alloc, log, Data::from_source(alloc, source)?, case.steps),
-        Use::Chunks(cap) => push_chunks(alloc, log, source, cap),
+        Use::Steps => take_steps(alloc, source, case.steps, out),
+        Use::Body => use_body(alloc, Data::from_source(alloc, source)?, case.steps, out),
+        Use::Chunks(cap) => Ok(push_chunks(alloc, source, cap, out)?),
     }
 }
 
 /// `"TEXT" NAME=VALUE ..`
 fn over_peer(
     alloc: Global,
-    log: &mut String,
     counts: &Counts,
     case: Case<'_>,
+    out: &mut String,
 ) -> Result<(), CaseError> {
     let peer = made_peer(alloc, counts, case.words)?;
-    use_source(alloc, log, peer, case)
+    use_source(alloc, peer, case, out)
 }
 
 /// `cut PEER`
 fn over_cut(
     alloc: Global,
-    log: &mut String,
     counts: &Counts,
     case: Case<'_>,
+    out: &mut String,
 ) -> Result<(), CaseError> {
     let peer = made_peer(alloc, counts, case.words)?;
     let object = CancellableIo::new(peer);
     match case.usage {
-        Use::Steps => take_cut_steps(alloc, log, object, case.steps),
-        _ => use_source(alloc, log, object, case),
+        Use::Steps => take_cut_steps(alloc, object, case.steps, out),
+        _ => use_source(alloc, object, case, out),
     }
 }
 
 /// `one PEER`
 fn over_one(
     alloc: Global,
-    log: &mut String,
     counts: &Counts,
     case: Case<'_>,
+    out: &mut String,
 ) -> Result<(), CaseError> {
     let peer = made_peer(alloc, counts, case.words)?;
-    use_source(alloc, log, ReaderStream::one(peer), case)
+    use_source(alloc, ReaderStream::one(peer), case, out)
 }
 
 /// `chain PEER + PEER`
 fn over_chain(
     alloc: Global,
-    log: &mut String,
     counts: &Counts,
     case: Case<'_>,
+    out: &mut String,
 ) -> Result<(), CaseError> {
     let (first, second) = both_sides(case.words)?;
     let second = made_peer(alloc, counts, second)?;
     let first = made_peer(alloc, counts, first)?;
     let chain = Chain::new(CancellableIo::new(first), second);
     match case.usage {
-        Use::Steps => take_chain_steps(alloc, log, chain, case.steps),
-        _ => use_source(alloc, log, chain, case),
+        Use::Steps => take_chain_steps(alloc, chain, case.steps, out),
+        _ => use_source(alloc, chain, case, out),
     }
 }
 
 /// `pieces "TEXT" "TEXT" .. NAME=VALUE ..`
-fn over_pieces(alloc: Global, log: &mut String, case: Case<'_>) -> Result<(), CaseError> {
+fn over_pieces(alloc: Global, case: Case<'_>, out: &mut String) -> Result<(), CaseError> {
     let stream = made_pieces(alloc, case.words)?;
-    use_source(alloc, log, StreamReader::new(stream), case)
+    use_source(alloc, StreamReader::new(stream), case, out)
 }
 
 /// `sources "TEXT" "TEXT" .. NAME=VALUE ..`
-fn over_sources(alloc: Global, log: &mut String, case: Case<'_>) -> Result<(), CaseError> {
+fn over_sources(alloc: Global, case: Case<'_>, out: &mut String) -> Result<(), CaseError> {
     let stream = made_sources(alloc, case.words)?;
-    use_source(alloc, log, ReaderStream::from(stream), case)
+    use_source(alloc, ReaderStream::from(stream), case, out)
 }
 
 /// `nothing`
-fn over_nothing(alloc: Global, log: &mut String, case: Case<'_>) -> Result<(), CaseError> {
+fn over_nothing(alloc: Global, case: Case<'_>, out: &mut String) -> Result<(), CaseError> {
     let reader: StreamReader<Listed<Vec<u8>>> = StreamReader::empty();
-    use_source(alloc, log, reader, case)
+    use_source(alloc, reader, case, out)
 }
 
 /// A source that stands on streams.
 fn over_stream(
     alloc: Global,
-    log: &mut String,
     kind: &str,
     case: Case<'_>,
+    out: &mut String,
 ) -> Result<(), CaseError> {
     match kind {
-        "pieces" => over_pieces(alloc, log, case),
-        "sources" => over_sources(alloc, log, case),
-        "nothing" => over_nothing(alloc, log, case),
+        "pieces" => over_pieces(alloc, case, out),
+        "sources" => over_sources(alloc, case, out),
+        "nothing" => over_nothing(alloc, case, out),
         _ => Err(CaseError::Line),
     }
 }
@@ -132,38 +147,38 @@ fn over_stream(
 /// The source that the first word names, or that the line says at once.
 fn over_source(
     alloc: Global,
-    log: &mut String,
     counts: &Counts,
     case: Case<'_>,
+    out: &mut String,
 ) -> Result<(), CaseError> {
     if case.words.starts_with('"') {
-        return over_peer(alloc, log, counts, case);
+        return over_peer(alloc, counts, case, out);
     }
     let (kind, words) = first_word(case.words);
     let case = Case { words, ..case };
     match kind {
-        "cut" => over_cut(alloc, log, counts, case),
-        "one" => over_one(alloc, log, counts, case),
-        "chain" => over_chain(alloc, log, counts, case),
-        _ => over_stream(alloc, log, kind, case),
+        "cut" => over_cut(alloc, counts, case, out),
+        "one" => over_one(alloc, counts, case, out),
+        "chain" => over_chain(alloc, counts, case, out),
+        _ => over_stream(alloc, kind, case, out),
     }
 }
 
 /// `local "TEXT"`
-fn over_local(alloc: Global, log: &mut String, words: &str, steps: &str) -> Result<(), CaseError> {
+fn over_local(alloc: Global, words: &str, steps: &str, out: &mut String) -> Result<(), CaseError> {
     let (text, _) = quoted(words)?;
     let body: Data<MemorySource> = Data::local(text.as_bytes().to_vec(alloc)?);
-    use_body(alloc, log, body, steps)
+    use_body(alloc, body, steps, out)
 }
 
 /// What stands on no source.
-fn over_value(alloc: Global, log: &mut String, words: &str, steps: &str) -> Result<(), CaseError> {
+fn over_value(alloc: Global, words: &str, steps: &str, out: &mut String) -> Result<(), CaseError> {
     let (kind, words) = first_word(words);
     match kind {
-        "join" => push_join(alloc, log, words, size(steps)?),
-        "capped" => capped_answer(alloc, log, words, steps),
-        "mapped" => mapped_answer(alloc, log, words, steps),
-        "whole" => whole_answer(alloc, log, words),
+        "join" => push_join(alloc, words, parsed::<usize>(steps)?, out),
+        "capped" => capped_answer(alloc, words, steps, out),
+        "mapped" => mapped_answer(alloc, words, steps, out),
+        "whole" => whole_answer(alloc, words, out),
         _ => Err(CaseError::Line),
     }
 }
@@ -171,47 +186,13 @@ fn over_value(alloc: Global, log: &mut String, words: &str, steps: &str) -> Resu
 /// `chunks CAP SOURCE`
 fn over_chunks(
     alloc: Global,
-    log: &mut String,
     counts: &Counts,
     rest: &str,
+    out: &mut String,
 ) -> Result<(), CaseError> {
     let (cap, words) = first_word(rest);
-    let case = Case {
-        usage: Use::Chunks(size(cap)?),
-        words,
-        steps: "",
-    };
-    over_source(alloc, log, counts, case)
-}
-
-fn over_body(
-    alloc: Global,
-    log: &mut String,
-    counts: &Counts,
-    words: &str,
-    steps: &str,
-) -> Result<(), CaseError> {
-    let case = Case {
-        usage: Use::Body,
-        words,
-        steps,
-    };
-    over_source(alloc, log, counts, case)
-}
-
-fn over_steps(
-    alloc: Global,
-    log: &mut String,
-    counts: &Counts,
-    words: &str,
-    steps: &str,
-) -> Result<(), CaseError> {
-    let case = Case {
-        usage: Use::Steps,
-        words,
-        steps,
-    };
-    over_source(alloc, log, counts, case)
+    let case = Case::new(Use::Chunks(parsed::<usize>(cap)?), words, "");
+    over_source(alloc, counts, case, out)
 }
 
 fn is_value(kind: &str) -> bool {
@@ -220,45 +201,44 @@ fn is_value(kind: &str) -> bool {
 
 fn take_case(
     alloc: Global,
-    log: &mut String,
     counts: &Counts,
     line: &str,
+    out: &mut String,
 ) -> Result<(), CaseError> {
     let (words, steps) = first_step(line);
     let (kind, rest) = first_word(words);
     if is_value(kind) {
-        return over_value(alloc, log, words, steps);
+        return over_value(alloc, words, steps, out);
     }
     match kind {
-        "local" => over_local(alloc, log, rest, steps),
-        "body" => over_body(alloc, log, counts, rest, steps),
-        "chunks" => over_chunks(alloc, log, counts, rest),
-        _ => over_steps(alloc, log, counts, words, steps),
+        "local" => over_local(alloc, rest, steps, out),
+        "body" => over_source(alloc, counts, Case::new(Use::Body, rest, steps), out),
+        "chunks" => over_chunks(alloc, counts, rest, out),
+        _ => over_source(alloc, counts, Case::new(Use::Steps, words, steps), out),
     }
 }
 
 /// Adds how many reads the sources had, and how many bytes they gave.
-fn push_counts(alloc: Global, log: &mut String, counts: &Counts) -> Result<(), CaseError> {
-    push_count(alloc, log, "reads", counts.reads.get())?;
-    push_count(alloc, log, "given", counts.bytes.get())
+fn push_counts(alloc: Global, counts: &Counts, out: &mut String) -> Result<(), NoMemory> {
+    push_count(alloc, "reads", counts.reads.get(), out)?;
+    push_count(alloc, "given", counts.bytes.get(), out)
 }
 
 /// Takes the case of a line, and adds the counts where its last step asks for them.
-fn take_line(alloc: Global, log: &mut String, line: &str) -> Result<(), CaseError> {
+fn take_line(alloc: Global, line: &str, out: &mut String) -> Result<(), CaseError> {
     let counts = Counts {
         reads: Cell::new(0),
         bytes: Cell::new(0),
     };
     let Some(line) = line.strip_suffix(" | counts") else {
-        return take_case(alloc, log, &counts, line);
+        return take_case(alloc, &counts, line, out);
     };
-    take_case(alloc, log, &counts, line)?;
-    push_counts(alloc, log, &counts)
+    take_case(alloc, &counts, line, out)?;
+    Ok(push_counts(alloc, &counts, out)?)
 }
 
-/// What a line answers.
-pub fn answer(alloc: Global, line: &str) -> Result<String, CaseError> {
-    let mut log = String::new(alloc);
-    take_line(alloc, &mut log, line)?;
-    Ok(log)
+impl Answers for Program {
+    fn answer(&mut self, alloc: Global, line: &str, out: &mut String) -> Result<(), CaseError> {
+        take_line(alloc, line, out)
+    }
 }

@@ -1,11 +1,11 @@
 //! Streams: the chunks of a source, and two streams that are joined.
-use crate::error::CaseError;
 use crate::made::made_pieces;
 use crate::objects::Listed;
 use crate::polled::POLLS;
-use crate::shown::{push, push_bytes, push_error};
+use crate::shown::{push_bytes, push_error};
 use crate::words::{both_sides, open_gate, quoted};
-use rkt_base::Poll;
+use cases::{CaseError, push_item};
+use rkt_base::{NoMemory, Poll};
 use rkt_data::{AsyncReadExt, DataError, Join, One, PollExt, Source, Stream, StreamExt, ext};
 use std::alloc::Global;
 
@@ -23,28 +23,28 @@ fn with_unread<T: Drop, P: PollExt<T, DataError>>(answer: P) -> Poll<Option<Resu
 
 fn push_chunk(
     alloc: Global,
-    log: &mut String,
     answer: &Poll<Option<Result<Vec<u8>, Unread>>>,
-) -> Result<(), CaseError> {
+    out: &mut String,
+) -> Result<(), NoMemory> {
     match answer {
-        Poll::Ready(Some(Ok(bytes))) => push_bytes(alloc, log, bytes.as_slice()),
-        Poll::Ready(Some(Err(unread))) => push_error(alloc, log, unread.0),
-        Poll::Ready(None) => push(log, "end"),
-        Poll::Pending => push(log, "pending"),
+        Poll::Ready(Some(Ok(bytes))) => push_bytes(alloc, bytes.as_slice(), out),
+        Poll::Ready(Some(Err(unread))) => push_error(alloc, unread.0, out),
+        Poll::Ready(None) => push_item(out, "end"),
+        Poll::Pending => push_item(out, "pending"),
     }
 }
 
 /// Polls for chunks until there are none.
 pub fn push_chunks<R: Source>(
     alloc: Global,
-    log: &mut String,
     source: R,
     cap: usize,
-) -> Result<(), CaseError> {
+    out: &mut String,
+) -> Result<(), NoMemory> {
     let mut chunks = chunked(source, cap);
     for _ in 0..POLLS {
         let answer = with_unread(chunks.poll_next(alloc, open_gate(0)));
-        push_chunk(alloc, log, &answer)?;
+        push_chunk(alloc, &answer, out)?;
         if matches!(answer, Poll::Ready(None)) {
             return Ok(());
         }
@@ -56,27 +56,27 @@ fn in_turn<A: StreamExt, B: Stream<Item = A::Item>>(first: A, second: B) -> Join
     first.join(second)
 }
 
-fn push_item(
+fn push_polled(
     alloc: Global,
-    log: &mut String,
     answer: &Poll<Option<Vec<u8>>>,
-) -> Result<(), CaseError> {
+    out: &mut String,
+) -> Result<(), NoMemory> {
     match answer {
-        Poll::Ready(Some(bytes)) => push_bytes(alloc, log, bytes.as_slice()),
-        Poll::Ready(None) => push(log, "end"),
-        Poll::Pending => push(log, "pending"),
+        Poll::Ready(Some(bytes)) => push_bytes(alloc, bytes.as_slice(), out),
+        Poll::Ready(None) => push_item(out, "end"),
+        Poll::Pending => push_item(out, "pending"),
     }
 }
 
 /// Polls for so many items.
 fn push_items<T: Stream<Item = Vec<u8>>>(
     alloc: Global,
-    log: &mut String,
     mut stream: T,
     count: usize,
-) -> Result<(), CaseError> {
+    out: &mut String,
+) -> Result<(), NoMemory> {
     for _ in 0..count {
-        push_item(alloc, log, &stream.poll_next(open_gate(0)))?;
+        push_polled(alloc, &stream.poll_next(open_gate(0)), out)?;
     }
     Ok(())
 }
@@ -97,10 +97,10 @@ fn made_join(alloc: Global, words: &str) -> Result<Join<Listed<Vec<u8>>, One<Vec
 /// Polls the stream of `PIECES + "TEXT"` so often.
 pub fn push_join(
     alloc: Global,
-    log: &mut String,
     words: &str,
     count: usize,
+    out: &mut String,
 ) -> Result<(), CaseError> {
     let stream = made_join(alloc, words)?;
-    push_items(alloc, log, stream, count)
+    Ok(push_items(alloc, stream, count, out)?)
 }

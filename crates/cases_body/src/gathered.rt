@@ -1,12 +1,12 @@
 //! Bodies that are gathered.
 ghost use Rattle.std.specs.Prelude.{◌≡◌, None, false};
 
-use crate::error::CaseError;
-use crate::polled::{Polled, over, poll_on, waits};
-use crate::shown::{push, push_bytes, push_error, push_flag};
+use crate::polled::{Polled, Shown, over, poll_on, push_failed, waits};
+use crate::shown::{push_bytes, push_flag};
 use crate::words::open_gate;
-use rkt_base::Poll;
-use rkt_data::{Capped, DataError, DataStream, IntoBytes, IntoString, N, Source};
+use cases::push_item;
+use rkt_base::{NoMemory, Poll};
+use rkt_data::{Capped, DataStream, IntoBytes, IntoString, N, Source};
 use std::alloc::Global;
 
 /// Bytes that are not gathered yet.
@@ -24,86 +24,52 @@ struct Text<S: Source> {
 }
 
 /// Adds how many bytes were read, and whether these are all.
-pub fn push_n(alloc: Global, log: &mut String, n: N) -> Result<(), CaseError> {
+pub fn push_n(alloc: Global, n: N, out: &mut String) -> Result<(), NoMemory> {
     let text = format!(in alloc; "n={n}")?;
-    push(log, text.as_str())?;
-    push_flag(alloc, log, "complete", n.complete)
+    push_item(out, text.as_str())?;
+    push_flag(alloc, "complete", n.complete, out)
 }
 
-fn push_capped(alloc: Global, log: &mut String, bytes: &[u8], n: N) -> Result<(), CaseError> {
-    push_bytes(alloc, log, bytes)?;
-    push_n(alloc, log, n)
+fn push_capped(alloc: Global, bytes: &[u8], n: N, out: &mut String) -> Result<(), NoMemory> {
+    push_bytes(alloc, bytes, out)?;
+    push_n(alloc, n, out)
 }
 
-fn push_capped_bytes(
-    alloc: Global,
-    log: &mut String,
-    capped: Capped<Vec<u8>>,
-) -> Result<(), CaseError> {
-    push_capped(alloc, log, capped.value.as_slice(), capped.n)
-}
-
-fn push_capped_text(
-    alloc: Global,
-    log: &mut String,
-    capped: Capped<String>,
-) -> Result<(), CaseError> {
-    push_capped(alloc, log, capped.value.as_bytes(), capped.n)
-}
-
-/// Adds an error, and what the next poll has answered.
-fn push_failed(
-    alloc: Global,
-    log: &mut String,
-    error: DataError,
-    again: Poll<Result<Capped<Vec<u8>>, DataError>>,
-) -> Result<(), CaseError> {
-    push_error(alloc, log, error)?;
-    match again {
-        Poll::Ready(Ok(capped)) => push_capped_bytes(alloc, log, capped),
-        Poll::Ready(Err(error)) => push_error(alloc, log, error),
-        Poll::Pending => push(log, "pending"),
+impl Shown for Capped<Vec<u8>> {
+    fn push_to(self, alloc: Global, out: &mut String) -> Result<(), NoMemory> {
+        push_capped(alloc, self.value.as_slice(), self.n, out)
     }
 }
 
-/// The same of a text.
-fn push_failed_text(
-    alloc: Global,
-    log: &mut String,
-    error: DataError,
-    again: Poll<Result<Capped<String>, DataError>>,
-) -> Result<(), CaseError> {
-    push_error(alloc, log, error)?;
-    match again {
-        Poll::Ready(Ok(capped)) => push_capped_text(alloc, log, capped),
-        Poll::Ready(Err(error)) => push_error(alloc, log, error),
-        Poll::Pending => push(log, "pending"),
+impl Shown for Capped<String> {
+    fn push_to(self, alloc: Global, out: &mut String) -> Result<(), NoMemory> {
+        push_capped(alloc, self.value.as_bytes(), self.n, out)
     }
 }
 
 impl<S: Source> Polled for Bytes<S> {
-    fn poll_once(self, alloc: Global, log: &mut String) -> Result<Option<Bytes<S>>, CaseError> {
+    fn poll_once(self, alloc: Global, out: &mut String) -> Result<Option<Bytes<S>>, NoMemory> {
         let Bytes { mut state } = self;
         match state.poll(alloc, open_gate(0)) {
-            Poll::Pending => waits(log, Bytes { state }),
-            Poll::Ready(Ok(capped)) => over(push_capped_bytes(alloc, log, capped)),
+            Poll::Pending => waits(Bytes { state }, out),
+            Poll::Ready(Ok(capped)) => over(capped.push_to(alloc, out)),
             Poll::Ready(Err(error)) => {
                 let again = state.poll(alloc, open_gate(0));
-                over(push_failed(alloc, log, error, again))
+                over(push_failed(alloc, error, again, out))
             }
         }
     }
 }
 
 impl<S: Source> Polled for Text<S> {
-    fn poll_once(self, alloc: Global, log: &mut String) -> Result<Option<Text<S>>, CaseError> {
+    fn poll_once(self, alloc: Global, out: &mut String) -> Result<Option<Text<S>>, NoMemory> {
         let Text { mut state } = self;
         match state.poll(alloc, open_gate(0)) {
-            Poll::Pending => waits(log, Text { state }),
-            Poll::Ready(Ok(capped)) => over(push_capped_text(alloc, log, capped)),
+            Poll::Pending => waits(Text { state }, out),
+            Poll::Ready(Ok(capped)) => over(capped.push_to(alloc, out)),
             Poll::Ready(Err(error)) => {
                 let again = state.poll(alloc, open_gate(0));
-                over(push_failed_text(alloc, log, error, again))
+                over(push_failed(alloc, error, again, out))
             }
         }
     }
@@ -112,19 +78,19 @@ impl<S: Source> Polled for Text<S> {
 /// Gathers the bytes that are left.
 pub fn gather_bytes<S: Source>(
     alloc: Global,
-    log: &mut String,
     stream: DataStream<S>,
-) -> Result<(), CaseError> {
+    out: &mut String,
+) -> Result<(), NoMemory> {
     let state = stream.into_bytes();
-    poll_on(alloc, log, Bytes { state })
+    poll_on(alloc, Bytes { state }, out)
 }
 
 /// Gathers the text that is left.
 pub fn gather_text<S: Source>(
     alloc: Global,
-    log: &mut String,
     stream: DataStream<S>,
-) -> Result<(), CaseError> {
+    out: &mut String,
+) -> Result<(), NoMemory> {
     let state = stream.into_string();
-    poll_on(alloc, log, Text { state })
+    poll_on(alloc, Text { state }, out)
 }

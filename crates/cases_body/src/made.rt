@@ -1,8 +1,8 @@
 //! Objects, as lines say them.
-use crate::error::CaseError;
 use crate::objects::{Counts, Listed, Peer};
 use crate::setting::{Setting, parse_setting};
-use crate::words::{numbers, quoted};
+use crate::words::quoted;
+use cases::{CaseError, numbers};
 use rkt_data::{MemorySink, MemorySource};
 use std::alloc::Global;
 use std::collections::VecDeque;

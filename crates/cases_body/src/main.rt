@@ -36,7 +36,6 @@ mod answer;
 mod body;
 mod capped;
 mod chunks;
-mod error;
 mod gathered;
 mod made;
 mod objects;
@@ -47,35 +46,11 @@ mod shown;
 mod steps;
 mod words;
 
-use crate::answer::answer;
-use std::alloc::Global;
+use crate::answer::Program;
+use cases::answer_lines;
 use std::io;
-
-fn print_answer(rt: &impl Print, line: &str, text: &str) -> io::Result<()> {
-    println!(rt; "{line} -> {text}")
-}
-
-/// Empty lines and those that begin with `#` are headings, and are written as they are.
-fn is_heading(line: &str) -> bool {
-    line.is_empty() || line.starts_with('#')
-}
-
-/// Writes the line, and behind an arrow the answer where it is a case.
-fn print_line(rt: &impl Print, alloc: Global, line: &str) -> io::Result<()> {
-    if is_heading(line) {
-        return rt.println(line);
-    }
-    match answer(alloc, line) {
-        Ok(text) => print_answer(rt, line, text.as_str()),
-        Err(error) => print_answer(rt, line, error.text()),
-    }
-}
 
 fn main(rt: HostRuntime) -> io::Result<()> {
     let alloc = rt.alloc();
-    for line in rt.lines(alloc) {
-        let line = line?;
-        print_line(&rt, alloc, line.as_str())?;
-    }
-    Ok(())
+    answer_lines(&rt, alloc, Program)
 }

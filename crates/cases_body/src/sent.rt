@@ -1,16 +1,16 @@
 //! Bodies that are sent to a sink.
 ghost use Rattle.std.specs.Prelude.{◌≡◌, None, false};
 
-use crate::error::CaseError;
 use crate::gathered::push_n;
 use crate::made::made_sink;
 use crate::objects::Slow;
-use crate::polled::{Polled, over, poll_on, waits};
+use crate::polled::{Polled, Shown, over, poll_on, push_failed, waits};
 use crate::setting::Setting;
-use crate::shown::{push, push_bytes, push_count, push_error};
+use crate::shown::{push_bytes, push_count};
 use crate::words::open_gate;
-use rkt_base::Poll;
-use rkt_data::{DataError, DataStream, MemorySink, N, Sink, Source, StreamPrecise, StreamTo};
+use cases::CaseError;
+use rkt_base::{NoMemory, Poll};
+use rkt_data::{DataStream, MemorySink, N, Sink, Source, StreamPrecise, StreamTo};
 use std::alloc::Global;
 
 /// A body that is not sent yet.
@@ -27,73 +27,48 @@ struct Precise<S: Source, K: Sink> {
     ghost goes_on: { (state.done ≡ false) × (state.failed ≡ None) },
 }
 
-/// Adds an error, and what the next poll has answered.
-fn push_failed(
-    alloc: Global,
-    log: &mut String,
-    error: DataError,
-    again: Poll<Result<N, DataError>>,
-) -> Result<(), CaseError> {
-    push_error(alloc, log, error)?;
-    match again {
-        Poll::Ready(Ok(n)) => push_n(alloc, log, n),
-        Poll::Ready(Err(error)) => push_error(alloc, log, error),
-        Poll::Pending => push(log, "pending"),
+impl Shown for N {
+    fn push_to(self, alloc: Global, out: &mut String) -> Result<(), NoMemory> {
+        push_n(alloc, self, out)
     }
 }
 
-/// The same, where no end is told.
-fn push_failed_precise(
-    alloc: Global,
-    log: &mut String,
-    error: DataError,
-    again: Poll<Result<u64, DataError>>,
-) -> Result<(), CaseError> {
-    push_error(alloc, log, error)?;
-    match again {
-        Poll::Ready(Ok(written)) => push_count(alloc, log, "n", written),
-        Poll::Ready(Err(error)) => push_error(alloc, log, error),
-        Poll::Pending => push(log, "pending"),
+/// How many bytes were sent, where no end is told.
+impl Shown for u64 {
+    fn push_to(self, alloc: Global, out: &mut String) -> Result<(), NoMemory> {
+        push_count(alloc, "n", self, out)
     }
 }
 
 impl<S: Source, K: Sink> Polled for Sending<S, K> {
-    fn poll_once(
-        self,
-        alloc: Global,
-        log: &mut String,
-    ) -> Result<Option<Sending<S, K>>, CaseError> {
+    fn poll_once(self, alloc: Global, out: &mut String) -> Result<Option<Sending<S, K>>, NoMemory> {
         let Sending { mut state } = self;
         match state.poll(alloc, open_gate(0)) {
-            Poll::Pending => waits(log, Sending { state }),
+            Poll::Pending => waits(Sending { state }, out),
             Poll::Ready(Ok(n)) => {
                 let _ = state.into_sink();
-                over(push_n(alloc, log, n))
+                over(n.push_to(alloc, out))
             }
             Poll::Ready(Err(error)) => {
                 let again = state.poll(alloc, open_gate(0));
-                over(push_failed(alloc, log, error, again))
+                over(push_failed(alloc, error, again, out))
             }
         }
     }
 }
 
 impl<S: Source, K: Sink> Polled for Precise<S, K> {
-    fn poll_once(
-        self,
-        alloc: Global,
-        log: &mut String,
-    ) -> Result<Option<Precise<S, K>>, CaseError> {
+    fn poll_once(self, alloc: Global, out: &mut String) -> Result<Option<Precise<S, K>>, NoMemory> {
         let Precise { mut state } = self;
         match state.poll(alloc, open_gate(0)) {
-            Poll::Pending => waits(log, Precise { state }),
+            Poll::Pending => waits(Precise { state }, out),
             Poll::Ready(Ok(written)) => {
                 let _ = state.into_sink();
-                over(push_count(alloc, log, "n", written))
+                over(written.push_to(alloc, out))
             }
             Poll::Ready(Err(error)) => {
                 let again = state.poll(alloc, open_gate(0));
-                over(push_failed_precise(alloc, log, error, again))
+                over(push_failed(alloc, error, again, out))
             }
         }
     }
@@ -102,48 +77,48 @@ impl<S: Source, K: Sink> Polled for Precise<S, K> {
 /// Sends to a sink that is lent.
 fn send_to<S: Source>(
     alloc: Global,
-    log: &mut String,
     stream: DataStream<S>,
     kept: &mut MemorySink,
     setting: Setting<'_>,
-) -> Result<(), CaseError> {
+    out: &mut String,
+) -> Result<(), NoMemory> {
     let sink = Slow::new(kept, setting.chunk, setting.pends);
     let state = stream.stream_to(sink);
-    poll_on(alloc, log, Sending { state })
+    poll_on(alloc, Sending { state }, out)
 }
 
 fn send_precise_to<S: Source>(
     alloc: Global,
-    log: &mut String,
     stream: DataStream<S>,
     kept: &mut MemorySink,
     setting: Setting<'_>,
-) -> Result<(), CaseError> {
+    out: &mut String,
+) -> Result<(), NoMemory> {
     let sink = Slow::new(kept, setting.chunk, setting.pends);
     let state = stream.stream_precise_to(sink);
-    poll_on(alloc, log, Precise { state })
+    poll_on(alloc, Precise { state }, out)
 }
 
 /// Sends the bytes that are left to a sink of this setting, and adds what it has then.
 pub fn send<S: Source>(
     alloc: Global,
-    log: &mut String,
     stream: DataStream<S>,
     setting: Setting<'_>,
+    out: &mut String,
 ) -> Result<(), CaseError> {
     let mut kept = made_sink(alloc, setting)?;
-    send_to(alloc, log, stream, &mut kept, setting)?;
-    push_bytes(alloc, log, kept.bytes())
+    send_to(alloc, stream, &mut kept, setting, out)?;
+    Ok(push_bytes(alloc, kept.bytes(), out)?)
 }
 
 /// The same, with no look past the limit.
 pub fn send_precise<S: Source>(
     alloc: Global,
-    log: &mut String,
     stream: DataStream<S>,
     setting: Setting<'_>,
+    out: &mut String,
 ) -> Result<(), CaseError> {
     let mut kept = made_sink(alloc, setting)?;
-    send_precise_to(alloc, log, stream, &mut kept, setting)?;
-    push_bytes(alloc, log, kept.bytes())
+    send_precise_to(alloc, stream, &mut kept, setting, out)?;
+    Ok(push_bytes(alloc, kept.bytes(), out)?)
 }

@@ -1,5 +1,4 @@
-use crate::error::CaseError;
-use crate::words::{number, size};
+use cases::{CaseError, pair, parsed};
 
 /// How an object behaves: how much it takes or gives in a call, which of its calls fail, and how many are Pending at
 /// first.
@@ -12,12 +11,10 @@ pub struct Setting<'a> {
 
 /// Changes the setting that a word `NAME=VALUE` names.
 fn change<'a>(setting: &mut Setting<'a>, word: &'a str) -> Result<(), CaseError> {
-    let Some((name, value)) = word.split_once('=') else {
-        return Err(CaseError::Line);
-    };
+    let (name, value) = pair(word, "=")?;
     match name {
-        "chunk" => setting.chunk = size(value)?,
-        "pends" => setting.pends = number(value)?,
+        "chunk" => setting.chunk = parsed::<usize>(value)?,
+        "pends" => setting.pends = parsed::<u64>(value)?,
         "fails" => setting.fails = Some(value),
         _ => return Err(CaseError::Line),
     }

@@ -1,9 +1,9 @@
 //! What is asked of a source, step by step.
-use crate::error::CaseError;
 use crate::objects::Peer;
-use crate::shown::{push, push_read};
-use crate::words::{first_word, parse_gate, size};
-use rkt_base::Poll;
+use crate::shown::push_read;
+use crate::words::parse_gate;
+use cases::{CaseError, first_word, parsed, push_item};
+use rkt_base::{NoMemory, Poll};
 use rkt_data::{CancellableIo, Chain, Shut, Source};
 use std::alloc::Global;
 
@@ -11,64 +11,63 @@ use std::alloc::Global;
 /// there, and how many polls are still to be Pending.
 fn push_stage(
     alloc: Global,
-    log: &mut String,
     object: &CancellableIo<Peer<'_>>,
-) -> Result<(), CaseError> {
+    out: &mut String,
+) -> Result<(), NoMemory> {
     let there = object.io().is_some();
     let text = format!(in alloc; "saw={:?} cut={:?}", object.saw(), object.cut_at())?;
-    push(log, text.as_str())?;
-    push_left(alloc, log, there, object.kept().waits())
+    push_item(out, text.as_str())?;
+    push_left(there, object.kept().waits(), out)
 }
 
-fn push_left(alloc: Global, log: &mut String, there: bool, waits: u64) -> Result<(), CaseError> {
-    let text = format!(in alloc; " there={there} waits={waits}")?;
-    Ok(log.push_str(text.as_str())?)
+fn push_left(there: bool, waits: u64, out: &mut String) -> Result<(), NoMemory> {
+    write!(out, " there={there} waits={waits}")
 }
 
 /// Calls a closure on the object, which answers 7.
 fn push_call(
     alloc: Global,
-    log: &mut String,
     object: &mut CancellableIo<Peer<'_>>,
     rest: &str,
+    out: &mut String,
 ) -> Result<(), CaseError> {
     let gate = parse_gate(rest)?;
     let answer = object.poll_with(gate, |_| Poll::Ready(7u8));
     let text = format!(in alloc; "{answer:?}")?;
-    push(log, text.as_str())
+    Ok(push_item(out, text.as_str())?)
 }
 
 /// `read SIZE GATE`
 fn read_step<S: Source>(
     alloc: Global,
-    log: &mut String,
     source: &mut S,
     rest: &str,
+    out: &mut String,
 ) -> Result<(), CaseError> {
     let (count, gate) = first_word(rest);
     let gate = parse_gate(gate)?;
-    let mut buf = vec![in alloc; 0; size(count)?]?;
+    let mut buf = vec![in alloc; 0; parsed::<usize>(count)?]?;
     let answer = source.poll_read(gate, buf.as_mut_slice());
-    push_read(alloc, log, buf.as_slice(), answer)
+    Ok(push_read(alloc, buf.as_slice(), answer, out)?)
 }
 
-fn shut_step<S: Shut>(log: &mut String, source: &mut S) -> Result<(), CaseError> {
+fn shut_step<S: Shut>(source: &mut S, out: &mut String) -> Result<(), NoMemory> {
     match source.poll_shutdown() {
-        Poll::Ready(()) => push(log, "shut"),
-        Poll::Pending => push(log, "pending"),
+        Poll::Ready(()) => push_item(out, "shut"),
+        Poll::Pending => push_item(out, "pending"),
     }
 }
 
 fn step<S: Source>(
     alloc: Global,
-    log: &mut String,
     source: &mut S,
     step: &str,
+    out: &mut String,
 ) -> Result<(), CaseError> {
     let (word, rest) = first_word(step);
     match word {
-        "read" => read_step(alloc, log, source, rest),
-        "shut" => shut_step(log, source),
+        "read" => read_step(alloc, source, rest, out),
+        "shut" => Ok(shut_step(source, out)?),
         _ => Err(CaseError::Line),
     }
 }
@@ -76,64 +75,64 @@ fn step<S: Source>(
 /// Takes each step of a list.
 pub fn take_steps<S: Source>(
     alloc: Global,
-    log: &mut String,
     mut source: S,
     steps: &str,
+    out: &mut String,
 ) -> Result<(), CaseError> {
     for text in steps.split(" | ") {
-        step(alloc, log, &mut source, text)?;
+        step(alloc, &mut source, text, out)?;
     }
     Ok(())
 }
 
 fn cut_step(
     alloc: Global,
-    log: &mut String,
     object: &mut CancellableIo<Peer<'_>>,
     text: &str,
+    out: &mut String,
 ) -> Result<(), CaseError> {
     let (word, rest) = first_word(text);
     match word {
-        "stage" => push_stage(alloc, log, object),
-        "call" => push_call(alloc, log, object, rest),
-        _ => step(alloc, log, object, text),
+        "stage" => Ok(push_stage(alloc, object, out)?),
+        "call" => push_call(alloc, object, rest, out),
+        _ => step(alloc, object, text, out),
     }
 }
 
 /// The same, of an object that a trip cuts off.
 pub fn take_cut_steps(
     alloc: Global,
-    log: &mut String,
     mut object: CancellableIo<Peer<'_>>,
     steps: &str,
+    out: &mut String,
 ) -> Result<(), CaseError> {
     for text in steps.split(" | ") {
-        cut_step(alloc, log, &mut object, text)?;
+        cut_step(alloc, &mut object, text, out)?;
     }
     Ok(())
 }
 
 fn chain_step<'a>(
     alloc: Global,
-    log: &mut String,
     chain: &mut Chain<CancellableIo<Peer<'a>>, Peer<'a>>,
     text: &str,
+    out: &mut String,
 ) -> Result<(), CaseError> {
     match text {
-        "stage" => push_stage(alloc, log, chain.get_ref().0),
-        _ => step(alloc, log, chain, text),
+        "stage" => Ok(push_stage(alloc, chain.get_ref().0, out)?),
+        _ => step(alloc, chain, text, out),
     }
 }
 
 /// The same, of a chain.
 pub fn take_chain_steps<'a>(
     alloc: Global,
-    log: &mut String,
     mut chain: Chain<CancellableIo<Peer<'a>>, Peer<'a>>,
     steps: &str,
+    out: &mut String,
 ) -> Result<(), CaseError> {
     for text in steps.split(" | ") {
-        chain_step(alloc, log, &mut chain, text)?;
+        chain_step(alloc, &mut chain, text, out)?;
     }
     Ok(())
 }

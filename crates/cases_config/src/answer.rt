@@ -1,8 +1,7 @@
-use crate::configs::{config_answer, table_answer};
-use crate::error::CaseError;
-use crate::limits::limits_answer;
-use crate::managed::{managed_answer, state_answer};
-use crate::words::first_word;
+use crate::configs::{push_config, push_table};
+use crate::limits::push_limits;
+use crate::managed::{push_managed, push_state};
+use cases::{Answers, CaseError, first_word};
 use rkt_config::{ConfigTable, Limits, Managed};
 use std::alloc::Global;
 
@@ -25,15 +24,16 @@ impl Kept {
     }
 }
 
-/// What a case answers.
-pub fn answer(alloc: Global, kept: &mut Kept, line: &str) -> Result<String, CaseError> {
-    let (command, rest) = first_word(line);
-    match command {
-        "limits" => limits_answer(alloc, &mut kept.limits, rest),
-        "table" => table_answer(alloc, &mut kept.table, rest),
-        "config" => config_answer(alloc, &kept.table, rest),
-        "managed" => managed_answer(alloc, &mut kept.managed, rest),
-        "state" => state_answer(alloc, &kept.managed, rest),
-        _ => Err(CaseError::Line),
+impl Answers for Kept {
+    fn answer(&mut self, alloc: Global, line: &str, out: &mut String) -> Result<(), CaseError> {
+        let (command, rest) = first_word(line);
+        match command {
+            "limits" => push_limits(alloc, &mut self.limits, rest, out),
+            "table" => push_table(alloc, &mut self.table, rest, out),
+            "config" => push_config(alloc, &self.table, rest, out),
+            "managed" => push_managed(alloc, &mut self.managed, rest, out),
+            "state" => push_state(&self.managed, rest, out),
+            _ => Err(CaseError::Line),
+        }
     }
 }

@@ -1,39 +1,40 @@
 //! Cases of configurations, and of the table of texts that is kept from line to line.
-use crate::error::CaseError;
-use crate::words::{first_word, or_none, pair, unescaped};
-use rkt_base::Want;
-use rkt_config::{BadConfig, Config, ConfigTable};
+use crate::words::unescaped;
+use cases::{CaseError, first_word, pair};
+use rkt_base::{NoMemory, Want};
+use rkt_config::{Config, ConfigTable};
 use std::alloc::Global;
 
 /// Gives the name of `NAME=TEXT` the text.
 fn set(alloc: Global, table: &mut ConfigTable, entry: &str) -> Result<(), CaseError> {
-    let (name, text) = pair(entry)?;
+    let (name, text) = pair(entry, "=")?;
     let text = unescaped(alloc, text)?;
     Ok(table.set(name, text.as_str())?)
 }
 
-/// The text of a name, in quotes.
-fn text_of(alloc: Global, table: &ConfigTable, name: &str) -> Result<String, CaseError> {
+/// Adds the text of a name, in quotes.
+fn push_text(table: &ConfigTable, name: &str, out: &mut String) -> Result<(), NoMemory> {
     match table.get(name) {
-        Some(text) => Ok(format!(in alloc; "{text:?}")?),
-        None => or_none(alloc, None),
+        Some(text) => write!(out, "{text:?}"),
+        None => out.push_str("none"),
     }
 }
 
-/// What a table answers to a command.
-pub fn table_answer(
+/// Adds what a table answers to a command.
+pub fn push_table(
     alloc: Global,
     table: &mut ConfigTable,
     line: &str,
-) -> Result<String, CaseError> {
+    out: &mut String,
+) -> Result<(), CaseError> {
     let (command, rest) = first_word(line);
     match command {
         "new" => *table = ConfigTable::new(alloc),
         "set" => set(alloc, table, rest)?,
-        "get" => return text_of(alloc, table, rest),
+        "get" => return Ok(push_text(table, rest, out)?),
         _ => return Err(CaseError::Line),
     }
-    or_none(alloc, Some("done"))
+    Ok(out.push_str("done")?)
 }
 
 fn ip_header(config: &Config) -> Option<&str> {
@@ -44,57 +45,48 @@ fn ip_header(config: &Config) -> Option<&str> {
 }
 
 /// Adds what names a configuration has.
-fn push_names(alloc: Global, list: &mut String, config: &Config) -> Result<(), CaseError> {
+fn push_names(config: &Config, out: &mut String) -> Result<(), NoMemory> {
     let (ident, header) = (config.ident.as_str(), ip_header(config));
-    let text = format!(in alloc; "ident={ident:?} ip_header={header:?}")?;
-    Ok(list.push_str(text.as_str())?)
+    write!(out, "ident={ident:?} ip_header={header:?}")
 }
 
 /// Adds what numbers it has.
-fn push_numbers(alloc: Global, list: &mut String, config: &Config) -> Result<(), CaseError> {
+fn push_numbers(config: &Config, out: &mut String) -> Result<(), NoMemory> {
     let (grace, mercy, turns) = (config.grace, config.mercy, config.turns);
-    let text = format!(in alloc; " grace={grace} mercy={mercy} turns={turns}")?;
-    Ok(list.push_str(text.as_str())?)
+    write!(out, " grace={grace} mercy={mercy} turns={turns}")
 }
 
-/// Adds what limits it has.
-fn push_limits(alloc: Global, list: &mut String, config: &Config) -> Result<(), CaseError> {
-    let text = format!(in alloc; " limits=\"{}\"", config.limits)?;
-    Ok(list.push_str(text.as_str())?)
+/// Adds a configuration, field by field.
+fn push_fields(config: &Config, out: &mut String) -> Result<(), NoMemory> {
+    push_names(config, out)?;
+    push_numbers(config, out)?;
+    write!(out, " limits=\"{}\"", config.limits)
 }
 
-/// A configuration, field by field.
-fn fields(alloc: Global, config: &Config) -> Result<String, CaseError> {
-    let mut list = String::new(alloc);
-    push_names(alloc, &mut list, config)?;
-    push_numbers(alloc, &mut list, config)?;
-    push_limits(alloc, &mut list, config)?;
-    Ok(list)
-}
-
-fn refusal(alloc: Global, bad: &BadConfig) -> Result<String, CaseError> {
-    Ok(format!(in alloc; "refused: {bad}")?)
-}
-
-/// The configuration that a table says, or what refuses it.
-fn of_table(alloc: Global, table: &ConfigTable) -> Result<String, CaseError> {
+/// Adds the configuration that a table says, or what refuses it.
+fn push_of_table(alloc: Global, table: &ConfigTable, out: &mut String) -> Result<(), CaseError> {
     match Config::from_table(alloc, table) {
-        Ok(config) => fields(alloc, &config),
-        Err(Want::Refused(bad)) => refusal(alloc, &bad),
+        Ok(config) => Ok(push_fields(&config, out)?),
+        Err(Want::Refused(bad)) => Ok(write!(out, "refused: {bad}")?),
         Err(Want::NoMemory) => Err(CaseError::NoMemory),
     }
 }
 
-fn of_nothing(alloc: Global) -> Result<String, CaseError> {
+fn push_default(alloc: Global, out: &mut String) -> Result<(), NoMemory> {
     let config = Config::default(alloc)?;
-    fields(alloc, &config)
+    push_fields(&config, out)
 }
 
-/// What a configuration is.
-pub fn config_answer(alloc: Global, table: &ConfigTable, line: &str) -> Result<String, CaseError> {
+/// Adds what a configuration is.
+pub fn push_config(
+    alloc: Global,
+    table: &ConfigTable,
+    line: &str,
+    out: &mut String,
+) -> Result<(), CaseError> {
     match line {
-        "default" => of_nothing(alloc),
-        "table" => of_table(alloc, table),
+        "default" => Ok(push_default(alloc, out)?),
+        "table" => push_of_table(alloc, table, out),
         _ => Err(CaseError::Line),
     }
 }

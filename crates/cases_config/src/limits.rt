@@ -1,20 +1,15 @@
 //! Cases of limits, which are kept from line to line.
-use crate::error::CaseError;
-use crate::words::{first_word, numbered, or_none};
+use crate::words::numbered;
+use cases::{CaseError, first_word};
 use rkt_base::NoMemory;
 use rkt_config::Limits;
 use rkt_data::ByteUnit;
 use std::alloc::Global;
 
-/// How limits print, in quotes.
-fn printed(alloc: Global, limits: &Limits) -> Result<String, CaseError> {
-    Ok(format!(in alloc; "\"{}\"", limits)?)
-}
-
-fn bytes_or_none(alloc: Global, limit: Option<ByteUnit>) -> Result<String, CaseError> {
+fn push_bytes_or_none(limit: Option<ByteUnit>, out: &mut String) -> Result<(), NoMemory> {
     match limit {
-        Some(limit) => Ok(limit.0.to_string(alloc)?),
-        None => or_none(alloc, None),
+        Some(limit) => write!(out, "{}", limit.0),
+        None => out.push_str("none"),
     }
 }
 
@@ -24,19 +19,10 @@ fn with_limit(limits: &Limits, name: &str, bytes: u64) -> Result<Limits, NoMemor
 }
 
 /// Sets the limit that `NAME BYTES` says.
-fn set(alloc: Global, limits: &mut Limits, text: &str) -> Result<String, CaseError> {
+fn set(limits: &mut Limits, text: &str) -> Result<(), CaseError> {
     let (name, bytes) = numbered(text)?;
     *limits = with_limit(limits, name, bytes)?;
-    printed(alloc, limits)
-}
-
-/// The layers that stand behind a bar each.
-fn layers(alloc: Global, text: &str) -> Result<Vec<String>, CaseError> {
-    let mut layers = Vec::new(alloc);
-    for layer in text.split('|').skip(1) {
-        push_layer(alloc, &mut layers, layer)?;
-    }
-    Ok(layers)
+    Ok(())
 }
 
 fn push_layer(alloc: Global, layers: &mut Vec<String>, layer: &str) -> Result<(), NoMemory> {
@@ -44,37 +30,63 @@ fn push_layer(alloc: Global, layers: &mut Vec<String>, layer: &str) -> Result<()
     Ok(layers.push(layer)?)
 }
 
-fn found(alloc: Global, limits: &Limits, text: &str) -> Result<String, CaseError> {
-    let layers = layers(alloc, text)?;
-    bytes_or_none(alloc, limits.find(layers.as_slice()))
+/// The layers that stand behind a bar each.
+fn layers(alloc: Global, text: &str) -> Result<Vec<String>, NoMemory> {
+    let mut layers = Vec::new(alloc);
+    for layer in text.split('|').skip(1) {
+        push_layer(alloc, &mut layers, layer)?;
+    }
+    Ok(layers)
 }
 
-/// Whether the limits equal a copy in which one is set.
-fn same(alloc: Global, limits: &Limits, text: &str) -> Result<String, CaseError> {
+/// Adds the limit of some layers.
+fn push_found(
+    alloc: Global,
+    limits: &Limits,
+    text: &str,
+    out: &mut String,
+) -> Result<(), NoMemory> {
+    let layers = layers(alloc, text)?;
+    push_bytes_or_none(limits.find(layers.as_slice()), out)
+}
+
+/// Adds whether the limits equal a copy in which one is set.
+fn push_same(limits: &Limits, text: &str, out: &mut String) -> Result<(), CaseError> {
     let (name, bytes) = numbered(text)?;
     let other = with_limit(limits, name, bytes)?;
     let same = *limits == other;
-    Ok(same.to_string(alloc)?)
+    Ok(write!(out, "{same}")?)
 }
 
-/// What limits tell that are only asked.
-fn told(alloc: Global, limits: &Limits, command: &str, rest: &str) -> Result<String, CaseError> {
+/// Adds what limits tell that are only asked.
+fn push_told(
+    alloc: Global,
+    limits: &Limits,
+    command: &str,
+    rest: &str,
+    out: &mut String,
+) -> Result<(), CaseError> {
     match command {
-        "get" => bytes_or_none(alloc, limits.get(rest)),
-        "find" => found(alloc, limits, rest),
-        "same" => same(alloc, limits, rest),
+        "get" => Ok(push_bytes_or_none(limits.get(rest), out)?),
+        "find" => Ok(push_found(alloc, limits, rest, out)?),
+        "same" => push_same(limits, rest, out),
         _ => Err(CaseError::Line),
     }
 }
 
-/// What limits answer to a command.
-pub fn limits_answer(alloc: Global, limits: &mut Limits, line: &str) -> Result<String, CaseError> {
+/// Adds what limits answer to a command: behind a change, how they print, in quotes.
+pub fn push_limits(
+    alloc: Global,
+    limits: &mut Limits,
+    line: &str,
+    out: &mut String,
+) -> Result<(), CaseError> {
     let (command, rest) = first_word(line);
     match command {
         "new" => *limits = Limits::new(alloc),
         "default" => *limits = Limits::default(alloc)?,
-        "set" => return set(alloc, limits, rest),
-        _ => return told(alloc, limits, command, rest),
+        "set" => set(limits, rest)?,
+        _ => return push_told(alloc, limits, command, rest, out),
     }
-    printed(alloc, limits)
+    Ok(write!(out, "\"{}\"", limits)?)
 }

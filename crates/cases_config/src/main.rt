@@ -24,45 +24,15 @@
 
 mod answer;
 mod configs;
-mod error;
 mod limits;
 mod managed;
 mod words;
 
-use crate::answer::{Kept, answer};
-use std::alloc::Global;
+use crate::answer::Kept;
+use cases::answer_lines;
 use std::io;
-
-fn print_answer(rt: &impl Print, line: &str, text: &str) -> io::Result<()> {
-    println!(rt; "{line} -> {text}")
-}
-
-fn is_heading(line: &str) -> bool {
-    line.is_empty() || line.starts_with('#')
-}
-
-/// Writes the line, and behind an arrow the answer where it is a case.
-fn print_line(rt: &impl Print, alloc: Global, kept: &mut Kept, line: &str) -> io::Result<()> {
-    if is_heading(line) {
-        return rt.println(line);
-    }
-    match answer(alloc, kept, line) {
-        Ok(text) => print_answer(rt, line, text.as_str()),
-        Err(error) => print_answer(rt, line, error.text()),
-    }
-}
-
-/// Answers each line of standard input.
-fn print_lines<R: Print + Input>(rt: &R, alloc: Global, kept: &mut Kept) -> io::Result<()> {
-    for line in rt.lines(alloc) {
-        let line = line?;
-        print_line(rt, alloc, kept, line.as_str())?;
-    }
-    Ok(())
-}
 
 fn main(rt: HostRuntime) -> io::Result<()> {
     let alloc = rt.alloc();
-    let mut kept = Kept::new(alloc);
-    print_lines(&rt, alloc, &mut kept)
+    answer_lines(&rt, alloc, Kept::new(alloc))
 }

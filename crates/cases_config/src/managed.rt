@@ -1,111 +1,100 @@
 //! Cases of managed values, which are kept from line to line, and of the states that lend them.
-use crate::error::CaseError;
-use crate::words::{first_word, number, or_none};
-use rkt_base::Want;
+use cases::{CaseError, first_word, parsed};
+use rkt_base::{NoMemory, Want};
 use rkt_config::{DuplicateState, Managed, State};
 use rkt_http::Key;
 use std::alloc::Global;
 
 fn key(word: &str) -> Result<Key, CaseError> {
-    match word.parse() {
-        Ok(key) => Ok(Key(key)),
-        Err(_) => Err(CaseError::Line),
-    }
+    Ok(Key(parsed::<u32>(word)?))
 }
 
 /// A key, and the number behind it.
 fn keyed(text: &str) -> Result<(Key, u64), CaseError> {
     let (word, rest) = first_word(text);
-    let key = key(word)?;
-    Ok((key, number(rest)?))
+    Ok((key(word)?, parsed::<u64>(rest)?))
 }
 
-fn refusal(alloc: Global, duplicate: &DuplicateState<u64>) -> Result<String, CaseError> {
+fn push_refusal(duplicate: &DuplicateState<u64>, out: &mut String) -> Result<(), NoMemory> {
     let value = duplicate.value;
-    Ok(format!(in alloc; "refused: {duplicate}, {value}")?)
+    write!(out, "refused: {duplicate}, {value}")
 }
 
-fn set(alloc: Global, managed: &mut Managed<u64>, text: &str) -> Result<String, CaseError> {
+/// Adds `done`, or what refuses the value.
+fn push_set(managed: &mut Managed<u64>, text: &str, out: &mut String) -> Result<(), CaseError> {
     let (key, value) = keyed(text)?;
     match managed.set(key, value) {
-        Ok(()) => or_none(alloc, Some("done")),
-        Err(Want::Refused(duplicate)) => refusal(alloc, &duplicate),
+        Ok(()) => Ok(out.push_str("done")?),
+        Err(Want::Refused(duplicate)) => Ok(push_refusal(&duplicate, out)?),
         Err(Want::NoMemory) => Err(CaseError::NoMemory),
     }
 }
 
-fn get(alloc: Global, managed: &Managed<u64>, word: &str) -> Result<String, CaseError> {
+fn push_value(managed: &Managed<u64>, word: &str, out: &mut String) -> Result<(), CaseError> {
     match managed.get(key(word)?) {
-        Some(value) => Ok(value.to_string(alloc)?),
-        None => or_none(alloc, None),
+        Some(value) => Ok(write!(out, "{value}")?),
+        None => Ok(out.push_str("none")?),
     }
 }
 
-/// What the managed values answer to a command.
-pub fn managed_answer(
+/// Adds what the managed values answer to a command.
+pub fn push_managed(
     alloc: Global,
     managed: &mut Managed<u64>,
     line: &str,
-) -> Result<String, CaseError> {
+    out: &mut String,
+) -> Result<(), CaseError> {
     let (command, rest) = first_word(line);
     match command {
         "new" => *managed = Managed::new(alloc),
-        "set" => return set(alloc, managed, rest),
-        "get" => return get(alloc, managed, rest),
+        "set" => return push_set(managed, rest, out),
+        "get" => return push_value(managed, rest, out),
         _ => return Err(CaseError::Line),
     }
-    or_none(alloc, Some("done"))
+    Ok(out.push_str("done")?)
 }
 
-/// How a state compares with that of a number.
-fn push_order<const KEY: u32>(
-    alloc: Global,
-    list: &mut String,
-    state: &State<'_, u64, KEY>,
-    value: u64,
-) -> Result<(), CaseError> {
-    let other: State<'_, u64, KEY> = State::from(&value);
-    let (same, order) = (*state == other, state.cmp(&other));
-    let text = format!(in alloc; " equal={same} order={order:?}")?;
-    Ok(list.push_str(text.as_str())?)
+/// Adds whether a state equals another, and how it compares with it.
+fn push_order<'a, const KEY: u32>(
+    state: &State<'a, u64, KEY>,
+    other: &State<'a, u64, KEY>,
+    out: &mut String,
+) -> Result<(), NoMemory> {
+    let (same, order) = (state == other, state.cmp(other));
+    write!(out, " equal={same} order={order:?}")
 }
 
-/// A state beside that of a number.
-fn compared<const KEY: u32>(
-    alloc: Global,
-    state: &State<'_, u64, KEY>,
-    value: u64,
-) -> Result<String, CaseError> {
+/// Adds a state beside that of a number.
+fn push_compared<'a, const KEY: u32>(
+    state: &State<'a, u64, KEY>,
+    value: &'a u64,
+    out: &mut String,
+) -> Result<(), NoMemory> {
     let (lent, pointed): (u64, u64) = (*state.inner(), **state);
-    let mut list = format!(in alloc; "{state} inner={lent} deref={pointed}")?;
-    push_order(alloc, &mut list, state, value)?;
-    Ok(list)
+    write!(out, "{state} inner={lent} deref={pointed}")?;
+    push_order(state, &State::from(value), out)
 }
 
-fn state_of<const KEY: u32>(
-    alloc: Global,
-    managed: &Managed<u64>,
-    value: u64,
-) -> Result<String, CaseError> {
-    let state: Option<State<'_, u64, KEY>> = State::get(managed);
+fn push_state_of<'a, const KEY: u32>(
+    managed: &'a Managed<u64>,
+    value: &'a u64,
+    out: &mut String,
+) -> Result<(), NoMemory> {
+    let state: Option<State<'a, u64, KEY>> = State::get(managed);
     match state {
-        Some(state) => compared(alloc, &state, value),
-        None => or_none(alloc, None),
+        Some(state) => push_compared(&state, value, out),
+        None => out.push_str("none"),
     }
 }
 
-/// What the state under a key is. A key is part of the state's type, so these keys alone can be asked.
-pub fn state_answer(
-    alloc: Global,
-    managed: &Managed<u64>,
-    line: &str,
-) -> Result<String, CaseError> {
+/// Adds what the state under a key is. A key is part of the state's type, so these keys alone can be asked.
+pub fn push_state(managed: &Managed<u64>, line: &str, out: &mut String) -> Result<(), CaseError> {
     let (key, value) = keyed(line)?;
     match key.0 {
-        0 => state_of::<0>(alloc, managed, value),
-        1 => state_of::<1>(alloc, managed, value),
-        2 => state_of::<2>(alloc, managed, value),
-        3 => state_of::<3>(alloc, managed, value),
+        0 => Ok(push_state_of::<0>(managed, &value, out)?),
+        1 => Ok(push_state_of::<1>(managed, &value, out)?),
+        2 => Ok(push_state_of::<2>(managed, &value, out)?),
+        3 => Ok(push_state_of::<3>(managed, &value, out)?),
         _ => Err(CaseError::Line),
     }
 }

@@ -1,49 +1,71 @@
-use crate::error::CaseError;
-use crate::header_map::{Maps, map_answer};
-use crate::headers::{header_answer, uncased_answer};
-use crate::media::{accept_answer, content_answer, media_answer, named_answer};
-use crate::outcome::outcome_answer;
-use crate::reading::reading_answer;
-use crate::statuses::{method_answer, status_answer};
-use crate::words::{first_word, plain};
+use crate::header_map::{Maps, push_maps};
+use crate::headers::{push_header, push_uncased};
+use crate::media::{push_accept, push_content, push_equal, push_is_known, push_known, push_media};
+use crate::outcome::push_outcome_case;
+use crate::reading::push_reading;
+use crate::refusal::Refusal;
+use crate::statuses::{push_method, push_status};
+use cases::{Answers, CaseError, first_word, plain};
 use std::alloc::Global;
 
-/// What a case of an outcome answers.
-fn outcome_case(alloc: Global, command: &str, rest: &str) -> Result<String, CaseError> {
+/// Adds what a case answers that has no text of a grammar.
+fn push_plain_case(
+    alloc: Global,
+    command: &str,
+    rest: &str,
+    out: &mut String,
+) -> Result<(), CaseError> {
     match command {
-        "outcome" => outcome_answer(alloc, rest),
-        "option" | "guard" | "data" | "route" => reading_answer(alloc, command, rest),
+        "method" | "wire" => Ok(push_method(command, rest, out)?),
+        "status" | "html" | "json" => push_status(alloc, command, rest, out),
+        "known" => push_known(alloc, rest, out),
+        "header" => push_header(alloc, rest, out),
+        "uncased" => Ok(push_uncased(alloc, rest, out)?),
+        "outcome" => push_outcome_case(rest, out),
+        "option" | "guard" | "data" | "route" => push_reading(command, rest, out),
         _ => Err(CaseError::Line),
     }
 }
 
-/// What a case of a method, a status or a header answers.
-fn head_case(alloc: Global, command: &str, rest: &str) -> Result<String, CaseError> {
+/// Adds what a case answers that is not about the map.
+fn push_case(alloc: Global, command: &str, rest: &str, out: &mut String) -> Result<(), Refusal> {
     match command {
-        "method" | "wire" => method_answer(alloc, command, rest),
-        "status" | "html" | "json" => status_answer(alloc, command, rest),
-        "header" => header_answer(alloc, rest),
-        "uncased" => uncased_answer(alloc, rest),
-        _ => outcome_case(alloc, command, rest),
+        "media" | "parts" | "again" => push_media(alloc, command, plain(rest), out),
+        "content" | "kind" => push_content(alloc, command, plain(rest), out),
+        "accept" => push_accept(alloc, plain(rest), out),
+        "equal" => push_equal(alloc, rest, out),
+        "is" => push_is_known(alloc, rest, out),
+        _ => Ok(push_plain_case(alloc, command, rest, out)?),
     }
 }
 
-/// What a case answers that is not about the map.
-fn plain_case(alloc: Global, command: &str, rest: &str) -> Result<String, CaseError> {
-    match command {
-        "media" | "parts" | "again" => media_answer(alloc, command, plain(rest)),
-        "content" | "kind" => content_answer(alloc, command, plain(rest)),
-        "accept" => accept_answer(alloc, plain(rest)),
-        "equal" | "is" | "known" => named_answer(alloc, command, rest),
-        _ => head_case(alloc, command, rest),
-    }
-}
-
-/// What a case answers.
-pub fn answer(alloc: Global, maps: &mut Maps, line: &str) -> Result<String, CaseError> {
+fn answer_line(
+    alloc: Global,
+    maps: &mut Maps,
+    line: &str,
+    out: &mut String,
+) -> Result<(), Refusal> {
     let (command, rest) = first_word(line);
     match command {
-        "map" => map_answer(alloc, maps, rest),
-        _ => plain_case(alloc, command, rest),
+        "map" => Ok(push_maps(alloc, maps, rest, out)?),
+        _ => push_case(alloc, command, rest, out),
+    }
+}
+
+/// Adds the fault of what is refused, in place of what was added before.
+fn push_refusal(refusal: Refusal, out: &mut String) -> Result<(), CaseError> {
+    out.clear();
+    match refusal {
+        Refusal::Media(fault) => Ok(write!(out, "{fault}")?),
+        Refusal::Case(error) => Err(error),
+    }
+}
+
+impl Answers for Maps {
+    fn answer(&mut self, alloc: Global, line: &str, out: &mut String) -> Result<(), CaseError> {
+        match answer_line(alloc, self, line, out) {
+            Ok(()) => Ok(()),
+            Err(refusal) => push_refusal(refusal, out),
+        }
     }
 }

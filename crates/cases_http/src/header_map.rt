@@ -1,7 +1,7 @@
 //! Cases of a header map, which is kept from line to line.
-use crate::error::CaseError;
 use crate::headers::made_header;
-use crate::words::{first_word, named, truth};
+use crate::words::named;
+use cases::{CaseError, first_word};
 use rkt_base::NoMemory;
 use rkt_http::{HeaderIter, HeaderMap, HeaderValues};
 use std::alloc::Global;
@@ -22,49 +22,30 @@ impl Maps {
     }
 }
 
-/// Adds a header behind a bar.
-fn push_header(list: &mut String, name: &str, value: &str) -> Result<(), NoMemory> {
-    list.push_str("|")?;
-    list.push_str(name)?;
-    list.push_str(": ")?;
-    Ok(list.push_str(value)?)
-}
-
-fn push_headers(list: &mut String, headers: HeaderIter<'_>) -> Result<(), NoMemory> {
+fn push_headers(headers: HeaderIter<'_>, out: &mut String) -> Result<(), NoMemory> {
     for (name, value) in headers {
-        push_header(list, name, value)?;
+        write!(out, "|{name}: {value}")?;
     }
     Ok(())
 }
 
-/// How many groups there are, and each header behind a bar.
-fn shown(alloc: Global, map: &HeaderMap) -> Result<String, CaseError> {
-    let mut list = map.len().to_string(alloc)?;
-    push_headers(&mut list, map.iter())?;
-    Ok(list)
+/// Adds how many groups there are, and each header behind a bar.
+fn push_map(map: &HeaderMap, out: &mut String) -> Result<(), NoMemory> {
+    write!(out, "{}", map.len())?;
+    push_headers(map.iter(), out)
 }
 
-fn push_value(list: &mut String, value: &str) -> Result<(), NoMemory> {
-    list.push_str("|")?;
-    Ok(list.push_str(value)?)
-}
-
-fn push_values(list: &mut String, values: HeaderValues<'_>) -> Result<(), NoMemory> {
+fn push_each_value(values: HeaderValues<'_>, out: &mut String) -> Result<(), NoMemory> {
     for value in values {
-        push_value(list, value)?;
+        write!(out, "|{value}")?;
     }
     Ok(())
 }
 
-/// How many values there are under a name, and each behind a bar.
-fn values(alloc: Global, map: &HeaderMap, name: &str) -> Result<String, CaseError> {
-    let mut list = map.get(name).count().to_string(alloc)?;
-    push_values(&mut list, map.get(name))?;
-    Ok(list)
-}
-
-fn first_value(alloc: Global, value: Option<&str>) -> Result<String, CaseError> {
-    Ok(format!(in alloc; "{value:?}")?)
+/// Adds how many values there are under a name, and each behind a bar.
+fn push_values(map: &HeaderMap, name: &str, out: &mut String) -> Result<(), NoMemory> {
+    write!(out, "{}", map.get(name).count())?;
+    push_each_value(map.get(name), out)
 }
 
 fn push_owned(alloc: Global, values: &mut Vec<String>, value: &str) -> Result<(), NoMemory> {
@@ -104,38 +85,51 @@ fn replace_all(alloc: Global, map: &mut HeaderMap, rest: &str) -> Result<(), Cas
     Ok(map.replace_all(name, values)?)
 }
 
-fn replace(alloc: Global, map: &mut HeaderMap, rest: &str) -> Result<bool, CaseError> {
+/// Adds whether the group was there that a header takes the place of.
+fn push_replaced(
+    alloc: Global,
+    map: &mut HeaderMap,
+    rest: &str,
+    out: &mut String,
+) -> Result<(), CaseError> {
     let header = made_header(alloc, rest)?;
-    Ok(map.replace(header)?)
+    let replaced = map.replace(header)?;
+    Ok(write!(out, "{replaced}")?)
 }
 
-/// What a map tells that is only asked.
-fn told(alloc: Global, map: &HeaderMap, command: &str, rest: &str) -> Result<String, CaseError> {
+/// Adds what a map tells that is only asked.
+fn push_told(
+    map: &HeaderMap,
+    command: &str,
+    rest: &str,
+    out: &mut String,
+) -> Result<(), CaseError> {
     match command {
-        "get" => values(alloc, map, rest),
-        "one" => first_value(alloc, map.get_one(rest)),
-        "has" => truth(alloc, map.contains(rest)),
-        "empty" => truth(alloc, map.is_empty()),
-        "shown" => shown(alloc, map),
+        "get" => Ok(push_values(map, rest, out)?),
+        "one" => Ok(write!(out, "{:?}", map.get_one(rest))?),
+        "has" => Ok(write!(out, "{}", map.contains(rest))?),
+        "empty" => Ok(write!(out, "{}", map.is_empty())?),
+        "shown" => Ok(push_map(map, out)?),
         _ => Err(CaseError::Line),
     }
 }
 
 /// Changes the map, or tells what it has.
-fn changed(
+fn change(
     alloc: Global,
     map: &mut HeaderMap,
     command: &str,
     rest: &str,
-) -> Result<String, CaseError> {
+    out: &mut String,
+) -> Result<(), CaseError> {
     match command {
         "add" => add(alloc, map, rest)?,
         "add_all" => add_all(alloc, map, rest)?,
         "replace_all" => replace_all(alloc, map, rest)?,
-        "replace" => return truth(alloc, replace(alloc, map, rest)?),
-        _ => return told(alloc, map, command, rest),
+        "replace" => return push_replaced(alloc, map, rest, out),
+        _ => return push_told(map, command, rest, out),
     }
-    Ok(String::from_str(alloc, "done")?)
+    Ok(out.push_str("done")?)
 }
 
 /// Makes the map empty.
@@ -144,42 +138,53 @@ fn renew(alloc: Global, maps: &mut Maps) {
 }
 
 /// Keeps a copy of the map.
-fn keep(alloc: Global, maps: &mut Maps) -> Result<(), CaseError> {
+fn keep(alloc: Global, maps: &mut Maps) -> Result<(), NoMemory> {
     maps.copy = maps.map.try_clone(alloc)?;
     Ok(())
 }
 
 /// Puts the headers of the copy behind those of the map.
-fn append(alloc: Global, maps: &mut Maps) -> Result<(), CaseError> {
+fn append(alloc: Global, maps: &mut Maps) -> Result<(), NoMemory> {
     let other = maps.copy.try_clone(alloc)?;
-    Ok(maps.map.append(other)?)
+    maps.map.append(other)
 }
 
 /// Puts the headers of the copy in place of those of the map.
-fn overwrite(alloc: Global, maps: &mut Maps) -> Result<(), CaseError> {
+fn overwrite(alloc: Global, maps: &mut Maps) -> Result<(), NoMemory> {
     let other = maps.copy.try_clone(alloc)?;
-    Ok(maps.map.overwrite(other)?)
+    maps.map.overwrite(other)
 }
 
-/// What the maps answer to a command.
-pub fn map_answer(alloc: Global, maps: &mut Maps, line: &str) -> Result<String, CaseError> {
+/// Changes the map by its copy, or alone.
+fn grow(
+    alloc: Global,
+    maps: &mut Maps,
+    command: &str,
+    rest: &str,
+    out: &mut String,
+) -> Result<(), CaseError> {
+    match command {
+        "append" => append(alloc, maps)?,
+        "overwrite" => overwrite(alloc, maps)?,
+        "copied" => return Ok(push_map(&maps.copy, out)?),
+        _ => return change(alloc, &mut maps.map, command, rest, out),
+    }
+    Ok(out.push_str("done")?)
+}
+
+/// Adds what the maps answer to a command.
+pub fn push_maps(
+    alloc: Global,
+    maps: &mut Maps,
+    line: &str,
+    out: &mut String,
+) -> Result<(), CaseError> {
     let (command, rest) = first_word(line);
     match command {
         "new" => renew(alloc, maps),
         "remove" => maps.map.remove(rest),
         "copy" => keep(alloc, maps)?,
-        _ => return grown(alloc, maps, command, rest),
+        _ => return grow(alloc, maps, command, rest, out),
     }
-    Ok(String::from_str(alloc, "done")?)
-}
-
-/// Changes the map by its copy, or alone.
-fn grown(alloc: Global, maps: &mut Maps, command: &str, rest: &str) -> Result<String, CaseError> {
-    match command {
-        "append" => append(alloc, maps)?,
-        "overwrite" => overwrite(alloc, maps)?,
-        "copied" => return shown(alloc, &maps.copy),
-        _ => return changed(alloc, &mut maps.map, command, rest),
-    }
-    Ok(String::from_str(alloc, "done")?)
+    Ok(out.push_str("done")?)
 }

@@ -1,12 +1,14 @@
 //! Cases of headers, and of texts that are compared without regard to case.
-use crate::error::CaseError;
-use crate::words::{first_word, named};
+use crate::words::named;
+use cases::{CaseError, first_word};
+use rkt_base::NoMemory;
 use rkt_http::{Header, Uncased};
 use std::alloc::Global;
 
-/// A header as a line.
-pub fn shown_header(alloc: Global, header: &Header) -> Result<String, CaseError> {
-    Ok(format!(in alloc; "{}: {}", header.name().as_str(), header.value())?)
+/// Adds a header as a line.
+pub fn push_line(header: &Header, out: &mut String) -> Result<(), NoMemory> {
+    let (name, value) = (header.name().as_str(), header.value());
+    write!(out, "{name}: {value}")
 }
 
 /// The header that a text says.
@@ -15,30 +17,35 @@ pub fn made_header(alloc: Global, text: &str) -> Result<Header, CaseError> {
     Ok(Header::new(alloc, name, value)?)
 }
 
-fn copy_shown(alloc: Global, header: &Header) -> Result<String, CaseError> {
+fn push_copy(alloc: Global, header: &Header, out: &mut String) -> Result<(), NoMemory> {
     let copy = header.try_clone(alloc)?;
-    shown_header(alloc, &copy)
+    push_line(&copy, out)
 }
 
-pub fn header_answer(alloc: Global, text: &str) -> Result<String, CaseError> {
+/// Adds the header that a text says, as a copy has it.
+pub fn push_header(alloc: Global, text: &str, out: &mut String) -> Result<(), CaseError> {
     let header = made_header(alloc, text)?;
-    copy_shown(alloc, &header)
+    Ok(push_copy(alloc, &header, out)?)
 }
 
-/// How a word is spelled, and whether it is the same as the other.
-fn compared(alloc: Global, one: &Uncased, other: &Uncased) -> Result<String, CaseError> {
-    Ok(format!(in alloc; "{} {}", one.as_str(), one == other)?)
+fn push_compared(one: &Uncased, other: &Uncased, out: &mut String) -> Result<(), NoMemory> {
+    write!(out, "{} {}", one.as_str(), one == other)
 }
 
-/// The same, as a copy of the first has it.
-fn copy_compared(alloc: Global, one: &Uncased, other: &str) -> Result<String, CaseError> {
+fn push_copy_compared(
+    alloc: Global,
+    one: &Uncased,
+    other: &str,
+    out: &mut String,
+) -> Result<(), NoMemory> {
     let copy = one.try_clone(alloc)?;
     let other = Uncased::new(alloc, other)?;
-    compared(alloc, &copy, &other)
+    push_compared(&copy, &other, out)
 }
 
-pub fn uncased_answer(alloc: Global, rest: &str) -> Result<String, CaseError> {
+/// Adds how a word is spelled, and whether it is the same as the other, as a copy has it.
+pub fn push_uncased(alloc: Global, rest: &str, out: &mut String) -> Result<(), NoMemory> {
     let (one, other) = first_word(rest);
     let one = Uncased::new(alloc, one)?;
-    copy_compared(alloc, &one, other)
+    push_copy_compared(alloc, &one, other, out)
 }

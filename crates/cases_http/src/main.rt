@@ -48,59 +48,20 @@
 #![tactic(auto)]
 
 mod answer;
-mod error;
 mod header_map;
 mod headers;
 mod media;
 mod outcome;
 mod reading;
+mod refusal;
 mod statuses;
 mod words;
 
-use crate::answer::answer;
-use crate::error::CaseError;
 use crate::header_map::Maps;
-use std::alloc::Global;
+use cases::answer_lines;
 use std::io;
-
-fn print_answer(rt: &impl Print, line: &str, text: &str) -> io::Result<()> {
-    println!(rt; "{line} -> {text}")
-}
-
-/// Writes a refused line, with what is wrong with it.
-fn print_fault(rt: &impl Print, line: &str, error: CaseError) -> io::Result<()> {
-    match error {
-        CaseError::Line => print_answer(rt, line, "? line"),
-        CaseError::NoMemory => print_answer(rt, line, "out of memory"),
-        CaseError::Media(fault) => println!(rt; "{line} -> {fault}"),
-    }
-}
-
-fn is_heading(line: &str) -> bool {
-    line.is_empty() || line.starts_with('#')
-}
-
-/// Writes the line, and behind an arrow the answer where it is a case.
-fn print_line(rt: &impl Print, alloc: Global, maps: &mut Maps, line: &str) -> io::Result<()> {
-    if is_heading(line) {
-        return rt.println(line);
-    }
-    match answer(alloc, maps, line) {
-        Ok(text) => print_answer(rt, line, text.as_str()),
-        Err(error) => print_fault(rt, line, error),
-    }
-}
-
-fn print_lines(rt: &HostRuntime, alloc: Global, maps: &mut Maps) -> io::Result<()> {
-    for line in rt.lines(alloc) {
-        let line = line?;
-        print_line(rt, alloc, maps, line.as_str())?;
-    }
-    Ok(())
-}
 
 fn main(rt: HostRuntime) -> io::Result<()> {
     let alloc = rt.alloc();
-    let mut maps = Maps::new(alloc);
-    print_lines(&rt, alloc, &mut maps)
+    answer_lines(&rt, alloc, Maps::new(alloc))
 }

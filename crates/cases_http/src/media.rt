@@ -1,73 +1,85 @@
 //! Cases of media types, content types and lists of accepted ones.
-use crate::error::CaseError;
-use crate::headers::shown_header;
-use crate::words::{first_word, truth};
+use crate::headers::push_line;
+use crate::refusal::Refusal;
+use cases::{CaseError, first_word, pair};
+use rkt_base::NoMemory;
 use rkt_http::{Accept, ContentType, Known, MediaType};
 use std::alloc::Global;
 
-fn printed(alloc: Global, media: &MediaType) -> Result<String, CaseError> {
-    Ok(media.to_text(alloc)?.into_string())
+fn push_printed(alloc: Global, media: &MediaType, out: &mut String) -> Result<(), NoMemory> {
+    let text = media.to_text(alloc)?;
+    out.push_str(text.as_str())
 }
 
-/// What a media type is printed as, as a copy has it.
-fn copy_printed(alloc: Global, media: &MediaType) -> Result<String, CaseError> {
+/// Adds what a media type is printed as, as a copy has it.
+fn push_copy(alloc: Global, media: &MediaType, out: &mut String) -> Result<(), NoMemory> {
     let copy = media.try_clone(alloc)?;
-    printed(alloc, &copy)
+    push_printed(alloc, &copy, out)
 }
 
-fn parts(alloc: Global, media: &MediaType) -> Result<String, CaseError> {
-    let text = format!(in alloc;
-        "{:?} {:?} {}",
-        media.top(),
-        media.sub(),
-        media.specificity()
-    )?;
-    Ok(text)
+fn push_parts(media: &MediaType, out: &mut String) -> Result<(), NoMemory> {
+    let (top, sub, specificity) = (media.top(), media.sub(), media.specificity());
+    write!(out, "{top:?} {sub:?} {specificity}")
 }
 
-/// Whether a media type that was printed is read as this one.
-fn read_again(alloc: Global, media: &MediaType, text: &str) -> Result<bool, CaseError> {
-    let again = MediaType::parse(alloc, text)?;
-    Ok(again == *media)
+/// Adds whether a media type that was printed is read as this one.
+fn push_again(alloc: Global, media: &MediaType, out: &mut String) -> Result<(), Refusal> {
+    let text = media.to_text(alloc)?;
+    let again = MediaType::parse(alloc, text.as_str())?;
+    Ok(write!(out, "{}", again == *media)?)
 }
 
-fn again(alloc: Global, media: &MediaType) -> Result<String, CaseError> {
-    let text = printed(alloc, media)?;
-    truth(alloc, read_again(alloc, media, text.as_str())?)
-}
-
-fn told(alloc: Global, command: &str, media: &MediaType) -> Result<String, CaseError> {
+fn push_told(
+    alloc: Global,
+    command: &str,
+    media: &MediaType,
+    out: &mut String,
+) -> Result<(), Refusal> {
     match command {
-        "parts" => parts(alloc, media),
-        "again" => again(alloc, media),
-        _ => copy_printed(alloc, media),
+        "parts" => Ok(push_parts(media, out)?),
+        "again" => push_again(alloc, media, out),
+        _ => Ok(push_copy(alloc, media, out)?),
     }
 }
 
-/// What a command answers of a media type.
-pub fn media_answer(alloc: Global, command: &str, text: &str) -> Result<String, CaseError> {
+/// Adds what a command answers of a media type.
+pub fn push_media(
+    alloc: Global,
+    command: &str,
+    text: &str,
+    out: &mut String,
+) -> Result<(), Refusal> {
     let media = MediaType::parse(alloc, text)?;
-    told(alloc, command, &media)
+    push_told(alloc, command, &media, out)
 }
 
-/// The header of a content type, as a copy has it.
-fn shown_content(alloc: Global, content: &ContentType) -> Result<String, CaseError> {
+/// Adds the header of a content type, as a copy has it.
+fn push_content_header(
+    alloc: Global,
+    content: &ContentType,
+    out: &mut String,
+) -> Result<(), NoMemory> {
     let copy = content.try_clone(alloc)?;
     let header = copy.header(alloc)?;
-    shown_header(alloc, &header)
+    push_line(&header, out)
 }
 
-fn shown_kind(alloc: Global, content: &ContentType) -> Result<String, CaseError> {
-    let is_json = content.media_type().is_json();
-    Ok(format!(in alloc; "json={is_json} form={}", content.is_form())?)
+fn push_kind(content: &ContentType, out: &mut String) -> Result<(), NoMemory> {
+    let (json, form) = (content.media_type().is_json(), content.is_form());
+    write!(out, "json={json} form={form}")
 }
 
-/// What a command answers of a content type.
-pub fn content_answer(alloc: Global, command: &str, text: &str) -> Result<String, CaseError> {
+/// Adds what a command answers of a content type.
+pub fn push_content(
+    alloc: Global,
+    command: &str,
+    text: &str,
+    out: &mut String,
+) -> Result<(), Refusal> {
     let content = ContentType::parse(alloc, text)?;
     match command {
-        "kind" => shown_kind(alloc, &content),
-        _ => shown_content(alloc, &content),
+        "kind" => Ok(push_kind(&content, out)?),
+        _ => Ok(push_content_header(alloc, &content, out)?),
     }
 }
 
@@ -94,51 +106,45 @@ fn known(text: &str) -> Result<Known, CaseError> {
     Err(CaseError::Line)
 }
 
-fn known_answer(alloc: Global, name: &str) -> Result<String, CaseError> {
+/// Adds the header of the content type with this name of its own.
+pub fn push_known(alloc: Global, name: &str, out: &mut String) -> Result<(), CaseError> {
     let header = ContentType::known_header(alloc, known(name)?)?;
-    shown_header(alloc, &header)
+    Ok(push_line(&header, out)?)
 }
 
-/// Whether a text is a content type that is the same as this one.
-fn equals(alloc: Global, content: &ContentType, text: &str) -> Result<bool, CaseError> {
+/// Adds whether a text is a content type that is the same as this one.
+fn push_equals(
+    alloc: Global,
+    content: &ContentType,
+    text: &str,
+    out: &mut String,
+) -> Result<(), Refusal> {
     let other = ContentType::parse(alloc, text)?;
-    Ok(*content == other)
+    Ok(write!(out, "{}", *content == other)?)
 }
 
-fn is_known(alloc: Global, rest: &str) -> Result<bool, CaseError> {
+/// Adds whether the content type of `NAME TEXT` is the one with this name.
+pub fn push_is_known(alloc: Global, rest: &str, out: &mut String) -> Result<(), Refusal> {
     let (name, text) = first_word(rest);
     let content = ContentType::known(alloc, known(name)?)?;
-    equals(alloc, &content, text)
+    push_equals(alloc, &content, text, out)
 }
 
-fn are_equal(alloc: Global, one: &str, other: &str) -> Result<bool, CaseError> {
+/// Adds whether the two content types of `TEXT <=> OTHER` are the same.
+pub fn push_equal(alloc: Global, rest: &str, out: &mut String) -> Result<(), Refusal> {
+    let (one, other) = pair(rest, " <=> ")?;
     let content = ContentType::parse(alloc, one)?;
-    equals(alloc, &content, other)
+    push_equals(alloc, &content, other, out)
 }
 
-fn equal(alloc: Global, rest: &str) -> Result<bool, CaseError> {
-    match rest.split_once(" <=> ") {
-        Some((one, other)) => are_equal(alloc, one, other),
-        None => Err(CaseError::Line),
-    }
-}
-
-/// What a command answers that compares content types, or names one.
-pub fn named_answer(alloc: Global, command: &str, rest: &str) -> Result<String, CaseError> {
-    match command {
-        "equal" => truth(alloc, equal(alloc, rest)?),
-        "is" => truth(alloc, is_known(alloc, rest)?),
-        _ => known_answer(alloc, rest),
-    }
-}
-
-/// What a list prefers, as a copy has it.
-fn preferred(alloc: Global, accept: &Accept) -> Result<String, CaseError> {
+/// Adds what a list prefers, as a copy has it.
+fn push_preferred(alloc: Global, accept: &Accept, out: &mut String) -> Result<(), NoMemory> {
     let copy = accept.try_clone(alloc)?;
-    printed(alloc, copy.preferred())
+    push_printed(alloc, copy.preferred(), out)
 }
 
-pub fn accept_answer(alloc: Global, text: &str) -> Result<String, CaseError> {
+/// Adds the media type that a list prefers.
+pub fn push_accept(alloc: Global, text: &str, out: &mut String) -> Result<(), Refusal> {
     let accept = Accept::parse(alloc, text)?;
-    preferred(alloc, &accept)
+    Ok(push_preferred(alloc, &accept, out)?)
 }

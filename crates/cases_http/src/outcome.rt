@@ -1,9 +1,9 @@
 //! Cases of outcomes.
-use crate::error::CaseError;
-use crate::words::{first_word, number_cut, truth};
+use crate::words::number_cut;
+use cases::{CaseError, first_word};
+use rkt_base::NoMemory;
 use rkt_http::outcome::Outcome;
 use rkt_http::try_outcome;
-use std::alloc::Global;
 
 type Small = Outcome<u32, u32, u32>;
 
@@ -32,27 +32,22 @@ fn named(outcome: Small) -> (&'static str, u32) {
     }
 }
 
-fn shown(alloc: Global, outcome: Small) -> Result<String, CaseError> {
+fn push_outcome(outcome: Small, out: &mut String) -> Result<(), NoMemory> {
     let (name, number) = named(outcome);
-    Ok(format!(in alloc; "{name} {number}")?)
+    write!(out, "{name} {number}")
 }
 
-fn shown_option(alloc: Global, number: Option<u32>) -> Result<String, CaseError> {
-    Ok(format!(in alloc; "{number:?}")?)
+fn push_option(number: Option<u32>, out: &mut String) -> Result<(), NoMemory> {
+    write!(out, "{number:?}")
 }
 
-fn shown_result(alloc: Global, answer: Result<u32, u32>) -> Result<String, CaseError> {
-    Ok(format!(in alloc; "{answer:?}")?)
+fn push_result(answer: Result<u32, u32>, out: &mut String) -> Result<(), NoMemory> {
+    write!(out, "{answer:?}")
 }
 
-fn predicates(alloc: Global, outcome: Small) -> Result<String, CaseError> {
-    let text = format!(in alloc;
-        "{} {} {}",
-        outcome.is_success(),
-        outcome.is_error(),
-        outcome.is_forward()
-    )?;
-    Ok(text)
+fn push_predicates(outcome: Small, out: &mut String) -> Result<(), NoMemory> {
+    let (success, error) = (outcome.is_success(), outcome.is_error());
+    write!(out, "{success} {error} {}", outcome.is_forward())
 }
 
 /// The value of a Success by a call that only a Success may have.
@@ -85,35 +80,27 @@ fn narrowed(outcome: Small) -> Outcome<u32, u16, u16> {
         .map_forward(|number| (number % 65536) as u16)
 }
 
-fn displayed(alloc: Global, outcome: Small) -> Result<String, CaseError> {
-    Ok(format!(in alloc; "{outcome}")?)
-}
-
-fn debugged(alloc: Global, outcome: Small) -> Result<String, CaseError> {
-    Ok(format!(in alloc; "{outcome:?}")?)
-}
-
-/// What a call tells of an outcome's numbers.
-fn viewed(alloc: Global, call: &str, outcome: Small) -> Result<String, CaseError> {
+/// Adds what a call tells of an outcome's numbers.
+fn push_viewed(call: &str, outcome: Small, out: &mut String) -> Result<(), CaseError> {
     match call {
-        "succeeded" => shown_option(alloc, outcome.succeeded()),
-        "failed" => shown_option(alloc, outcome.failed()),
-        "forwarded" => shown_option(alloc, outcome.forwarded()),
-        "as_ref" => shown_option(alloc, outcome.as_ref().map(|value| *value).succeeded()),
-        "unwrap" => shown_option(alloc, unwrapped(outcome)),
-        "expect" => shown_option(alloc, expected(outcome)),
+        "succeeded" => Ok(push_option(outcome.succeeded(), out)?),
+        "failed" => Ok(push_option(outcome.failed(), out)?),
+        "forwarded" => Ok(push_option(outcome.forwarded(), out)?),
+        "as_ref" => Ok(push_option(outcome.as_ref().map(|value| *value).succeeded(), out)?),
+        "unwrap" => Ok(push_option(unwrapped(outcome), out)?),
+        "expect" => Ok(push_option(expected(outcome), out)?),
         _ => Err(CaseError::Line),
     }
 }
 
-/// What a call of one outcome answers.
-fn alone(alloc: Global, call: &str, outcome: Small) -> Result<String, CaseError> {
+/// Adds what a call of one outcome answers.
+fn push_alone(call: &str, outcome: Small, out: &mut String) -> Result<(), CaseError> {
     match call {
-        "is" => predicates(alloc, outcome),
-        "display" => displayed(alloc, outcome),
-        "debug" => debugged(alloc, outcome),
-        "try" => shown(alloc, halved(narrowed(outcome))),
-        _ => viewed(alloc, call, outcome),
+        "is" => Ok(push_predicates(outcome, out)?),
+        "display" => Ok(write!(out, "{outcome}")?),
+        "debug" => Ok(write!(out, "{outcome:?}")?),
+        "try" => Ok(push_outcome(halved(narrowed(outcome)), out)?),
+        _ => push_viewed(call, outcome, out),
     }
 }
 
@@ -145,12 +132,17 @@ fn mapped(call: &str, number: u32, outcome: Small) -> Result<Small, CaseError> {
     }
 }
 
-/// What a call of a number and an outcome answers.
-fn numbered(alloc: Global, call: &str, number: u32, outcome: Small) -> Result<String, CaseError> {
+/// Adds what a call of a number and an outcome answers.
+fn push_numbered(
+    call: &str,
+    number: u32,
+    outcome: Small,
+    out: &mut String,
+) -> Result<(), CaseError> {
     match call {
-        "success_or" => shown_result(alloc, outcome.success_or(number)),
-        "success_or_else" => shown_result(alloc, outcome.success_or_else(|| number)),
-        _ => shown(alloc, mapped(call, number, outcome)?),
+        "success_or" => Ok(push_result(outcome.success_or(number), out)?),
+        "success_or_else" => Ok(push_result(outcome.success_or_else(|| number), out)?),
+        _ => Ok(push_outcome(mapped(call, number, outcome)?, out)?),
     }
 }
 
@@ -171,50 +163,47 @@ fn gone_on(call: &str, outcome: Small, other: Small) -> Result<Small, CaseError>
     }
 }
 
-/// What a call of two outcomes answers.
-fn paired(alloc: Global, call: &str, outcome: Small, other: Small) -> Result<String, CaseError> {
+/// Adds what a call of two outcomes answers.
+fn push_paired(
+    call: &str,
+    outcome: Small,
+    other: Small,
+    out: &mut String,
+) -> Result<(), CaseError> {
     match call {
-        "ok_map_forward" => {
-            shown_result(
-                alloc,
-                outcome.ok_map_forward(|number| result_of(joined(number, other))),
-            )
-        }
-        "ok_map_error" => {
-            shown_result(
-                alloc,
-                outcome.ok_map_error(|number| result_of(joined(number, other))),
-            )
-        }
-        "same" => truth(alloc, outcome == other),
-        _ => shown(alloc, gone_on(call, outcome, other)?),
+        "ok_map_forward" => Ok(push_result(
+            outcome.ok_map_forward(|number| result_of(joined(number, other))),
+            out,
+        )?),
+        "ok_map_error" => Ok(push_result(
+            outcome.ok_map_error(|number| result_of(joined(number, other))),
+            out,
+        )?),
+        "same" => Ok(write!(out, "{}", outcome == other)?),
+        _ => Ok(push_outcome(gone_on(call, outcome, other)?, out)?),
     }
 }
 
-fn with_other(alloc: Global, call: &str, outcome: Small, text: &str) -> Result<String, CaseError> {
-    let (other, _) = outcome_cut(text)?;
-    paired(alloc, call, outcome, other)
-}
-
-/// What a call answers whose first word is an outcome's.
-fn of_outcome(alloc: Global, call: &str, text: &str) -> Result<String, CaseError> {
+/// Adds what a call answers whose first word is an outcome's.
+fn push_of_outcome(call: &str, text: &str, out: &mut String) -> Result<(), CaseError> {
     let (outcome, rest) = outcome_cut(text)?;
     if rest.is_empty() {
-        return alone(alloc, call, outcome);
+        return push_alone(call, outcome, out);
     }
-    with_other(alloc, call, outcome, rest)
+    let (other, _) = outcome_cut(rest)?;
+    push_paired(call, outcome, other, out)
 }
 
-fn of_number(alloc: Global, call: &str, number: u32, text: &str) -> Result<String, CaseError> {
+fn push_of_number(call: &str, number: u32, text: &str, out: &mut String) -> Result<(), CaseError> {
     let (outcome, _) = outcome_cut(text)?;
-    numbered(alloc, call, number, outcome)
+    push_numbered(call, number, outcome, out)
 }
 
-/// What a call answers.
-pub fn outcome_answer(alloc: Global, line: &str) -> Result<String, CaseError> {
+/// Adds what a call answers.
+pub fn push_outcome_case(line: &str, out: &mut String) -> Result<(), CaseError> {
     let (call, text) = first_word(line);
     match number_cut(text) {
-        Ok((number, rest)) => of_number(alloc, call, number, rest),
-        Err(_) => of_outcome(alloc, call, text),
+        Ok((number, rest)) => push_of_number(call, number, rest, out),
+        Err(_) => push_of_outcome(call, text, out),
     }
 }

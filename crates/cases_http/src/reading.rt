@@ -1,9 +1,9 @@
 //! Cases of options and results that are read as outcomes.
-use crate::error::CaseError;
-use crate::words::{first_word, number_cut};
+use crate::words::number_cut;
+use cases::{CaseError, first_word};
+use rkt_base::NoMemory;
 use rkt_http::Status;
 use rkt_http::outcome::{IntoOutcome, Outcome};
-use std::alloc::Global;
 
 /// What stands where there is no value.
 #[derive(Clone, Copy)]
@@ -41,92 +41,88 @@ fn result_cut(text: &str) -> Result<(Result<u32, u32>, &str), CaseError> {
     Ok((result_named(word, number)?, rest))
 }
 
-fn success(alloc: Global, number: u32) -> Result<String, CaseError> {
-    Ok(format!(in alloc; "success {number}")?)
+fn push_one(word: &str, number: u32, out: &mut String) -> Result<(), NoMemory> {
+    write!(out, "{word} {number}")
 }
 
-fn one(alloc: Global, word: &str, number: u32) -> Result<String, CaseError> {
-    Ok(format!(in alloc; "{word} {number}")?)
+fn push_two(word: &str, number: u32, other: u32, out: &mut String) -> Result<(), NoMemory> {
+    write!(out, "{word} {number} {other}")
 }
 
-fn two(alloc: Global, word: &str, number: u32, other: u32) -> Result<String, CaseError> {
-    Ok(format!(in alloc; "{word} {number} {other}")?)
-}
-
-fn as_option(alloc: Global, value: Option<u32>, missing: Missing) -> Result<String, CaseError> {
+fn push_option(value: Option<u32>, missing: Missing, out: &mut String) -> Result<(), NoMemory> {
     let outcome: Outcome<u32, u32, u32> = match missing {
         Missing::Error(number) => value.or_error(number),
         Missing::Forward(number) => value.or_forward(number),
     };
     match outcome {
-        Outcome::Success(number) => success(alloc, number),
-        Outcome::Error(number) => one(alloc, "error", number),
-        Outcome::Forward(number) => one(alloc, "forward", number),
+        Outcome::Success(number) => push_one("success", number, out),
+        Outcome::Error(number) => push_one("error", number, out),
+        Outcome::Forward(number) => push_one("forward", number, out),
     }
 }
 
-fn as_guard(
-    alloc: Global,
+fn push_guard(
     answer: Result<u32, u32>,
     missing: Missing,
-) -> Result<String, CaseError> {
+    out: &mut String,
+) -> Result<(), NoMemory> {
     let outcome: Outcome<u32, (Status, u32), Status> = match missing {
         Missing::Error(number) => answer.or_error(status(number)),
         Missing::Forward(number) => answer.or_forward(status(number)),
     };
     match outcome {
-        Outcome::Success(number) => success(alloc, number),
-        Outcome::Error((status, cause)) => two(alloc, "error", status.code as u32, cause),
-        Outcome::Forward(status) => one(alloc, "forward", status.code as u32),
+        Outcome::Success(number) => push_one("success", number, out),
+        Outcome::Error((status, cause)) => push_two("error", status.code as u32, cause, out),
+        Outcome::Forward(status) => push_one("forward", status.code as u32, out),
     }
 }
 
-fn as_data(alloc: Global, answer: Result<u32, u32>, missing: Missing) -> Result<String, CaseError> {
+fn push_data(answer: Result<u32, u32>, missing: Missing, out: &mut String) -> Result<(), NoMemory> {
     let outcome: Outcome<u32, (Status, u32), (u32, Status)> = match missing {
         Missing::Error(number) => answer.or_error(status(number)),
         Missing::Forward(number) => answer.or_forward((1, status(number))),
     };
     match outcome {
-        Outcome::Success(number) => success(alloc, number),
-        Outcome::Error((status, cause)) => two(alloc, "error", status.code as u32, cause),
-        Outcome::Forward((body, status)) => two(alloc, "forward", body, status.code as u32),
+        Outcome::Success(number) => push_one("success", number, out),
+        Outcome::Error((status, cause)) => push_two("error", status.code as u32, cause, out),
+        Outcome::Forward((body, status)) => push_two("forward", body, status.code as u32, out),
     }
 }
 
-fn as_route(
-    alloc: Global,
+fn push_route(
     answer: Result<u32, Status>,
     missing: Missing,
-) -> Result<String, CaseError> {
+    out: &mut String,
+) -> Result<(), NoMemory> {
     let outcome: Outcome<u32, Status, (u32, Status)> = match missing {
         Missing::Error(_) => answer.or_error(()),
         Missing::Forward(number) => answer.or_forward((1, status(number))),
     };
     match outcome {
-        Outcome::Success(number) => success(alloc, number),
-        Outcome::Error(status) => one(alloc, "error", status.code as u32),
-        Outcome::Forward((body, status)) => two(alloc, "forward", body, status.code as u32),
+        Outcome::Success(number) => push_one("success", number, out),
+        Outcome::Error(status) => push_one("error", status.code as u32, out),
+        Outcome::Forward((body, status)) => push_two("forward", body, status.code as u32, out),
     }
 }
 
-fn read_as(
-    alloc: Global,
+fn push_read(
     command: &str,
     answer: Result<u32, u32>,
     missing: Missing,
-) -> Result<String, CaseError> {
+    out: &mut String,
+) -> Result<(), NoMemory> {
     match command {
-        "option" => as_option(alloc, answer.ok(), missing),
-        "guard" => as_guard(alloc, answer, missing),
-        "data" => as_data(alloc, answer, missing),
-        _ => as_route(alloc, answer.map_err(status), missing),
+        "option" => push_option(answer.ok(), missing, out),
+        "guard" => push_guard(answer, missing, out),
+        "data" => push_data(answer, missing, out),
+        _ => push_route(answer.map_err(status), missing, out),
     }
 }
 
-/// What an option or a result is read as.
-pub fn reading_answer(alloc: Global, command: &str, rest: &str) -> Result<String, CaseError> {
+/// Adds what an option or a result is read as.
+pub fn push_reading(command: &str, rest: &str, out: &mut String) -> Result<(), CaseError> {
     let (call, text) = first_word(rest);
     let (answer, rest) = result_cut(text)?;
     let (number, _) = number_cut(rest)?;
-    read_as(alloc, command, answer, Missing::named(call, number)?)
+    Ok(push_read(command, answer, Missing::named(call, number)?, out)?)
 }

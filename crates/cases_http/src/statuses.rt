@@ -1,55 +1,60 @@
 //! Cases of methods, statuses and default pages.
-use crate::error::CaseError;
-use crate::words::code;
-use rkt_base::Text;
+use cases::{CaseError, parsed};
+use rkt_base::{NoMemory, Text};
 use rkt_http::{Method, Status, default_page};
 use std::alloc::Global;
 
-fn shown_method(alloc: Global, method: Method) -> Result<String, CaseError> {
-    Ok(format!(in alloc; "{} payload={}", method.as_str(), method.supports_payload())?)
-}
-
-/// A method's name, and whether its requests carry a payload.
-fn method_or_none(alloc: Global, method: Option<Method>) -> Result<String, CaseError> {
+/// Adds a method's name, and whether its requests carry a payload.
+fn push_method_or_none(method: Option<Method>, out: &mut String) -> Result<(), NoMemory> {
     match method {
-        Some(method) => shown_method(alloc, method),
-        None => Ok(String::from_str(alloc, "none")?),
+        Some(method) => {
+            let (name, payload) = (method.as_str(), method.supports_payload());
+            write!(out, "{name} payload={payload}")
+        }
+        None => out.push_str("none"),
     }
 }
 
-fn shown_status(alloc: Global, status: Status) -> Result<String, CaseError> {
-    Ok(format!(in alloc; "class={:?} reason={:?}", status.class(), status.reason())?)
+/// Adds what a command answers of a method's name.
+pub fn push_method(command: &str, text: &str, out: &mut String) -> Result<(), NoMemory> {
+    match command {
+        "wire" => push_method_or_none(Method::from_wire(text), out),
+        _ => push_method_or_none(Method::from_str(text), out),
+    }
 }
 
-/// The size of a page in bytes, and the page.
-fn shown_page(alloc: Global, page: &Text) -> Result<String, CaseError> {
-    Ok(format!(in alloc; "{} {:?}", page.len(), page.as_str())?)
+/// Adds the size of a page in bytes, and the page.
+fn push_page(page: &Text, out: &mut String) -> Result<(), NoMemory> {
+    write!(out, "{} {:?}", page.len(), page.as_str())
 }
 
-fn html_page(alloc: Global, status: Status) -> Result<String, CaseError> {
+fn push_html(alloc: Global, status: Status, out: &mut String) -> Result<(), NoMemory> {
     let page = default_page::html(alloc, status)?;
-    shown_page(alloc, &page)
+    push_page(&page, out)
 }
 
-fn json_page(alloc: Global, status: Status) -> Result<String, CaseError> {
+fn push_json(alloc: Global, status: Status, out: &mut String) -> Result<(), NoMemory> {
     let page = default_page::json(alloc, status)?;
-    shown_page(alloc, &page)
+    push_page(&page, out)
 }
 
-/// What a command answers of a status.
-pub fn status_answer(alloc: Global, command: &str, text: &str) -> Result<String, CaseError> {
-    let status = Status::new(code(text)?);
-    match command {
-        "html" => html_page(alloc, status),
-        "json" => json_page(alloc, status),
-        _ => shown_status(alloc, status),
-    }
+/// Adds its class and its reason.
+fn push_kind(status: Status, out: &mut String) -> Result<(), NoMemory> {
+    let (class, reason) = (status.class(), status.reason());
+    write!(out, "class={class:?} reason={reason:?}")
 }
 
-/// What a command answers of a method's name.
-pub fn method_answer(alloc: Global, command: &str, text: &str) -> Result<String, CaseError> {
+/// Adds what a command answers of a status.
+pub fn push_status(
+    alloc: Global,
+    command: &str,
+    text: &str,
+    out: &mut String,
+) -> Result<(), CaseError> {
+    let status = Status::new(parsed::<u16>(text)?);
     match command {
-        "wire" => method_or_none(alloc, Method::from_wire(text)),
-        _ => method_or_none(alloc, Method::from_str(text)),
+        "html" => Ok(push_html(alloc, status, out)?),
+        "json" => Ok(push_json(alloc, status, out)?),
+        _ => Ok(push_kind(status, out)?),
     }
 }

@@ -2,6 +2,7 @@ use crate::flash::{flash, flashing};
 use crate::made::push_made;
 use crate::message::{guard, message, no_cookie};
 use crate::shown::Asked;
+use crate::streaming::reader_stream;
 use crate::texts::{byte_stream, bytes, text, text_stream};
 use cases::{Answers, CaseError, first_word};
 use rkt_base::NoMemory;
@@ -42,10 +43,10 @@ fn of_flash(
 fn answer_to(
     alloc: Global,
     request: &Asked<'_>,
-    line: &str,
+    command: &str,
+    rest: &str,
     out: &mut String,
 ) -> Result<(), CaseError> {
-    let (command, rest) = first_word(line);
     match command {
         "text" => text(alloc, request, rest, out),
         "bytes" => bytes(alloc, request, rest, out),
@@ -55,10 +56,24 @@ fn answer_to(
     }
 }
 
+fn answer_by(
+    alloc: Global,
+    server: &Server,
+    command: &str,
+    rest: &str,
+    out: &mut String,
+) -> Result<(), CaseError> {
+    let uri = Origin::parse(alloc, "/")?;
+    let request = server.request(alloc, Method::Get, uri)?;
+    answer_to(alloc, &request, command, rest, out)
+}
+
 impl Answers for Program {
     fn answer(&mut self, alloc: Global, line: &str, out: &mut String) -> Result<(), CaseError> {
-        let uri = Origin::parse(alloc, "/")?;
-        let request = self.server.request(alloc, Method::Get, uri)?;
-        answer_to(alloc, &request, line, out)
+        let (command, rest) = first_word(line);
+        match command {
+            "reader_stream" => reader_stream(alloc, &self.server, rest, out),
+            _ => answer_by(alloc, &self.server, command, rest, out),
+        }
     }
 }

@@ -10,8 +10,8 @@
 //! | Line | The responder |
 //! |---|---|
 //! | `INNER` behind `plain` | that one alone |
-//! | `text KIND TEXT` | a text that is lent (`str`), a `string`, `boxed`, shared (`arc`), or `cow` |
-//! | `bytes KIND TEXT` | the same of bytes: `slice`, `vec`, `boxed`, `arc`, `cow` |
+//! | `text KIND TEXT` | a text that is lent (`str`), a `string`, `boxed`, shared (`arc`), or `cow`, which is lent, and `owned_cow` |
+//! | `bytes KIND TEXT` | the same of bytes: `slice`, `vec`, `boxed`, `arc`, `cow`, `owned_cow` |
 //! | `some INNER`, `none`, `ok INNER`, `error INNER`, `left INNER`, `right INNER`, `box INNER`, `capped INNER` | std's types, and a body that was cut |
 //! | `debug NUMBER`, `fault`, `gone`, `timed_out` | what only tells of an error |
 //! | `custom CODE INNER`, `pair CODE INNER` | with a status |
@@ -21,6 +21,7 @@
 //! | `created PLACE`, `created_with PLACE INNER` | at a place |
 //! | `to URI`, `temporary`, `permanent`, `found`, `moved` | redirects |
 //! | `byte_stream TEXT`, `text_stream TEXT` | a source that gives two bytes at a time |
+//! | `reader_stream TEXT` | a stream of one such source |
 //! | `same NUMBER NUMBER` | whether two `Accepted` of these are equal |
 //! | `flash KIND MESSAGE` | what the cookie says, and what a jar sends of it; KIND `success`, `warning` and `error` are made by their own calls |
 //! | `flashing KIND MESSAGE` | the response of `-` with it, and what the jar of the request sends |
@@ -37,6 +38,7 @@ mod made;
 mod message;
 mod redirect;
 mod shown;
+mod streaming;
 mod texts;
 
 use crate::answer::Program;

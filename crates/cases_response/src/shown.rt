@@ -2,13 +2,11 @@
 use cases::CaseError;
 use rkt_base::{NoMemory, Poll, Want};
 use rkt_cookie::CookieJar;
-use rkt_data::{DataError, MemorySource};
-use rkt_request::{Ctx, Request};
+use rkt_data::{DataError, Source};
+use rkt_request::{Ctx, Request, Types};
 use rkt_response::{Body, Responder, Response};
 use sample_app::{Sample, context, gate_at};
 use std::alloc::Global;
-
-type Answer = Response<MemorySource>;
 
 /// The request that is answered.
 pub type Asked<'a> = Request<'a, Sample>;
@@ -25,12 +23,12 @@ fn push_bytes(bytes: &[u8], out: &mut String) -> Result<(), NoMemory> {
 }
 
 /// What gathering a body answers.
-fn gathered(alloc: Global, body: Body<MemorySource>) -> Poll<Result<Vec<u8>, DataError>> {
+fn gathered<S: Source>(alloc: Global, body: Body<S>) -> Poll<Result<Vec<u8>, DataError>> {
     let mut all = body.to_bytes();
     all.poll(alloc, gate_at(0))
 }
 
-fn push_body(alloc: Global, body: Body<MemorySource>, out: &mut String) -> Result<(), NoMemory> {
+fn push_body<S: Source>(alloc: Global, body: Body<S>, out: &mut String) -> Result<(), NoMemory> {
     match gathered(alloc, body) {
         Poll::Ready(Ok(bytes)) => push_bytes(bytes.as_slice(), out),
         Poll::Ready(Err(_)) => out.push_str(" (fault)"),
@@ -39,7 +37,7 @@ fn push_body(alloc: Global, body: Body<MemorySource>, out: &mut String) -> Resul
 }
 
 /// Adds a response's status, size and headers.
-fn push_head(response: &mut Answer, out: &mut String) -> Result<(), NoMemory> {
+fn push_head<S: Source>(response: &mut Response<S>, out: &mut String) -> Result<(), NoMemory> {
     let size = response.body_mut().size();
     let code = response.status().code;
     write!(out, "{code} {size:?}")?;
@@ -50,16 +48,20 @@ fn push_head(response: &mut Answer, out: &mut String) -> Result<(), NoMemory> {
 }
 
 /// Adds a response's status, size, headers and body.
-fn push_response(alloc: Global, response: &mut Answer, out: &mut String) -> Result<(), CaseError> {
+fn push_response<S: Source>(
+    alloc: Global,
+    response: &mut Response<S>,
+    out: &mut String,
+) -> Result<(), CaseError> {
     push_head(response, out)?;
     Ok(push_body(alloc, response.body_mut().take(), out)?)
 }
 
 /// Adds what a responder answers under a context.
-pub fn respond_under<R: Responder<Sample> + Drop>(
+pub fn respond_under<T: Types, R: Responder<T> + Drop>(
     alloc: Global,
-    request: &Asked<'_>,
-    ctx: &mut Ctx<Sample>,
+    request: &Request<'_, T>,
+    ctx: &mut Ctx<T>,
     responder: R,
     out: &mut String,
 ) -> Result<(), CaseError> {

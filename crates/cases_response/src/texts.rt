@@ -9,6 +9,16 @@ use std::borrow::{CowSlice, CowStr};
 use std::boxed::{BoxedSlice, BoxedStr};
 use std::sync::{ArcSlice, ArcStr};
 
+fn owned_text(
+    alloc: Global,
+    request: &Asked<'_>,
+    text: &str,
+    out: &mut String,
+) -> Result<(), CaseError> {
+    let owned = String::from_str(alloc, text)?;
+    respond::<CowStr<'_>>(alloc, request, CowStr::Owned(owned), out)
+}
+
 /// Adds what a text of some kind answers.
 pub fn text(
     alloc: Global,
@@ -23,8 +33,19 @@ pub fn text(
         "boxed" => respond(alloc, request, BoxedStr::from_str(alloc, text)?, out),
         "arc" => respond(alloc, request, ArcStr::from_str(alloc, text)?, out),
         "cow" => respond::<CowStr<'_>>(alloc, request, CowStr::Borrowed(text), out),
+        "owned_cow" => owned_text(alloc, request, text, out),
         _ => Err(CaseError::Line),
     }
+}
+
+fn owned_bytes(
+    alloc: Global,
+    request: &Asked<'_>,
+    bytes: &[u8],
+    out: &mut String,
+) -> Result<(), CaseError> {
+    let owned = bytes.to_vec(alloc)?;
+    respond::<CowSlice<'_, u8>>(alloc, request, CowSlice::Owned(owned), out)
 }
 
 /// Adds what bytes of some kind answer.
@@ -42,12 +63,13 @@ pub fn bytes(
         "boxed" => respond(alloc, request, BoxedSlice::from_slice(alloc, bytes)?, out),
         "arc" => respond(alloc, request, ArcSlice::from_slice(alloc, bytes)?, out),
         "cow" => respond::<CowSlice<'_, u8>>(alloc, request, CowSlice::Borrowed(bytes), out),
+        "owned_cow" => owned_bytes(alloc, request, bytes, out),
         _ => Err(CaseError::Line),
     }
 }
 
 /// A source that gives two bytes at a time.
-fn source(alloc: Global, text: &str) -> Result<MemorySource, NoMemory> {
+pub fn source(alloc: Global, text: &str) -> Result<MemorySource, NoMemory> {
     let bytes = text.as_bytes().to_vec(alloc)?;
     Ok(MemorySource::new(bytes, 2, Vec::new(alloc)))
 }

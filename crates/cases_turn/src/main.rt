@@ -16,42 +16,31 @@
 
 mod crossing;
 mod diary;
-mod error;
 mod turns;
 mod wires;
-mod words;
 
-use crate::error::CaseError;
-use crate::turns::turns_answer;
-use crate::wires::{threads_answer, wire_answer};
-use crate::words::first_word;
+use crate::turns::push_turns;
+use crate::wires::{push_threads, push_wire};
+use cases::{CaseError, first_word, is_heading, print_answer};
 use std::alloc::Global;
 use std::io;
 use std::sync::Wait;
 use std::thread::Threads;
 
-/// What a line answers.
-fn answer<R: Threads + Wait + Sync>(
+/// Adds what a line answers.
+fn push_answer<R: Threads + Wait + Sync>(
     rt: &R,
     alloc: Global,
     line: &str,
-) -> Result<String, CaseError> {
+    out: &mut String,
+) -> Result<(), CaseError> {
     let (command, rest) = first_word(line);
     match command {
-        "turns" => turns_answer(rt, alloc, rest),
-        "threads" => threads_answer(rt, alloc, rest),
-        "wire" => wire_answer(alloc, rest),
+        "turns" => push_turns(rt, alloc, rest, out),
+        "threads" => push_threads(rt, alloc, rest, out),
+        "wire" => push_wire(alloc, rest, out),
         _ => Err(CaseError::Line),
     }
-}
-
-fn print_answer(rt: &impl Print, line: &str, text: &str) -> io::Result<()> {
-    println!(rt; "{line} -> {text}")
-}
-
-/// Empty lines and those that begin with `#` are headings, and are written as they are.
-fn is_heading(line: &str) -> bool {
-    line.is_empty() || line.starts_with('#')
 }
 
 /// Writes the line, and behind an arrow the answer where it is a case.
@@ -63,12 +52,14 @@ fn print_line<R: Print + Threads + Wait + Sync>(
     if is_heading(line) {
         return rt.println(line);
     }
-    match answer(rt, alloc, line) {
-        Ok(text) => print_answer(rt, line, text.as_str()),
+    let mut out = String::new(alloc);
+    match push_answer(rt, alloc, line, &mut out) {
+        Ok(()) => print_answer(rt, line, out.as_str()),
         Err(error) => print_answer(rt, line, error.text()),
     }
 }
 
+// A bound that threads share a runtime cannot stand in the trait of programs, so the lines are gone through here.
 fn main(rt: HostRuntime) -> io::Result<()> {
     let alloc = rt.alloc();
     for line in rt.lines(alloc) {

@@ -8,8 +8,7 @@ ghost use Rattle.cases_turn.specs.Diary.{IsDiary, open_after, writer};
 
 use crate::crossing::lock_crosses;
 use crate::diary::{Diary, Entry};
-use crate::error::CaseError;
-use crate::words::{first_word, number};
+use cases::{CaseError, first_word, parsed};
 use rkt_base::NoMemory;
 use rkt_turn::{Pass, Turn, Turnstile};
 use std::alloc::{AllocError, Global};
@@ -211,26 +210,32 @@ fn saw_a_front(entries: &[Entry], seen: &[Entry]) -> bool {
     count_of(seen, 0) == count_of(entries, 0) && entries.starts_with(seen)
 }
 
-fn shown(
+/// Adds how many entries there are, how many of each pass, and whether the first pass saw a front of them.
+fn push_entries(
     alloc: Global,
     entries: &[Entry],
     seen: &[Entry],
     others: u64,
-) -> Result<String, CaseError> {
+    out: &mut String,
+) -> Result<(), NoMemory> {
     let counts = counts(alloc, entries, others.saturating_add(1))?;
     let front = saw_a_front(entries, seen);
     let entries = entries.len();
-    Ok(format!(in alloc; "entries={entries} of_each={counts:?} saw_a_front={front}")?)
+    write!(
+        out,
+        "entries={entries} of_each={counts:?} saw_a_front={front}"
+    )
 }
 
-/// The diary that a first pass and so many others write, each in so many turns.
-pub fn turns_answer<R: Threads + Wait + Sync>(
+/// Adds what is told of the diary that a first pass and so many others write, each in so many turns.
+pub fn push_turns<R: Threads + Wait + Sync>(
     rt: &R,
     alloc: Global,
     words: &str,
-) -> Result<String, CaseError> {
+    out: &mut String,
+) -> Result<(), CaseError> {
     let (others, turns) = first_word(words);
-    let others = number(others)?;
-    let (seen, entries) = diary_of(rt, alloc, others as usize, number(turns)? as usize)?;
-    shown(alloc, entries.as_slice(), seen.as_slice(), others)
+    let (others, turns) = (parsed::<u64>(others)?, parsed::<u64>(turns)?);
+    let (seen, entries) = diary_of(rt, alloc, others as usize, turns as usize)?;
+    Ok(push_entries(alloc, entries.as_slice(), seen.as_slice(), others, out)?)
 }

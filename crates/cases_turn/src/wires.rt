@@ -2,9 +2,8 @@
 ghost use Rattle.std.specs.Prelude.{◌≡◌, ◌<◌};
 
 use crate::crossing::wire_crosses;
-use crate::error::CaseError;
-use crate::words::{first_word, number};
-use rkt_base::Poll;
+use cases::{CaseError, first_word, parsed, push_item};
+use rkt_base::{NoMemory, Poll};
 use rkt_turn::{Reason, Shutdown, TripWire};
 use std::alloc::Global;
 use std::sync::Wait;
@@ -31,7 +30,7 @@ impl Reason for Why {
 
 /// The reason of a word, which is not 0.
 fn parse_why(text: &str) -> Result<Why, CaseError> {
-    let word = number(text)?;
+    let word = parsed::<u64>(text)?;
     if word == 0 {
         return Err(CaseError::Line);
     }
@@ -46,30 +45,22 @@ struct Handles {
     ghost same: { other.wire ≡ first.wire },
 }
 
-/// Adds an answer behind those before it.
-fn push(log: &mut String, answer: &str) -> Result<(), CaseError> {
-    if !log.is_empty() {
-        log.push_str(", ")?;
-    }
-    Ok(log.push_str(answer)?)
-}
-
-fn push_word(alloc: Global, log: &mut String, word: u64) -> Result<(), CaseError> {
+fn push_word(alloc: Global, word: u64, out: &mut String) -> Result<(), NoMemory> {
     let text = word.to_string(alloc)?;
-    push(log, text.as_str())
+    push_item(out, text.as_str())
 }
 
-fn push_tripped(alloc: Global, log: &mut String, word: Option<u64>) -> Result<(), CaseError> {
+fn push_tripped(alloc: Global, word: Option<u64>, out: &mut String) -> Result<(), NoMemory> {
     match word {
-        Some(word) => push_word(alloc, log, word),
-        None => push(log, "none"),
+        Some(word) => push_word(alloc, word, out),
+        None => push_item(out, "none"),
     }
 }
 
-fn push_polled(log: &mut String, answer: Poll<()>) -> Result<(), CaseError> {
+fn push_polled(answer: Poll<()>, out: &mut String) -> Result<(), NoMemory> {
     match answer {
-        Poll::Ready(()) => push(log, "ready"),
-        Poll::Pending => push(log, "pending"),
+        Poll::Ready(()) => push_item(out, "ready"),
+        Poll::Pending => push_item(out, "pending"),
     }
 }
 
@@ -80,20 +71,20 @@ fn notify(handle: &mut Shutdown<Why>, word: &str) -> Result<(), CaseError>
     Ok(())
 }
 
-/// What a handle is asked.
+/// Asks a handle, and adds what it answers.
 fn ask(
     alloc: Global,
-    log: &mut String,
     handle: &mut Shutdown<Why>,
     step: &str,
+    out: &mut String,
 ) -> Result<(), CaseError>
     ensures { handle.new.wire ≡ handle.old.wire }
 {
     let (word, rest) = first_word(step);
     match word {
-        "seen" => push_word(alloc, log, handle.seen()),
-        "tripped" => push_tripped(alloc, log, handle.tripped()),
-        "poll" => push_polled(log, handle.poll()),
+        "seen" => Ok(push_word(alloc, handle.seen(), out)?),
+        "tripped" => Ok(push_tripped(alloc, handle.tripped(), out)?),
+        "poll" => Ok(push_polled(handle.poll(), out)?),
         "notify" => notify(handle, rest),
         _ => Err(CaseError::Line),
     }
@@ -109,51 +100,49 @@ fn swap(handles: Handles) -> Result<Handles, CaseError> {
 
 fn take_step(
     alloc: Global,
-    log: &mut String,
     handles: &mut Handles,
     step: &str,
+    out: &mut String,
 ) -> Result<(), CaseError> {
     let (who, rest) = first_word(step);
     match who {
-        "first" => ask(alloc, log, &mut handles.first, rest),
-        "other" => ask(alloc, log, &mut handles.other, rest),
+        "first" => ask(alloc, &mut handles.first, rest, out),
+        "other" => ask(alloc, &mut handles.other, rest, out),
         _ => Err(CaseError::Line),
     }
 }
 
 fn after_step(
     alloc: Global,
-    log: &mut String,
     mut handles: Handles,
     step: &str,
+    out: &mut String,
 ) -> Result<Handles, CaseError> {
     if step == "rejoin" {
         return swap(handles);
     }
-    take_step(alloc, log, &mut handles, step)?;
+    take_step(alloc, &mut handles, step, out)?;
     Ok(handles)
 }
 
 fn take_steps(
     alloc: Global,
-    log: &mut String,
     mut handles: Handles,
     steps: &str,
+    out: &mut String,
 ) -> Result<(), CaseError> {
     for step in steps.split(" | ") {
-        handles = after_step(alloc, log, handles, step)?;
+        handles = after_step(alloc, handles, step, out)?;
     }
     Ok(())
 }
 
-/// The answers of two handles of a new wire, one step after another.
-pub fn wire_answer(alloc: Global, steps: &str) -> Result<String, CaseError> {
+/// Adds the answers of two handles of a new wire, one step after another.
+pub fn push_wire(alloc: Global, steps: &str, out: &mut String) -> Result<(), CaseError> {
     let (wire, mut first) = TripWire::<Why>::new(alloc)?;
     let other = first.split()?;
     wire_crosses(&wire, &other);
-    let mut log = String::new(alloc);
-    take_steps(alloc, &mut log, Handles { first, other }, steps)?;
-    Ok(log)
+    take_steps(alloc, Handles { first, other }, steps, out)
 }
 
 // Looks at the wire until it is tripped.
@@ -202,20 +191,15 @@ fn seen_words<R: Threads + Wait + Sync>(
     Ok([word, theirs.seen(), before, late.seen()])
 }
 
-/// Two threads at one wire: one waits, and the other notifies with one word and then with another.
-pub fn threads_answer<R: Threads + Wait + Sync>(
+/// Adds what two threads see at one wire: one waits, and the other notifies with one word and then with another.
+pub fn push_threads<R: Threads + Wait + Sync>(
     rt: &R,
     alloc: Global,
     words: &str,
-) -> Result<String, CaseError> {
+    out: &mut String,
+) -> Result<(), CaseError> {
     let (one, two) = first_word(words);
     let [waited, notified, before, late] = seen_words(rt, alloc, parse_why(one)?, parse_why(two)?)?;
-    let mut log = format!(in alloc; "waited={waited} notified={notified}")?;
-    push_late(alloc, &mut log, before, late)?;
-    Ok(log)
-}
-
-fn push_late(alloc: Global, log: &mut String, before: u64, late: u64) -> Result<(), CaseError> {
-    let text = format!(in alloc; " before={before} late={late}")?;
-    Ok(log.push_str(text.as_str())?)
+    write!(out, "waited={waited} notified={notified}")?;
+    Ok(write!(out, " before={before} late={late}")?)
 }

@@ -1,109 +1,60 @@
-use crate::error::CaseError;
-use crate::origin::origin_answer;
-use crate::path::{compared_answer, names_answer, numbered_answer};
-use crate::words::{first_word, plain};
-use rkt_uri::{Absolute, Host, Reference};
+use crate::origin::push_origin;
+use crate::other::{push_absolute, push_host, push_reference, push_whole};
+use crate::path::{push_compared, push_named, push_numbered};
+use crate::refusal::Refusal;
+use cases::{Answers, CaseError, first_word, plain};
 use std::alloc::Global;
 
-/// The domain and the port.
-fn host_parts(alloc: Global, host: &Host) -> Result<String, CaseError> {
-    Ok(format!(in alloc; "domain={:?} port={:?}", host.domain(), host.port())?)
-}
+/// The program, which keeps nothing from line to line.
+#[derive(Drop)]
+pub struct Program;
 
-/// The parts, as a copy has them.
-fn copied_host(alloc: Global, host: &Host) -> Result<String, CaseError> {
-    let copy = host.try_clone(alloc)?;
-    host_parts(alloc, &copy)
-}
-
-fn host_answer(alloc: Global, text: &str) -> Result<String, CaseError> {
-    let host = Host::parse(alloc, text)?;
-    copied_host(alloc, &host)
-}
-
-/// The scheme, the host and the port.
-fn absolute_parts(alloc: Global, absolute: &Absolute) -> Result<String, CaseError> {
-    let text = format!(in alloc;
-        "scheme={:?} host={:?} port={:?}",
-        absolute.scheme(),
-        absolute.host(),
-        absolute.port()
-    )?;
-    Ok(text)
-}
-
-/// The parts, as a copy has them.
-fn copied_absolute(alloc: Global, absolute: &Absolute) -> Result<String, CaseError> {
-    let copy = absolute.try_clone(alloc)?;
-    absolute_parts(alloc, &copy)
-}
-
-fn absolute_answer(alloc: Global, text: &str) -> Result<String, CaseError> {
-    let absolute = Absolute::parse(alloc, text)?;
-    copied_absolute(alloc, &absolute)
-}
-
-fn whole_answer(alloc: Global, text: &str) -> Result<String, CaseError> {
-    let absolute = Absolute::parse(alloc, text)?;
-    Ok(String::from_str(alloc, absolute.as_str())?)
-}
-
-/// The text of a reference, as a copy has it.
-fn reference_text(alloc: Global, reference: &Reference) -> Result<String, CaseError> {
-    let copy = reference.try_clone(alloc)?;
-    Ok(format!(in alloc; "{:?}", copy.as_str())?)
-}
-
-fn reference_answer(alloc: Global, text: &str) -> Result<String, CaseError> {
-    let reference = Reference::parse(alloc, text)?;
-    reference_text(alloc, &reference)
-}
-
-/// What a command answers that is about no origin.
-fn other_answer(alloc: Global, command: &str, text: &str) -> Result<String, CaseError> {
+/// Adds what a command answers that is about no origin.
+fn push_other(alloc: Global, command: &str, text: &str, out: &mut String) -> Result<(), Refusal> {
     match command {
-        "host" => host_answer(alloc, text),
-        "absolute" => absolute_answer(alloc, text),
-        "whole" => whole_answer(alloc, text),
-        "reference" => reference_answer(alloc, text),
-        "names" => names_answer(alloc, text),
-        _ => Err(CaseError::Line),
+        "host" => push_host(alloc, text, out),
+        "absolute" => push_absolute(alloc, text, out),
+        "whole" => push_whole(alloc, text, out),
+        "reference" => push_reference(alloc, text, out),
+        "names" => push_named(alloc, text, out),
+        _ => Err(Refusal::Case(CaseError::Line)),
     }
 }
 
-/// What a command says of the rest of its line.
-enum Asked {
-    Origin,
-    Numbered,
-    Compared,
-    Other,
-}
-
-fn is_of_origins(command: &str) -> bool {
+fn is_of_one_origin(command: &str) -> bool {
     matches!(
         command,
         "origin" | "route" | "text" | "segments" | "raw" | "fields" | "normal" | "cleared"
     )
 }
 
-fn kind_of(command: &str) -> Asked {
-    if is_of_origins(command) {
-        return Asked::Origin;
+fn answer_line(alloc: Global, line: &str, out: &mut String) -> Result<(), Refusal> {
+    let (command, rest) = first_word(line);
+    if is_of_one_origin(command) {
+        return push_origin(alloc, command, plain(rest), out);
     }
     match command {
-        "segment" | "behind" | "path" | "dotted" => Asked::Numbered,
-        "front" | "same" => Asked::Compared,
-        _ => Asked::Other,
+        "segment" | "behind" | "path" | "dotted" => push_numbered(alloc, command, rest, out),
+        "front" | "same" => push_compared(alloc, command, rest, out),
+        _ => push_other(alloc, command, plain(rest), out),
     }
 }
 
-/// What a case answers.
-pub fn answer(alloc: Global, line: &str) -> Result<String, CaseError> {
-    let (command, rest) = first_word(line);
-    match kind_of(command) {
-        Asked::Origin => origin_answer(alloc, command, plain(rest)),
-        Asked::Numbered => numbered_answer(alloc, command, rest),
-        Asked::Compared => compared_answer(alloc, command, rest),
-        Asked::Other => other_answer(alloc, command, plain(rest)),
+/// Adds the fault of what is refused, in place of what was added before.
+fn push_refusal(refusal: Refusal, out: &mut String) -> Result<(), CaseError> {
+    out.clear();
+    match refusal {
+        Refusal::Uri(fault) => Ok(write!(out, "{fault}")?),
+        Refusal::Path(fault) => Ok(write!(out, "{fault}")?),
+        Refusal::Case(error) => Err(error),
+    }
+}
+
+impl Answers for Program {
+    fn answer(&mut self, alloc: Global, line: &str, out: &mut String) -> Result<(), CaseError> {
+        match answer_line(alloc, line, out) {
+            Ok(()) => Ok(()),
+            Err(refusal) => push_refusal(refusal, out),
+        }
     }
 }

@@ -32,51 +32,18 @@
 #![tactic(auto)]
 
 mod answer;
-mod error;
 mod origin;
+mod other;
 mod path;
+mod refusal;
 mod shown;
 mod words;
 
-use crate::answer::answer;
-use crate::error::CaseError;
-use std::alloc::Global;
+use crate::answer::Program;
+use cases::answer_lines;
 use std::io;
-
-fn print_answer(rt: &impl Print, line: &str, text: &str) -> io::Result<()> {
-    println!(rt; "{line} -> {text}")
-}
-
-/// Writes a refused line, with what is wrong with it.
-fn print_fault(rt: &impl Print, line: &str, error: CaseError) -> io::Result<()> {
-    match error {
-        CaseError::Line => print_answer(rt, line, "? line"),
-        CaseError::NoMemory => print_answer(rt, line, "out of memory"),
-        CaseError::Uri(fault) => println!(rt; "{line} -> {fault}"),
-        CaseError::Path(fault) => println!(rt; "{line} -> {fault}"),
-    }
-}
-
-fn is_heading(line: &str) -> bool {
-    line.is_empty() || line.starts_with('#')
-}
-
-/// Writes the line, and behind an arrow the answer where it is a case.
-fn print_line(rt: &impl Print, alloc: Global, line: &str) -> io::Result<()> {
-    if is_heading(line) {
-        return rt.println(line);
-    }
-    match answer(alloc, line) {
-        Ok(text) => print_answer(rt, line, text.as_str()),
-        Err(error) => print_fault(rt, line, error),
-    }
-}
 
 fn main(rt: HostRuntime) -> io::Result<()> {
     let alloc = rt.alloc();
-    for line in rt.lines(alloc) {
-        let line = line?;
-        print_line(&rt, alloc, line.as_str())?;
-    }
-    Ok(())
+    answer_lines(&rt, alloc, Program)
 }

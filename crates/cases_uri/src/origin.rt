@@ -1,74 +1,55 @@
 //! Cases of origins.
-use crate::error::CaseError;
-use crate::shown::{listed, listed_fields, listed_pieces};
+use crate::refusal::Refusal;
+use crate::shown::{push_fields, push_pieces, push_segments};
+use rkt_base::NoMemory;
 use rkt_uri::Origin;
 use std::alloc::Global;
 
-/// The path and the query of an origin.
-fn parts(alloc: Global, origin: &Origin) -> Result<String, CaseError> {
-    Ok(format!(in alloc; "path={:?} query={:?}", origin.path(), origin.query())?)
-}
-
-/// The parts, as a copy has them.
-fn copied_parts(alloc: Global, origin: &Origin) -> Result<String, CaseError> {
+/// Adds the path and the query, as a copy has them.
+fn push_parts(alloc: Global, origin: &Origin, out: &mut String) -> Result<(), NoMemory> {
     let copy = origin.try_clone(alloc)?;
-    parts(alloc, &copy)
+    let (path, query) = (copy.path(), copy.query());
+    write!(out, "path={path:?} query={query:?}")
 }
 
-fn origin_parts(alloc: Global, text: &str) -> Result<String, CaseError> {
-    let origin = Origin::parse(alloc, text)?;
-    copied_parts(alloc, &origin)
-}
-
-fn route_parts(alloc: Global, text: &str) -> Result<String, CaseError> {
-    let origin = Origin::parse_route(alloc, text)?;
-    copied_parts(alloc, &origin)
-}
-
-fn text_of(alloc: Global, origin: &Origin) -> Result<String, CaseError> {
-    Ok(String::from_str(alloc, origin.as_str())?)
-}
-
-fn normal(alloc: Global, origin: Origin) -> Result<String, CaseError> {
-    let normal = origin.into_normalized(alloc)?;
-    text_of(alloc, &normal)
-}
-
-fn cleared(alloc: Global, mut origin: Origin) -> Result<String, CaseError> {
-    origin.clear_query();
-    text_of(alloc, &origin)
-}
-
-/// What a command asks that lends an origin.
-fn told(alloc: Global, command: &str, origin: &Origin) -> Result<String, CaseError> {
+fn push_told(
+    alloc: Global,
+    command: &str,
+    origin: &Origin,
+    out: &mut String,
+) -> Result<(), NoMemory> {
     match command {
-        "segments" => listed(alloc, &origin.segments()),
-        "raw" => listed_pieces(alloc, origin.raw_segments()),
-        "fields" => listed_fields(alloc, origin.query_fields().count(), origin.query_fields()),
-        _ => text_of(alloc, origin),
+        "origin" | "route" => push_parts(alloc, origin, out),
+        "segments" => push_segments(&origin.segments(), out),
+        "raw" => push_pieces(origin, out),
+        "fields" => push_fields(origin, out),
+        _ => out.push_str(origin.as_str()),
     }
 }
 
-fn told_of(alloc: Global, command: &str, text: &str) -> Result<String, CaseError> {
-    let origin = Origin::parse(alloc, text)?;
-    told(alloc, command, &origin)
-}
-
-fn normal_of(alloc: Global, text: &str) -> Result<String, CaseError> {
-    normal(alloc, Origin::parse(alloc, text)?)
-}
-
-fn cleared_of(alloc: Global, text: &str) -> Result<String, CaseError> {
-    cleared(alloc, Origin::parse(alloc, text)?)
-}
-
-/// What a command answers that is about one origin.
-pub fn origin_answer(alloc: Global, command: &str, text: &str) -> Result<String, CaseError> {
-    match command {
-        "origin" => origin_parts(alloc, text),
-        "route" => route_parts(alloc, text),
-        "normal" => normal_of(alloc, text),
-        "cleared" => cleared_of(alloc, text),
-        _ => told_of(alloc, command, text),
+/// The origin that a command asks about: that of a route, of a request, its normal form, or without its query.
+fn asked(alloc: Global, command: &str, text: &str) -> Result<Origin, Refusal> {
+    if command == "route" {
+        return Ok(Origin::parse_route(alloc, text)?);
     }
+    let mut origin = Origin::parse(alloc, text)?;
+    match command {
+        "normal" => Ok(origin.into_normalized(alloc)?),
+        "cleared" => {
+            origin.clear_query();
+            Ok(origin)
+        }
+        _ => Ok(origin),
+    }
+}
+
+/// Adds what a command answers that is about one origin.
+pub fn push_origin(
+    alloc: Global,
+    command: &str,
+    text: &str,
+    out: &mut String,
+) -> Result<(), Refusal> {
+    let origin = asked(alloc, command, text)?;
+    Ok(push_told(alloc, command, &origin, out)?)
 }

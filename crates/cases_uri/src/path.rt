@@ -1,37 +1,49 @@
 //! Cases of segments.
-use crate::error::CaseError;
-use crate::shown::{listed, segment_or_none};
-use crate::words::{first_word, numbered};
+use crate::refusal::Refusal;
+use crate::shown::push_segments;
+use crate::words::numbered;
+use cases::first_word;
 use rkt_base::{NoMemory, Seq, Text};
 use rkt_uri::{Origin, Segments};
 use std::alloc::Global;
 
-/// The path of the file system that segments walk to.
-fn path_of(alloc: Global, dots: bool, segments: Segments<'_>) -> Result<String, CaseError> {
+/// Adds the path of the file system that segments walk to.
+fn push_path(
+    alloc: Global,
+    dots: bool,
+    segments: Segments<'_>,
+    out: &mut String,
+) -> Result<(), Refusal> {
     let path = segments.to_path_buf(alloc, dots)?;
-    Ok(String::from_str(alloc, path.as_str())?)
+    Ok(out.push_str(path.as_str())?)
 }
 
-/// What a command asks of the segments from a number on.
-fn from_number(
+/// Adds what a command asks of the segments from a number on.
+fn push_from_number(
     alloc: Global,
     command: &str,
     number: usize,
     segments: Segments<'_>,
-) -> Result<String, CaseError> {
+    out: &mut String,
+) -> Result<(), Refusal> {
     match command {
-        "segment" => segment_or_none(alloc, segments.get(number)),
-        "path" => path_of(alloc, false, segments.skip(number)),
-        "dotted" => path_of(alloc, true, segments.skip(number)),
-        _ => listed(alloc, &segments.skip(number)),
+        "segment" => Ok(write!(out, "{:?}", segments.get(number))?),
+        "path" => push_path(alloc, false, segments.skip(number), out),
+        "dotted" => push_path(alloc, true, segments.skip(number), out),
+        _ => Ok(push_segments(&segments.skip(number), out)?),
     }
 }
 
-/// What a command with a number answers.
-pub fn numbered_answer(alloc: Global, command: &str, rest: &str) -> Result<String, CaseError> {
+/// Adds what a command with a number answers.
+pub fn push_numbered(
+    alloc: Global,
+    command: &str,
+    rest: &str,
+    out: &mut String,
+) -> Result<(), Refusal> {
     let (number, text) = numbered(rest)?;
     let origin = Origin::parse(alloc, text)?;
-    from_number(alloc, command, number, origin.segments())
+    push_from_number(alloc, command, number, origin.segments(), out)
 }
 
 fn push_name(alloc: Global, names: &mut Seq<Text>, name: &str) -> Result<(), NoMemory> {
@@ -48,10 +60,10 @@ fn names_of(alloc: Global, text: &str) -> Result<Seq<Text>, NoMemory> {
     Ok(names)
 }
 
-/// The path of the file system that segments walk to which are listed one by one.
-pub fn names_answer(alloc: Global, text: &str) -> Result<String, CaseError> {
+/// Adds the path of the file system that segments walk to which are listed one by one.
+pub fn push_named(alloc: Global, text: &str, out: &mut String) -> Result<(), Refusal> {
     let names = names_of(alloc, text)?;
-    path_of(alloc, false, Segments::new(names.as_slice()))
+    push_path(alloc, false, Segments::new(names.as_slice()), out)
 }
 
 /// What a command asks of two lists of segments.
@@ -62,28 +74,20 @@ fn compare(command: &str, ones: Segments<'_>, others: Segments<'_>) -> bool {
     }
 }
 
-fn compared(
+fn compared(alloc: Global, command: &str, one: &Origin, text: &str) -> Result<bool, Refusal> {
+    let other = Origin::parse(alloc, text)?;
+    Ok(compare(command, one.segments(), other.segments()))
+}
+
+/// Adds what a command with two origins answers.
+pub fn push_compared(
     alloc: Global,
     command: &str,
-    one: &Origin,
-    text: &str,
-) -> Result<&'static str, CaseError> {
-    let other = Origin::parse(alloc, text)?;
-    if compare(command, one.segments(), other.segments()) {
-        Ok("true")
-    } else {
-        Ok("false")
-    }
-}
-
-fn verdict(alloc: Global, command: &str, rest: &str) -> Result<&'static str, CaseError> {
+    rest: &str,
+    out: &mut String,
+) -> Result<(), Refusal> {
     let (text, other) = first_word(rest);
     let one = Origin::parse(alloc, text)?;
-    compared(alloc, command, &one, other)
-}
-
-/// What a command with two origins answers.
-pub fn compared_answer(alloc: Global, command: &str, rest: &str) -> Result<String, CaseError> {
-    let verdict = verdict(alloc, command, rest)?;
-    Ok(String::from_str(alloc, verdict)?)
+    let holds = compared(alloc, command, &one, other)?;
+    Ok(write!(out, "{holds}")?)
 }

@@ -1,72 +1,50 @@
-//! Lists, as answers show them.
-use crate::error::CaseError;
+//! Lists, as answers show them: how many items there are, and each behind a bar.
 use rkt_base::NoMemory;
-use rkt_uri::{QueryFields, RawSegments, Segments};
-use std::alloc::Global;
+use rkt_uri::{Origin, QueryFields, RawSegments, Segments};
 
-/// Adds an item behind a bar.
-fn push_item(list: &mut String, item: &str) -> Result<(), NoMemory> {
-    list.push_str("|")?;
-    Ok(list.push_str(item)?)
-}
-
-/// Adds a field behind a bar.
-fn push_field(list: &mut String, field: (&str, &str)) -> Result<(), NoMemory> {
-    push_item(list, field.0)?;
-    list.push_str("=")?;
-    Ok(list.push_str(field.1)?)
-}
-
-fn push_segments(list: &mut String, segments: &Segments<'_>) -> Result<(), NoMemory> {
+fn push_items(segments: &Segments<'_>, out: &mut String) -> Result<(), NoMemory> {
     for at in 0..segments.len() {
-        push_item(list, segments.get(at).unwrap_or(""))?;
+        write!(out, "|{}", segments.get(at).unwrap_or(""))?;
     }
     Ok(())
 }
 
-/// How many segments there are, and each behind a bar.
-pub fn listed(alloc: Global, segments: &Segments<'_>) -> Result<String, CaseError> {
-    let mut list = segments.len().to_string(alloc)?;
-    push_segments(&mut list, segments)?;
-    Ok(list)
+/// Adds the segments.
+pub fn push_segments(segments: &Segments<'_>, out: &mut String) -> Result<(), NoMemory> {
+    write!(out, "{}", segments.len())?;
+    push_items(segments, out)
 }
 
-/// Adds each piece, and tells how many there are.
-fn push_pieces(list: &mut String, pieces: RawSegments<'_>) -> Result<u64, NoMemory> {
+fn count_of(pieces: RawSegments<'_>) -> u64 {
     let mut count = 0u64;
-    for piece in pieces {
-        push_item(list, piece)?;
+    for _ in pieces {
         count = count.wrapping_add(1);
     }
-    Ok(count)
+    count
 }
 
-/// How many pieces there are, and each behind a bar.
-pub fn listed_pieces(alloc: Global, pieces: RawSegments<'_>) -> Result<String, CaseError> {
-    let mut list = String::new(alloc);
-    let count = push_pieces(&mut list, pieces)?;
-    Ok(format!(in alloc; "{count}{list}")?)
-}
-
-fn push_fields(list: &mut String, fields: QueryFields<'_>) -> Result<(), NoMemory> {
-    for field in fields {
-        push_field(list, field)?;
+fn push_each_piece(pieces: RawSegments<'_>, out: &mut String) -> Result<(), NoMemory> {
+    for piece in pieces {
+        write!(out, "|{piece}")?;
     }
     Ok(())
 }
 
-/// How many fields there are, and each behind a bar.
-pub fn listed_fields(
-    alloc: Global,
-    count: usize,
-    fields: QueryFields<'_>,
-) -> Result<String, CaseError> {
-    let mut list = count.to_string(alloc)?;
-    push_fields(&mut list, fields)?;
-    Ok(list)
+/// Adds the pieces of an origin's path as they stand.
+pub fn push_pieces(origin: &Origin, out: &mut String) -> Result<(), NoMemory> {
+    write!(out, "{}", count_of(origin.raw_segments()))?;
+    push_each_piece(origin.raw_segments(), out)
 }
 
-/// A segment, if there is one of this number.
-pub fn segment_or_none(alloc: Global, segment: Option<&str>) -> Result<String, CaseError> {
-    Ok(format!(in alloc; "{segment:?}")?)
+fn push_each_field(fields: QueryFields<'_>, out: &mut String) -> Result<(), NoMemory> {
+    for (name, value) in fields {
+        write!(out, "|{name}={value}")?;
+    }
+    Ok(())
+}
+
+/// Adds the decoded fields of an origin's query.
+pub fn push_fields(origin: &Origin, out: &mut String) -> Result<(), NoMemory> {
+    write!(out, "{}", origin.query_fields().count())?;
+    push_each_field(origin.query_fields(), out)
 }
