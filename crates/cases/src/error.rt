@@ -1,4 +1,4 @@
-use rkt_base::Want;
+use rkt_base::{NoMemory, Want};
 use std::alloc::{AllocError, AllocFailed};
 
 /// Why a case has no other answer.
@@ -41,5 +41,21 @@ impl<E: Drop> From<Want<E>> for CaseError {
             Want::Refused(_) => CaseError::Line,
             Want::NoMemory => CaseError::NoMemory,
         }
+    }
+}
+
+/// What a case answers that has no answer but for want of memory.
+pub fn written(answer: Result<(), NoMemory>) -> Result<(), CaseError> {
+    match answer {
+        Ok(()) => Ok(()),
+        Err(_) => Err(CaseError::NoMemory),
+    }
+}
+
+/// Adds `done` where a change was made.
+pub fn done(change: Result<(), CaseError>, out: &mut String) -> Result<(), CaseError> {
+    match change {
+        Ok(()) => written(out.push_str("done")),
+        Err(error) => Err(error),
     }
 }

@@ -8,6 +8,6 @@ mod error;
 mod lines;
 mod words;
 
-pub use crate::error::CaseError;
+pub use crate::error::{CaseError, done, written};
 pub use crate::lines::{Answers, answer_lines, answer_lines_if_made, is_heading, print_answer};
 pub use crate::words::{cut, first_word, numbers, pair, parsed, plain, push_item};

@@ -2,7 +2,7 @@
 ghost use Rattle.std.specs.Prelude.{◌≡◌};
 
 use crate::author::{Depth, Hex, Loud, NoPoint, Point, Site, Stopped, Token};
-use cases::CaseError;
+use cases::{CaseError, plain, written};
 use rkt_base::{NoMemory, Poll, Want};
 use rkt_cookie::CookieJar;
 use rkt_data::{Data, Gate, MemorySource};
@@ -33,9 +33,17 @@ pub fn made_setting(alloc: Global) -> Result<Setting, NoMemory> {
     })
 }
 
-pub fn context(alloc: Global) -> Result<Ctx<Site>, CaseError> {
+pub fn context(alloc: Global) -> Result<Ctx<Site>, NoMemory> {
     let (_wire, shutdown) = TripWire::<Stopped>::new(alloc)?;
     Ok(Ctx::new(alloc, CookieJar::new(alloc), shutdown, GATE))
+}
+
+fn request_of(
+    alloc: Global,
+    setting: &Setting,
+    uri: Origin,
+) -> Result<Request<'_, Site>, NoMemory> {
+    Request::new(alloc, &setting.config, &setting.managed, Method::Get, uri)
 }
 
 pub fn request<'a>(
@@ -43,19 +51,14 @@ pub fn request<'a>(
     setting: &'a Setting,
     path: &str,
 ) -> Result<Request<'a, Site>, CaseError> {
-    let uri = Origin::parse(alloc, path)?;
-    Ok(Request::new(alloc, &setting.config, &setting.managed, Method::Get, uri)?)
+    match request_of(alloc, setting, Origin::parse(alloc, path)?) {
+        Ok(request) => Ok(request),
+        Err(_) => Err(CaseError::NoMemory),
+    }
 }
 
-pub fn push_status(
-    alloc: Global,
-    out: &mut String,
-    word: &str,
-    status: Status,
-) -> Result<(), CaseError> {
-    let code = status.code;
-    let text = format!(in alloc; "{word} {code}")?;
-    Ok(out.push_str(text.as_str())?)
+pub fn push_status(out: &mut String, word: &str, status: Status) -> Result<(), CaseError> {
+    written(write!(out, "{word} {}", status.code))
 }
 
 /// What the guard answers, which leaves the context as it was.
@@ -68,24 +71,27 @@ pub fn push_token(
     ensures { ctx.new ≡ ctx.old }
 {
     match request.guard::<Token>(alloc, ctx)? {
-        Outcome::Success(token) => Ok(out.push_str(token.text.as_str())?),
-        Outcome::Error((status, _)) => push_status(alloc, out, "error", status),
-        Outcome::Forward(status) => push_status(alloc, out, "forward", status),
+        Outcome::Success(token) => written(out.push_str(token.text.as_str())),
+        Outcome::Error((status, _)) => push_status(out, "error", status),
+        Outcome::Forward(status) => push_status(out, "forward", status),
     }
 }
 
-pub fn with_token(
+fn add_token(alloc: Global, request: &mut Request<'_, Site>, token: &str) -> Result<(), NoMemory> {
+    let header = Header::new(alloc, "X-Token", token)?;
+    request.add_header(header)
+}
+
+/// Has the request show a token, if there is one.
+pub fn show_token(
     alloc: Global,
     request: &mut Request<'_, Site>,
     token: &str,
 ) -> Result<(), CaseError> {
-    let header = Header::new(alloc, "X-Token", token)?;
-    Ok(request.add_header(header)?)
-}
-
-fn push_number(alloc: Global, out: &mut String, number: u64) -> Result<(), CaseError> {
-    let text = number.to_string(alloc)?;
-    Ok(out.push_str(text.as_str())?)
+    if token.is_empty() {
+        return Ok(());
+    }
+    written(add_token(alloc, request, plain(token)))
 }
 
 /// What the first segment is as a number to the base 16.
@@ -95,9 +101,9 @@ pub fn push_param(
     request: &Request<'_, Site>,
 ) -> Result<(), CaseError> {
     match request.param::<Hex>(alloc, 0) {
-        Some(Ok(Hex(number))) => push_number(alloc, out, number),
-        Some(Err(_)) => Ok(out.push_str("refused")?),
-        None => Ok(out.push_str("none")?),
+        Some(Ok(Hex(number))) => written(write!(out, "{number}")),
+        Some(Err(_)) => written(out.push_str("refused")),
+        None => written(out.push_str("none")),
     }
 }
 
@@ -108,31 +114,39 @@ pub fn push_depth(
     request: &Request<'_, Site>,
 ) -> Result<(), CaseError> {
     match request.segments::<Depth>(alloc, 0..) {
-        Ok(Depth(depth)) => push_number(alloc, out, depth as u64),
-        Err(_) => Ok(out.push_str("refused")?),
+        Ok(Depth(depth)) => written(write!(out, "{depth}")),
+        Err(_) => written(out.push_str("refused")),
+    }
+}
+
+/// Adds the point that was read, or the status in its place.
+fn push_read(
+    out: &mut String,
+    outcome: DataOutcome<Parsed<Point>, TextError<NoPoint>, Body0<Site>>,
+) -> Result<(), CaseError> {
+    match outcome {
+        Outcome::Success(Parsed(Point { x, y })) => written(write!(out, "{x} right, {y} up")),
+        Outcome::Error((status, _)) => push_status(out, "error", status),
+        Outcome::Forward((_, status)) => push_status(out, "forward", status),
     }
 }
 
 /// What the guard of a body answers. A body in memory is never waited for.
-fn point_of(
+fn push_body(
     alloc: Global,
+    out: &mut String,
     request: &Request<'_, Site>,
     body: Body0<Site>,
-) -> Result<DataOutcome<Parsed<Point>, TextError<NoPoint>, Body0<Site>>, CaseError> {
+) -> Result<(), CaseError> {
     let mut reading = <Parsed<Point> as FromData<Site>>::from_data(request, body);
     match <Parsed<Point> as FromData<Site>>::poll_data(alloc, &mut reading, GATE) {
-        Poll::Ready(Ok(outcome)) => Ok(outcome),
+        Poll::Ready(Ok(outcome)) => push_read(out, outcome),
         Poll::Ready(Err(_)) => Err(CaseError::NoMemory),
         Poll::Pending => Err(CaseError::Line),
     }
 }
 
-fn push_sum(alloc: Global, out: &mut String, point: Point) -> Result<(), CaseError> {
-    let text = format!(in alloc; "{} right, {} up", point.x, point.y)?;
-    Ok(out.push_str(text.as_str())?)
-}
-
-/// The point that a body spells.
+/// The point that a body of this text spells.
 pub fn push_point(
     alloc: Global,
     out: &mut String,
@@ -140,28 +154,27 @@ pub fn push_point(
     text: &str,
 ) -> Result<(), CaseError> {
     let bytes = text.as_bytes().to_vec(alloc)?;
-    match point_of(alloc, request, Data::local(bytes))? {
-        Outcome::Success(Parsed(point)) => push_sum(alloc, out, point),
-        Outcome::Error((status, _)) => push_status(alloc, out, "error", status),
-        Outcome::Forward((_, status)) => push_status(alloc, out, "forward", status),
-    }
+    push_body(alloc, out, request, Data::local(bytes))
 }
 
-pub fn push_response(
-    alloc: Global,
-    out: &mut String,
-    mut response: Response<MemorySource>,
-) -> Result<(), CaseError> {
-    push_status(alloc, out, "status", response.status())?;
-    match response.body_mut().size() {
-        Some(size) => push_size(alloc, out, size),
+/// Adds the size of a response's body, if it is known.
+fn push_size(out: &mut String, size: Option<usize>) -> Result<(), NoMemory> {
+    match size {
+        Some(size) => write!(out, " size {size}"),
         None => Ok(()),
     }
 }
 
-fn push_size(alloc: Global, out: &mut String, size: usize) -> Result<(), CaseError> {
-    let text = format!(in alloc; " size {size}")?;
-    Ok(out.push_str(text.as_str())?)
+fn push_head(out: &mut String, response: &mut Response<MemorySource>) -> Result<(), NoMemory> {
+    write!(out, "status {}", response.status().code)?;
+    push_size(out, response.body_mut().size())
+}
+
+pub fn push_response(
+    out: &mut String,
+    mut response: Response<MemorySource>,
+) -> Result<(), CaseError> {
+    written(push_head(out, &mut response))
 }
 
 /// What the responder answers, which leaves the context as it was.
@@ -178,14 +191,14 @@ pub fn push_loud(
         text: String::from_str(alloc, text)?,
     };
     match loud.respond_to(alloc, request, ctx) {
-        Ok(response) => push_response(alloc, out, response),
-        Err(error) => push_refusal(alloc, out, error),
+        Ok(response) => push_response(out, response),
+        Err(error) => push_refusal(out, error),
     }
 }
 
-fn push_refusal(alloc: Global, out: &mut String, error: Want<Status>) -> Result<(), CaseError> {
+fn push_refusal(out: &mut String, error: Want<Status>) -> Result<(), CaseError> {
     match error {
-        Want::Refused(status) => push_status(alloc, out, "error", status),
+        Want::Refused(status) => push_status(out, "error", status),
         Want::NoMemory => Err(CaseError::NoMemory),
     }
 }

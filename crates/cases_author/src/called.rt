@@ -1,20 +1,39 @@
 //! What a framework gets of an author's callbacks, by the bounds alone.
 use crate::asked::{push_response, push_status};
 use crate::author::Site;
-use cases::CaseError;
+use cases::{CaseError, written};
 use rkt_data::{Data, MemorySource};
 use rkt_http::{Outcome, Status};
-use rkt_request::{Ctx, Request};
+use rkt_request::{Body0, Ctx, Request, Types};
 use rkt_response::Response;
 use rkt_router::{CatchHandler, Final, Handler, RouteOutcome, Turn, turn_catch, turn_handler};
 use std::alloc::Global;
 
-fn push_reply(alloc: Global, out: &mut String, reply: RouteOutcome<Site>) -> Result<(), CaseError> {
+fn push_reply(out: &mut String, reply: RouteOutcome<Site>) -> Result<(), CaseError> {
     match reply {
-        Outcome::Success(response) => push_response(alloc, out, response),
-        Outcome::Error(status) => push_status(alloc, out, "error", status),
-        Outcome::Forward((_, status)) => push_status(alloc, out, "forward", status),
+        Outcome::Success(response) => push_response(out, response),
+        Outcome::Error(status) => push_status(out, "error", status),
+        Outcome::Forward((_, status)) => push_status(out, "forward", status),
     }
+}
+
+/// Polls a call of a handler that has so many turns; what it gives at last, if it is over by then.
+fn handled<T: Types, H: Handler<T>>(
+    alloc: Global,
+    handler: &H,
+    turns: u32,
+    request: &Request<'_, T>,
+    ctx: &mut Ctx<T>,
+    body: Body0<T>,
+) -> Option<Final<RouteOutcome<T>>> {
+    let mut task = handler.start(request, body);
+    for turn in 0..turns {
+        match turn_handler(alloc, handler, turns, turn, &mut task, request, ctx) {
+            Turn::Pending => {}
+            Turn::Over(last) => return Some(last),
+        }
+    }
+    None
 }
 
 /// What a handler gives in one turn.
@@ -25,23 +44,47 @@ pub fn push_handled<H: Handler<Site>>(
     request: &Request<'_, Site>,
     ctx: &mut Ctx<Site>,
 ) -> Result<(), CaseError> {
-    let mut task = handler.start(request, Data::local(Vec::new(alloc)));
-    match turn_handler(alloc, handler, 1, 0, &mut task, request, ctx) {
-        Turn::Over(Final::Done(reply)) => push_reply(alloc, out, reply),
-        Turn::Over(Final::Starved) => Err(CaseError::NoMemory),
-        _ => Ok(out.push_str("failed turn")?),
+    match handled(
+        alloc,
+        handler,
+        1,
+        request,
+        ctx,
+        Data::local(Vec::new(alloc)),
+    ) {
+        Some(Final::Done(reply)) => push_reply(out, reply),
+        Some(Final::Starved) => Err(CaseError::NoMemory),
+        _ => written(out.push_str("failed turn")),
     }
 }
 
 fn push_answer(
-    alloc: Global,
     out: &mut String,
     answer: Result<Response<MemorySource>, Status>,
 ) -> Result<(), CaseError> {
     match answer {
-        Ok(response) => push_response(alloc, out, response),
-        Err(status) => push_status(alloc, out, "error", status),
+        Ok(response) => push_response(out, response),
+        Err(status) => push_status(out, "error", status),
     }
+}
+
+/// The same of a catcher.
+fn caught<T: Types, C: CatchHandler<T>>(
+    alloc: Global,
+    catcher: &C,
+    status: Status,
+    turns: u32,
+    request: &Request<'_, T>,
+    ctx: &mut Ctx<T>,
+) -> Option<Final<Result<Response<T::Stream>, Status>>> {
+    let mut task = catcher.start(status, request);
+    for turn in 0..turns {
+        match turn_catch(alloc, catcher, turns, turn, &mut task, request, ctx) {
+            Turn::Pending => {}
+            Turn::Over(last) => return Some(last),
+        }
+    }
+    None
 }
 
 /// What a catcher gives in one turn.
@@ -53,10 +96,9 @@ pub fn push_caught<C: CatchHandler<Site>>(
     request: &Request<'_, Site>,
     ctx: &mut Ctx<Site>,
 ) -> Result<(), CaseError> {
-    let mut task = catcher.start(status, request);
-    match turn_catch(alloc, catcher, 1, 0, &mut task, request, ctx) {
-        Turn::Over(Final::Done(answer)) => push_answer(alloc, out, answer),
-        Turn::Over(Final::Starved) => Err(CaseError::NoMemory),
-        _ => Ok(out.push_str("failed turn")?),
+    match caught(alloc, catcher, status, 1, request, ctx) {
+        Some(Final::Done(answer)) => push_answer(out, answer),
+        Some(Final::Starved) => Err(CaseError::NoMemory),
+        _ => written(out.push_str("failed turn")),
     }
 }

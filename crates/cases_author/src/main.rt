@@ -20,183 +20,158 @@ mod asked;
 mod author;
 mod callbacks;
 mod called;
+mod question;
 
 use crate::asked::{
     Setting, context, made_setting, push_depth, push_loud, push_param, push_point, push_token,
-    request, with_token,
+    request, show_token,
 };
 use crate::author::Site;
 use crate::callbacks::{Greets, Notes, Says, Shows, Visits};
 use crate::called::{push_caught, push_handled};
-use cases::{Answers, CaseError, answer_lines_if_made, first_word, parsed, plain};
+use crate::question::{Callback, Question, parse_line};
+use cases::{Answers, CaseError, answer_lines_if_made, written};
 use rkt_base::NoMemory;
 use rkt_http::Status;
-use rkt_request::Ctx;
-use rkt_router::{Answering, AnsweringIf, AnsweringWith, CatchHandler};
+use rkt_request::{Ctx, Request};
+use rkt_router::{Answering, AnsweringIf, AnsweringWith};
 use std::alloc::Global;
 use std::io;
 
-/// What requests are lent.
+/// What requests are lent, and the context of the line at hand.
 #[derive(Drop)]
 struct Program {
     setting: Setting,
+    ctx: Ctx<Site>,
 }
 
 impl Program {
     fn new(alloc: Global) -> Result<Program, NoMemory> {
+        let setting = made_setting(alloc)?;
         Ok(Program {
-            setting: made_setting(alloc)?,
+            setting,
+            ctx: context(alloc)?,
         })
     }
 }
 
-fn answer_token(
+/// Adds how many changes of cookies there are, behind an answer.
+fn with_changes(
+    answer: Result<(), CaseError>,
+    out: &mut String,
+    ctx: &Ctx<Site>,
+) -> Result<(), CaseError> {
+    match answer {
+        Ok(()) => written(write!(out, ", changes {}", ctx.cookies().log().len())),
+        Err(error) => Err(error),
+    }
+}
+
+fn push_shown(
     alloc: Global,
     out: &mut String,
-    setting: &Setting,
+    request: &mut Request<'_, Site>,
+    ctx: &mut Ctx<Site>,
     token: &str,
 ) -> Result<(), CaseError> {
-    let mut ctx = context(alloc)?;
-    let mut request = request(alloc, setting, "/")?;
-    if !token.is_empty() {
-        with_token(alloc, &mut request, plain(token))?;
+    show_token(alloc, request, token)?;
+    push_handled(alloc, out, &AnsweringIf(Shows), request, ctx)
+}
+
+fn push_visit(
+    alloc: Global,
+    out: &mut String,
+    request: &Request<'_, Site>,
+    ctx: &mut Ctx<Site>,
+) -> Result<(), CaseError> {
+    let answer = push_handled(alloc, out, &AnsweringWith(Visits), request, ctx);
+    with_changes(answer, out, ctx)
+}
+
+fn push_said(
+    alloc: Global,
+    out: &mut String,
+    request: &Request<'_, Site>,
+    ctx: &mut Ctx<Site>,
+    status: Status,
+) -> Result<(), CaseError> {
+    let answer = push_caught(alloc, out, &Answering(Says), status, request, ctx);
+    with_changes(answer, out, ctx)
+}
+
+fn push_noted(
+    alloc: Global,
+    out: &mut String,
+    request: &Request<'_, Site>,
+    ctx: &mut Ctx<Site>,
+    status: Status,
+) -> Result<(), CaseError> {
+    let answer = push_caught(alloc, out, &AnsweringWith(Notes), status, request, ctx);
+    with_changes(answer, out, ctx)
+}
+
+fn push_called(
+    alloc: Global,
+    out: &mut String,
+    request: &mut Request<'_, Site>,
+    ctx: &mut Ctx<Site>,
+    callback: Callback<'_>,
+) -> Result<(), CaseError> {
+    match callback {
+        Callback::Greets => push_handled(alloc, out, &Answering(Greets), request, ctx),
+        Callback::Shows(token) => push_shown(alloc, out, request, ctx, token),
+        Callback::Visits => push_visit(alloc, out, request, ctx),
+        Callback::Says(status) => push_said(alloc, out, request, ctx, status),
+        Callback::Notes(status) => push_noted(alloc, out, request, ctx, status),
     }
-    push_token(alloc, out, &request, &mut ctx)
 }
 
-fn answer_loud(
+fn push_guarded(
     alloc: Global,
     out: &mut String,
-    setting: &Setting,
-    text: &str,
-) -> Result<(), CaseError> {
-    let mut ctx = context(alloc)?;
-    let request = request(alloc, setting, "/")?;
-    push_loud(alloc, out, &request, &mut ctx, text)
-}
-
-fn answer_hex(
-    alloc: Global,
-    out: &mut String,
-    setting: &Setting,
-    path: &str,
-) -> Result<(), CaseError> {
-    let request = request(alloc, setting, path)?;
-    push_param(alloc, out, &request)
-}
-
-fn answer_depth(
-    alloc: Global,
-    out: &mut String,
-    setting: &Setting,
-    path: &str,
-) -> Result<(), CaseError> {
-    let request = request(alloc, setting, path)?;
-    push_depth(alloc, out, &request)
-}
-
-fn answer_point(
-    alloc: Global,
-    out: &mut String,
-    setting: &Setting,
-    text: &str,
-) -> Result<(), CaseError> {
-    let request = request(alloc, setting, "/")?;
-    push_point(alloc, out, &request, text)
-}
-
-fn answer_greets(
-    alloc: Global,
-    out: &mut String,
-    setting: &Setting,
-    path: &str,
-) -> Result<(), CaseError> {
-    let mut ctx = context(alloc)?;
-    let request = request(alloc, setting, path)?;
-    push_handled(alloc, out, &Answering(Greets), &request, &mut ctx)
-}
-
-fn answer_shows(
-    alloc: Global,
-    out: &mut String,
-    setting: &Setting,
+    request: &mut Request<'_, Site>,
+    ctx: &mut Ctx<Site>,
     token: &str,
 ) -> Result<(), CaseError> {
-    let mut ctx = context(alloc)?;
-    let mut request = request(alloc, setting, "/")?;
-    if !token.is_empty() {
-        with_token(alloc, &mut request, plain(token))?;
-    }
-    push_handled(alloc, out, &AnsweringIf(Shows), &request, &mut ctx)
+    show_token(alloc, request, token)?;
+    push_token(alloc, out, request, ctx)
 }
 
-fn answer_visits(alloc: Global, out: &mut String, setting: &Setting) -> Result<(), CaseError> {
-    let mut ctx = context(alloc)?;
-    let request = request(alloc, setting, "/")?;
-    push_handled(alloc, out, &AnsweringWith(Visits), &request, &mut ctx)?;
-    push_changes(out, &ctx)
-}
-
-fn push_changes(out: &mut String, ctx: &Ctx<Site>) -> Result<(), CaseError> {
-    let changes = ctx.cookies().log().len();
-    Ok(write!(out, ", changes {changes}")?)
-}
-
-fn answer_catch<C: CatchHandler<Site>>(
+fn push_asked(
     alloc: Global,
     out: &mut String,
-    setting: &Setting,
-    catcher: &C,
-    line: &str,
+    request: &mut Request<'_, Site>,
+    ctx: &mut Ctx<Site>,
+    question: Question<'_>,
 ) -> Result<(), CaseError> {
-    let (code, path) = first_word(line);
-    let status = Status::new(parsed::<u16>(code)?);
-    let mut ctx = context(alloc)?;
-    let request = request(alloc, setting, path)?;
-    push_caught(alloc, out, catcher, status, &request, &mut ctx)?;
-    push_changes(out, &ctx)
-}
-
-fn answer_call(
-    alloc: Global,
-    out: &mut String,
-    setting: &Setting,
-    command: &str,
-    rest: &str,
-) -> Result<(), CaseError> {
-    match command {
-        "greets" => answer_greets(alloc, out, setting, rest),
-        "shows" => answer_shows(alloc, out, setting, rest),
-        _ => answer_noted(alloc, out, setting, command, rest),
+    match question {
+        Question::Token(token) => push_guarded(alloc, out, request, ctx, token),
+        Question::Hex => push_param(alloc, out, request),
+        Question::Depth => push_depth(alloc, out, request),
+        Question::Point(text) => push_point(alloc, out, request, text),
+        Question::Loud(text) => push_loud(alloc, out, request, ctx, text),
+        Question::Call(callback) => push_called(alloc, out, request, ctx, callback),
     }
 }
 
-fn answer_noted(
+fn ask(
     alloc: Global,
     out: &mut String,
-    setting: &Setting,
-    command: &str,
-    rest: &str,
+    program: &mut Program,
+    question: Question<'_>,
+    path: &str,
 ) -> Result<(), CaseError> {
-    match command {
-        "visits" => answer_visits(alloc, out, setting),
-        "says" => answer_catch(alloc, out, setting, &Answering(Says), rest),
-        "notes" => answer_catch(alloc, out, setting, &AnsweringWith(Notes), rest),
-        _ => Err(CaseError::Line),
+    match request(alloc, &program.setting, path) {
+        Ok(mut request) => push_asked(alloc, out, &mut request, &mut program.ctx, question),
+        Err(error) => Err(error),
     }
 }
 
 impl Answers for Program {
     fn answer(&mut self, alloc: Global, line: &str, out: &mut String) -> Result<(), CaseError> {
-        let (command, rest) = first_word(line);
-        match command {
-            "token" => answer_token(alloc, out, &self.setting, rest),
-            "hex" => answer_hex(alloc, out, &self.setting, rest),
-            "depth" => answer_depth(alloc, out, &self.setting, rest),
-            "point" => answer_point(alloc, out, &self.setting, rest),
-            "loud" => answer_loud(alloc, out, &self.setting, rest),
-            _ => answer_call(alloc, out, &self.setting, command, rest),
-        }
+        let (question, path) = parse_line(line)?;
+        self.ctx = context(alloc)?;
+        ask(alloc, out, self, question, path)
     }
 }
 

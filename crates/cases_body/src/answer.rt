@@ -7,7 +7,7 @@ use crate::objects::{Counts, Listed};
 use crate::shown::push_count;
 use crate::steps::{take_chain_steps, take_cut_steps, take_steps};
 use crate::words::{both_sides, first_step, quoted};
-use cases::{Answers, CaseError, first_word, parsed};
+use cases::{Answers, CaseError, first_word, parsed, written};
 use rkt_base::NoMemory;
 use rkt_data::stream::ReaderStream;
 use rkt_data::{CancellableIo, Chain, Data, MemorySource, Source, StreamReader};
@@ -53,7 +53,7 @@ fn use_source<S: Source>(
     match case.usage {
         Use::Steps => take_steps(alloc, source, case.steps, out),
         Use::Body => use_body(alloc, Data::from_source(alloc, source)?, case.steps, out),
-        Use::Chunks(cap) => Ok(push_chunks(alloc, source, cap, out)?),
+        Use::Chunks(cap) => written(push_chunks(alloc, source, cap, out)),
     }
 }
 
@@ -234,7 +234,7 @@ fn take_line(alloc: Global, line: &str, out: &mut String) -> Result<(), CaseErro
         return take_case(alloc, &counts, line, out);
     };
     take_case(alloc, &counts, line, out)?;
-    Ok(push_counts(alloc, &counts, out)?)
+    written(push_counts(alloc, &counts, out))
 }
 
 impl Answers for Program {

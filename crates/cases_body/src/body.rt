@@ -4,7 +4,7 @@ use crate::sent::{send, send_precise};
 use crate::setting::parse_setting;
 use crate::shown::{push_bytes, push_count, push_flag, push_read};
 use crate::words::{first_step, last_step, open_gate};
-use cases::{CaseError, first_word, parsed, push_item};
+use cases::{CaseError, first_word, parsed, push_item, written};
 use rkt_base::Poll;
 use rkt_data::{ByteUnit, Data, DataStream, Source};
 use std::alloc::Global;
@@ -17,8 +17,8 @@ fn peek_step<S: Source>(
     out: &mut String,
 ) -> Result<(), CaseError> {
     match body.peek(open_gate(0), parsed::<usize>(rest)?) {
-        Poll::Ready(bytes) => Ok(push_bytes(alloc, bytes, out)?),
-        Poll::Pending => Ok(push_item(out, "pending")?),
+        Poll::Ready(bytes) => written(push_bytes(alloc, bytes, out)),
+        Poll::Pending => written(push_item(out, "pending")),
     }
 }
 
@@ -32,7 +32,7 @@ fn step<S: Source>(
     match word {
         "" => Ok(()),
         "peek" => peek_step(alloc, body, rest, out),
-        "complete" => Ok(push_flag(alloc, "complete", body.peek_complete(), out)?),
+        "complete" => written(push_flag(alloc, "complete", body.peek_complete(), out)),
         _ => Err(CaseError::Line),
     }
 }
@@ -58,7 +58,7 @@ fn read_step<S: Source>(
 ) -> Result<(), CaseError> {
     let mut buf = vec![in alloc; 0; parsed::<usize>(rest)?]?;
     let answer = stream.poll_read(open_gate(0), buf.as_mut_slice());
-    Ok(push_read(alloc, buf.as_slice(), answer, out)?)
+    written(push_read(alloc, buf.as_slice(), answer, out))
 }
 
 fn stream_step<S: Source>(
@@ -71,7 +71,7 @@ fn stream_step<S: Source>(
     match word {
         "" => Ok(()),
         "read" => read_step(alloc, stream, rest, out),
-        "hint" => Ok(push_count(alloc, "hint", stream.hint() as u64, out)?),
+        "hint" => written(push_count(alloc, "hint", stream.hint() as u64, out)),
         _ => Err(CaseError::Line),
     }
 }
@@ -97,8 +97,8 @@ fn finish<S: Source>(
 ) -> Result<(), CaseError> {
     let (word, rest) = first_word(step);
     match word {
-        "bytes" => Ok(gather_bytes(alloc, stream, out)?),
-        "text" => Ok(gather_text(alloc, stream, out)?),
+        "bytes" => written(gather_bytes(alloc, stream, out)),
+        "text" => written(gather_text(alloc, stream, out)),
         "send" => send(alloc, stream, parse_setting(rest)?, out),
         "send_precise" => send_precise(alloc, stream, parse_setting(rest)?, out),
         _ => stream_step(alloc, &mut stream, step, out),

@@ -2,7 +2,7 @@
 use crate::gathered::push_n;
 use crate::shown::{push_count, push_flag};
 use crate::words::quoted;
-use cases::{CaseError, first_word, parsed};
+use cases::{CaseError, first_word, parsed, written};
 use rkt_base::NoMemory;
 use rkt_data::{Capped, N};
 use std::alloc::Global;
@@ -50,7 +50,7 @@ pub fn capped_answer(
     let n = parse_n(words)?;
     let (value, new) = first_word(steps);
     let capped = Capped::new(parsed::<u64>(value)?, n);
-    Ok(push_changed(alloc, capped, parsed::<u64>(new)?, out)?)
+    written(push_changed(alloc, capped, parsed::<u64>(new)?, out))
 }
 
 /// `mapped WRITTEN COMPLETE | VALUE`: the value plus one, how many bytes were read, and the value alone.
@@ -64,7 +64,7 @@ pub fn mapped_answer(
     let capped = Capped::new(parsed::<u64>(value)?, n).map(|value: u64| value.saturating_add(1));
     push_told(alloc, &capped, out)?;
     push_count(alloc, "written", *capped.n, out)?;
-    Ok(push_count(alloc, "inner", capped.into_inner(), out)?)
+    written(push_count(alloc, "inner", capped.into_inner(), out))
 }
 
 /// `whole "TEXT"`: a value that was read whole, of the text and of its length.
@@ -72,5 +72,5 @@ pub fn whole_answer(alloc: Global, words: &str, out: &mut String) -> Result<(), 
     let (text, _) = quoted(words)?;
     let length = Capped::from(text.as_bytes()).map(|bytes| bytes.len() as u64);
     push_told(alloc, &length, out)?;
-    Ok(push_asked(alloc, &Capped::complete(0u64, text.len()), out)?)
+    written(push_asked(alloc, &Capped::complete(0u64, text.len()), out))
 }

@@ -4,7 +4,7 @@ use crate::objects::Listed;
 use crate::polled::POLLS;
 use crate::shown::{push_bytes, push_error};
 use crate::words::{both_sides, open_gate, quoted};
-use cases::{CaseError, push_item};
+use cases::{CaseError, push_item, written};
 use rkt_base::{NoMemory, Poll};
 use rkt_data::{AsyncReadExt, DataError, Join, One, PollExt, Source, Stream, StreamExt, ext};
 use std::alloc::Global;
@@ -102,5 +102,5 @@ pub fn push_join(
     out: &mut String,
 ) -> Result<(), CaseError> {
     let stream = made_join(alloc, words)?;
-    Ok(push_items(alloc, stream, count, out)?)
+    written(push_items(alloc, stream, count, out))
 }

@@ -8,7 +8,7 @@ use crate::polled::{Polled, Shown, over, poll_on, push_failed, waits};
 use crate::setting::Setting;
 use crate::shown::{push_bytes, push_count};
 use crate::words::open_gate;
-use cases::CaseError;
+use cases::{CaseError, written};
 use rkt_base::{NoMemory, Poll};
 use rkt_data::{DataStream, MemorySink, N, Sink, Source, StreamPrecise, StreamTo};
 use std::alloc::Global;
@@ -108,7 +108,7 @@ pub fn send<S: Source>(
 ) -> Result<(), CaseError> {
     let mut kept = made_sink(alloc, setting)?;
     send_to(alloc, stream, &mut kept, setting, out)?;
-    Ok(push_bytes(alloc, kept.bytes(), out)?)
+    written(push_bytes(alloc, kept.bytes(), out))
 }
 
 /// The same, with no look past the limit.
@@ -120,5 +120,5 @@ pub fn send_precise<S: Source>(
 ) -> Result<(), CaseError> {
     let mut kept = made_sink(alloc, setting)?;
     send_precise_to(alloc, stream, &mut kept, setting, out)?;
-    Ok(push_bytes(alloc, kept.bytes(), out)?)
+    written(push_bytes(alloc, kept.bytes(), out))
 }

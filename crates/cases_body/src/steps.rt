@@ -2,7 +2,7 @@
 use crate::objects::Peer;
 use crate::shown::push_read;
 use crate::words::parse_gate;
-use cases::{CaseError, first_word, parsed, push_item};
+use cases::{CaseError, first_word, parsed, push_item, written};
 use rkt_base::{NoMemory, Poll};
 use rkt_data::{CancellableIo, Chain, Shut, Source};
 use std::alloc::Global;
@@ -34,7 +34,7 @@ fn push_call(
     let gate = parse_gate(rest)?;
     let answer = object.poll_with(gate, |_| Poll::Ready(7u8));
     let text = format!(in alloc; "{answer:?}")?;
-    Ok(push_item(out, text.as_str())?)
+    written(push_item(out, text.as_str()))
 }
 
 /// `read SIZE GATE`
@@ -48,7 +48,7 @@ fn read_step<S: Source>(
     let gate = parse_gate(gate)?;
     let mut buf = vec![in alloc; 0; parsed::<usize>(count)?]?;
     let answer = source.poll_read(gate, buf.as_mut_slice());
-    Ok(push_read(alloc, buf.as_slice(), answer, out)?)
+    written(push_read(alloc, buf.as_slice(), answer, out))
 }
 
 fn shut_step<S: Shut>(source: &mut S, out: &mut String) -> Result<(), NoMemory> {
@@ -67,7 +67,7 @@ fn step<S: Source>(
     let (word, rest) = first_word(step);
     match word {
         "read" => read_step(alloc, source, rest, out),
-        "shut" => Ok(shut_step(source, out)?),
+        "shut" => written(shut_step(source, out)),
         _ => Err(CaseError::Line),
     }
 }
@@ -93,7 +93,7 @@ fn cut_step(
 ) -> Result<(), CaseError> {
     let (word, rest) = first_word(text);
     match word {
-        "stage" => Ok(push_stage(alloc, object, out)?),
+        "stage" => written(push_stage(alloc, object, out)),
         "call" => push_call(alloc, object, rest, out),
         _ => step(alloc, object, text, out),
     }
@@ -119,7 +119,7 @@ fn chain_step<'a>(
     out: &mut String,
 ) -> Result<(), CaseError> {
     match text {
-        "stage" => Ok(push_stage(alloc, chain.get_ref().0, out)?),
+        "stage" => written(push_stage(alloc, chain.get_ref().0, out)),
         _ => step(alloc, chain, text, out),
     }
 }

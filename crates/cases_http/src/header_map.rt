@@ -1,7 +1,7 @@
 //! Cases of a header map, which is kept from line to line.
 use crate::headers::made_header;
 use crate::words::named;
-use cases::{CaseError, first_word};
+use cases::{CaseError, done, first_word, written};
 use rkt_base::NoMemory;
 use rkt_http::{HeaderIter, HeaderMap, HeaderValues};
 use std::alloc::Global;
@@ -70,19 +70,19 @@ fn owned_values(alloc: Global, text: &str) -> Result<Vec<String>, NoMemory> {
 
 fn add(alloc: Global, map: &mut HeaderMap, rest: &str) -> Result<(), CaseError> {
     let header = made_header(alloc, rest)?;
-    Ok(map.add(header)?)
+    written(map.add(header))
 }
 
 fn add_all(alloc: Global, map: &mut HeaderMap, rest: &str) -> Result<(), CaseError> {
     let (name, values) = named(rest)?;
     let values = owned_values(alloc, values)?;
-    Ok(map.add_all(name, values)?)
+    written(map.add_all(name, values))
 }
 
 fn replace_all(alloc: Global, map: &mut HeaderMap, rest: &str) -> Result<(), CaseError> {
     let (name, values) = named(rest)?;
     let values = owned_values(alloc, values)?;
-    Ok(map.replace_all(name, values)?)
+    written(map.replace_all(name, values))
 }
 
 /// Adds whether the group was there that a header takes the place of.
@@ -94,7 +94,7 @@ fn push_replaced(
 ) -> Result<(), CaseError> {
     let header = made_header(alloc, rest)?;
     let replaced = map.replace(header)?;
-    Ok(write!(out, "{replaced}")?)
+    written(write!(out, "{replaced}"))
 }
 
 /// Adds what a map tells that is only asked.
@@ -105,11 +105,11 @@ fn push_told(
     out: &mut String,
 ) -> Result<(), CaseError> {
     match command {
-        "get" => Ok(push_values(map, rest, out)?),
-        "one" => Ok(write!(out, "{:?}", map.get_one(rest))?),
-        "has" => Ok(write!(out, "{}", map.contains(rest))?),
-        "empty" => Ok(write!(out, "{}", map.is_empty())?),
-        "shown" => Ok(push_map(map, out)?),
+        "get" => written(push_values(map, rest, out)),
+        "one" => written(write!(out, "{:?}", map.get_one(rest))),
+        "has" => written(write!(out, "{}", map.contains(rest))),
+        "empty" => written(write!(out, "{}", map.is_empty())),
+        "shown" => written(push_map(map, out)),
         _ => Err(CaseError::Line),
     }
 }
@@ -123,36 +123,41 @@ fn change(
     out: &mut String,
 ) -> Result<(), CaseError> {
     match command {
-        "add" => add(alloc, map, rest)?,
-        "add_all" => add_all(alloc, map, rest)?,
-        "replace_all" => replace_all(alloc, map, rest)?,
-        "replace" => return push_replaced(alloc, map, rest, out),
-        _ => return push_told(map, command, rest, out),
+        "add" => done(add(alloc, map, rest), out),
+        "add_all" => done(add_all(alloc, map, rest), out),
+        "replace_all" => done(replace_all(alloc, map, rest), out),
+        "replace" => push_replaced(alloc, map, rest, out),
+        _ => push_told(map, command, rest, out),
     }
-    Ok(out.push_str("done")?)
 }
 
 /// Makes the map empty.
-fn renew(alloc: Global, maps: &mut Maps) {
+fn renew(alloc: Global, maps: &mut Maps) -> Result<(), CaseError> {
     maps.map = HeaderMap::new(alloc);
+    Ok(())
+}
+
+fn remove(maps: &mut Maps, name: &str) -> Result<(), CaseError> {
+    maps.map.remove(name);
+    Ok(())
 }
 
 /// Keeps a copy of the map.
-fn keep(alloc: Global, maps: &mut Maps) -> Result<(), NoMemory> {
+fn keep(alloc: Global, maps: &mut Maps) -> Result<(), CaseError> {
     maps.copy = maps.map.try_clone(alloc)?;
     Ok(())
 }
 
 /// Puts the headers of the copy behind those of the map.
-fn append(alloc: Global, maps: &mut Maps) -> Result<(), NoMemory> {
+fn append(alloc: Global, maps: &mut Maps) -> Result<(), CaseError> {
     let other = maps.copy.try_clone(alloc)?;
-    maps.map.append(other)
+    written(maps.map.append(other))
 }
 
 /// Puts the headers of the copy in place of those of the map.
-fn overwrite(alloc: Global, maps: &mut Maps) -> Result<(), NoMemory> {
+fn overwrite(alloc: Global, maps: &mut Maps) -> Result<(), CaseError> {
     let other = maps.copy.try_clone(alloc)?;
-    maps.map.overwrite(other)
+    written(maps.map.overwrite(other))
 }
 
 /// Changes the map by its copy, or alone.
@@ -164,12 +169,11 @@ fn grow(
     out: &mut String,
 ) -> Result<(), CaseError> {
     match command {
-        "append" => append(alloc, maps)?,
-        "overwrite" => overwrite(alloc, maps)?,
-        "copied" => return Ok(push_map(&maps.copy, out)?),
-        _ => return change(alloc, &mut maps.map, command, rest, out),
+        "append" => done(append(alloc, maps), out),
+        "overwrite" => done(overwrite(alloc, maps), out),
+        "copied" => written(push_map(&maps.copy, out)),
+        _ => change(alloc, &mut maps.map, command, rest, out),
     }
-    Ok(out.push_str("done")?)
 }
 
 /// Adds what the maps answer to a command.
@@ -181,10 +185,9 @@ pub fn push_maps(
 ) -> Result<(), CaseError> {
     let (command, rest) = first_word(line);
     match command {
-        "new" => renew(alloc, maps),
-        "remove" => maps.map.remove(rest),
-        "copy" => keep(alloc, maps)?,
-        _ => return grow(alloc, maps, command, rest, out),
+        "new" => done(renew(alloc, maps), out),
+        "remove" => done(remove(maps, rest), out),
+        "copy" => done(keep(alloc, maps), out),
+        _ => grow(alloc, maps, command, rest, out),
     }
-    Ok(out.push_str("done")?)
 }

@@ -1,6 +1,6 @@
 //! Cases of headers, and of texts that are compared without regard to case.
 use crate::words::named;
-use cases::{CaseError, first_word};
+use cases::{CaseError, first_word, written};
 use rkt_base::NoMemory;
 use rkt_http::{Header, Uncased};
 use std::alloc::Global;
@@ -25,7 +25,7 @@ fn push_copy(alloc: Global, header: &Header, out: &mut String) -> Result<(), NoM
 /// Adds the header that a text says, as a copy has it.
 pub fn push_header(alloc: Global, text: &str, out: &mut String) -> Result<(), CaseError> {
     let header = made_header(alloc, text)?;
-    Ok(push_copy(alloc, &header, out)?)
+    written(push_copy(alloc, &header, out))
 }
 
 fn push_compared(one: &Uncased, other: &Uncased, out: &mut String) -> Result<(), NoMemory> {

@@ -53,7 +53,6 @@ mod headers;
 mod media;
 mod outcome;
 mod reading;
-mod refusal;
 mod statuses;
 mod words;
 

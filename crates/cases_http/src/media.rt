@@ -1,10 +1,17 @@
 //! Cases of media types, content types and lists of accepted ones.
 use crate::headers::push_line;
-use crate::refusal::Refusal;
-use cases::{CaseError, first_word, pair};
-use rkt_base::NoMemory;
-use rkt_http::{Accept, ContentType, Known, MediaType};
+use cases::{CaseError, first_word, pair, written};
+use rkt_base::{NoMemory, Want};
+use rkt_http::{Accept, ContentType, InvalidMedia, Known, MediaType};
 use std::alloc::Global;
+
+/// Adds the fault of a text that is refused.
+fn push_fault(error: Want<InvalidMedia>, out: &mut String) -> Result<(), CaseError> {
+    match error {
+        Want::Refused(fault) => written(write!(out, "{fault}")),
+        Want::NoMemory => Err(CaseError::NoMemory),
+    }
+}
 
 fn push_printed(alloc: Global, media: &MediaType, out: &mut String) -> Result<(), NoMemory> {
     let text = media.to_text(alloc)?;
@@ -22,11 +29,23 @@ fn push_parts(media: &MediaType, out: &mut String) -> Result<(), NoMemory> {
     write!(out, "{top:?} {sub:?} {specificity}")
 }
 
+/// Adds whether a text is read as this media type.
+fn push_read_again(
+    alloc: Global,
+    media: &MediaType,
+    text: &str,
+    out: &mut String,
+) -> Result<(), CaseError> {
+    match MediaType::parse(alloc, text) {
+        Ok(again) => written(write!(out, "{}", again == *media)),
+        Err(error) => push_fault(error, out),
+    }
+}
+
 /// Adds whether a media type that was printed is read as this one.
-fn push_again(alloc: Global, media: &MediaType, out: &mut String) -> Result<(), Refusal> {
+fn push_again(alloc: Global, media: &MediaType, out: &mut String) -> Result<(), CaseError> {
     let text = media.to_text(alloc)?;
-    let again = MediaType::parse(alloc, text.as_str())?;
-    Ok(write!(out, "{}", again == *media)?)
+    push_read_again(alloc, media, text.as_str(), out)
 }
 
 fn push_told(
@@ -34,11 +53,11 @@ fn push_told(
     command: &str,
     media: &MediaType,
     out: &mut String,
-) -> Result<(), Refusal> {
+) -> Result<(), CaseError> {
     match command {
-        "parts" => Ok(push_parts(media, out)?),
+        "parts" => written(push_parts(media, out)),
         "again" => push_again(alloc, media, out),
-        _ => Ok(push_copy(alloc, media, out)?),
+        _ => written(push_copy(alloc, media, out)),
     }
 }
 
@@ -48,25 +67,47 @@ pub fn push_media(
     command: &str,
     text: &str,
     out: &mut String,
-) -> Result<(), Refusal> {
-    let media = MediaType::parse(alloc, text)?;
-    push_told(alloc, command, &media, out)
+) -> Result<(), CaseError> {
+    match MediaType::parse(alloc, text) {
+        Ok(media) => push_told(alloc, command, &media, out),
+        Err(error) => push_fault(error, out),
+    }
 }
 
-/// Adds the header of a content type, as a copy has it.
 fn push_content_header(
     alloc: Global,
     content: &ContentType,
     out: &mut String,
 ) -> Result<(), NoMemory> {
-    let copy = content.try_clone(alloc)?;
-    let header = copy.header(alloc)?;
+    let header = content.header(alloc)?;
     push_line(&header, out)
+}
+
+/// Adds the header of a content type, as a copy has it.
+fn push_content_copy(
+    alloc: Global,
+    content: &ContentType,
+    out: &mut String,
+) -> Result<(), NoMemory> {
+    let copy = content.try_clone(alloc)?;
+    push_content_header(alloc, &copy, out)
 }
 
 fn push_kind(content: &ContentType, out: &mut String) -> Result<(), NoMemory> {
     let (json, form) = (content.media_type().is_json(), content.is_form());
     write!(out, "json={json} form={form}")
+}
+
+fn push_content_told(
+    alloc: Global,
+    command: &str,
+    content: &ContentType,
+    out: &mut String,
+) -> Result<(), CaseError> {
+    match command {
+        "kind" => written(push_kind(content, out)),
+        _ => written(push_content_copy(alloc, content, out)),
+    }
 }
 
 /// Adds what a command answers of a content type.
@@ -75,11 +116,10 @@ pub fn push_content(
     command: &str,
     text: &str,
     out: &mut String,
-) -> Result<(), Refusal> {
-    let content = ContentType::parse(alloc, text)?;
-    match command {
-        "kind" => Ok(push_kind(&content, out)?),
-        _ => Ok(push_content_header(alloc, &content, out)?),
+) -> Result<(), CaseError> {
+    match ContentType::parse(alloc, text) {
+        Ok(content) => push_content_told(alloc, command, &content, out),
+        Err(error) => push_fault(error, out),
     }
 }
 
@@ -97,19 +137,26 @@ const KNOWN: [(&str, Known); 11] = [
     ("Form", Known::Form),
 ];
 
-fn known(text: &str) -> Result<Known, CaseError> {
+fn known(text: &str) -> Option<Known> {
     for (name, known) in KNOWN {
         if name == text {
-            return Ok(known);
+            return Some(known);
         }
     }
-    Err(CaseError::Line)
+    None
+}
+
+fn push_known_header(alloc: Global, known: Known, out: &mut String) -> Result<(), NoMemory> {
+    let header = ContentType::known_header(alloc, known)?;
+    push_line(&header, out)
 }
 
 /// Adds the header of the content type with this name of its own.
 pub fn push_known(alloc: Global, name: &str, out: &mut String) -> Result<(), CaseError> {
-    let header = ContentType::known_header(alloc, known(name)?)?;
-    Ok(push_line(&header, out)?)
+    match known(name) {
+        Some(known) => written(push_known_header(alloc, known, out)),
+        None => Err(CaseError::Line),
+    }
 }
 
 /// Adds whether a text is a content type that is the same as this one.
@@ -118,23 +165,34 @@ fn push_equals(
     content: &ContentType,
     text: &str,
     out: &mut String,
-) -> Result<(), Refusal> {
-    let other = ContentType::parse(alloc, text)?;
-    Ok(write!(out, "{}", *content == other)?)
+) -> Result<(), CaseError> {
+    match ContentType::parse(alloc, text) {
+        Ok(other) => written(write!(out, "{}", *content == other)),
+        Err(error) => push_fault(error, out),
+    }
 }
 
-/// Adds whether the content type of `NAME TEXT` is the one with this name.
-pub fn push_is_known(alloc: Global, rest: &str, out: &mut String) -> Result<(), Refusal> {
-    let (name, text) = first_word(rest);
-    let content = ContentType::known(alloc, known(name)?)?;
+fn push_is(alloc: Global, known: Known, text: &str, out: &mut String) -> Result<(), CaseError> {
+    let content = ContentType::known(alloc, known)?;
     push_equals(alloc, &content, text, out)
 }
 
+/// Adds whether the content type of `NAME TEXT` is the one with this name.
+pub fn push_is_known(alloc: Global, rest: &str, out: &mut String) -> Result<(), CaseError> {
+    let (name, text) = first_word(rest);
+    match known(name) {
+        Some(known) => push_is(alloc, known, text, out),
+        None => Err(CaseError::Line),
+    }
+}
+
 /// Adds whether the two content types of `TEXT <=> OTHER` are the same.
-pub fn push_equal(alloc: Global, rest: &str, out: &mut String) -> Result<(), Refusal> {
+pub fn push_equal(alloc: Global, rest: &str, out: &mut String) -> Result<(), CaseError> {
     let (one, other) = pair(rest, " <=> ")?;
-    let content = ContentType::parse(alloc, one)?;
-    push_equals(alloc, &content, other, out)
+    match ContentType::parse(alloc, one) {
+        Ok(content) => push_equals(alloc, &content, other, out),
+        Err(error) => push_fault(error, out),
+    }
 }
 
 /// Adds what a list prefers, as a copy has it.
@@ -144,7 +202,9 @@ fn push_preferred(alloc: Global, accept: &Accept, out: &mut String) -> Result<()
 }
 
 /// Adds the media type that a list prefers.
-pub fn push_accept(alloc: Global, text: &str, out: &mut String) -> Result<(), Refusal> {
-    let accept = Accept::parse(alloc, text)?;
-    Ok(push_preferred(alloc, &accept, out)?)
+pub fn push_accept(alloc: Global, text: &str, out: &mut String) -> Result<(), CaseError> {
+    match Accept::parse(alloc, text) {
+        Ok(accept) => written(push_preferred(alloc, &accept, out)),
+        Err(error) => push_fault(error, out),
+    }
 }

@@ -1,6 +1,6 @@
 //! Cases of outcomes.
 use crate::words::number_cut;
-use cases::{CaseError, first_word};
+use cases::{CaseError, first_word, written};
 use rkt_base::NoMemory;
 use rkt_http::outcome::Outcome;
 use rkt_http::try_outcome;
@@ -83,12 +83,12 @@ fn narrowed(outcome: Small) -> Outcome<u32, u16, u16> {
 /// Adds what a call tells of an outcome's numbers.
 fn push_viewed(call: &str, outcome: Small, out: &mut String) -> Result<(), CaseError> {
     match call {
-        "succeeded" => Ok(push_option(outcome.succeeded(), out)?),
-        "failed" => Ok(push_option(outcome.failed(), out)?),
-        "forwarded" => Ok(push_option(outcome.forwarded(), out)?),
-        "as_ref" => Ok(push_option(outcome.as_ref().map(|value| *value).succeeded(), out)?),
-        "unwrap" => Ok(push_option(unwrapped(outcome), out)?),
-        "expect" => Ok(push_option(expected(outcome), out)?),
+        "succeeded" => written(push_option(outcome.succeeded(), out)),
+        "failed" => written(push_option(outcome.failed(), out)),
+        "forwarded" => written(push_option(outcome.forwarded(), out)),
+        "as_ref" => written(push_option(outcome.as_ref().map(|value| *value).succeeded(), out)),
+        "unwrap" => written(push_option(unwrapped(outcome), out)),
+        "expect" => written(push_option(expected(outcome), out)),
         _ => Err(CaseError::Line),
     }
 }
@@ -96,10 +96,10 @@ fn push_viewed(call: &str, outcome: Small, out: &mut String) -> Result<(), CaseE
 /// Adds what a call of one outcome answers.
 fn push_alone(call: &str, outcome: Small, out: &mut String) -> Result<(), CaseError> {
     match call {
-        "is" => Ok(push_predicates(outcome, out)?),
-        "display" => Ok(write!(out, "{outcome}")?),
-        "debug" => Ok(write!(out, "{outcome:?}")?),
-        "try" => Ok(push_outcome(halved(narrowed(outcome)), out)?),
+        "is" => written(push_predicates(outcome, out)),
+        "display" => written(write!(out, "{outcome}")),
+        "debug" => written(write!(out, "{outcome:?}")),
+        "try" => written(push_outcome(halved(narrowed(outcome)), out)),
         _ => push_viewed(call, outcome, out),
     }
 }
@@ -140,9 +140,9 @@ fn push_numbered(
     out: &mut String,
 ) -> Result<(), CaseError> {
     match call {
-        "success_or" => Ok(push_result(outcome.success_or(number), out)?),
-        "success_or_else" => Ok(push_result(outcome.success_or_else(|| number), out)?),
-        _ => Ok(push_outcome(mapped(call, number, outcome)?, out)?),
+        "success_or" => written(push_result(outcome.success_or(number), out)),
+        "success_or_else" => written(push_result(outcome.success_or_else(|| number), out)),
+        _ => written(push_outcome(mapped(call, number, outcome)?, out)),
     }
 }
 
@@ -171,16 +171,16 @@ fn push_paired(
     out: &mut String,
 ) -> Result<(), CaseError> {
     match call {
-        "ok_map_forward" => Ok(push_result(
+        "ok_map_forward" => written(push_result(
             outcome.ok_map_forward(|number| result_of(joined(number, other))),
             out,
-        )?),
-        "ok_map_error" => Ok(push_result(
+        )),
+        "ok_map_error" => written(push_result(
             outcome.ok_map_error(|number| result_of(joined(number, other))),
             out,
-        )?),
-        "same" => Ok(write!(out, "{}", outcome == other)?),
-        _ => Ok(push_outcome(gone_on(call, outcome, other)?, out)?),
+        )),
+        "same" => written(write!(out, "{}", outcome == other)),
+        _ => written(push_outcome(gone_on(call, outcome, other)?, out)),
     }
 }
 

@@ -1,6 +1,6 @@
 //! Cases of options and results that are read as outcomes.
 use crate::words::number_cut;
-use cases::{CaseError, first_word};
+use cases::{CaseError, first_word, written};
 use rkt_base::NoMemory;
 use rkt_http::Status;
 use rkt_http::outcome::{IntoOutcome, Outcome};
@@ -124,5 +124,5 @@ pub fn push_reading(command: &str, rest: &str, out: &mut String) -> Result<(), C
     let (call, text) = first_word(rest);
     let (answer, rest) = result_cut(text)?;
     let (number, _) = number_cut(rest)?;
-    Ok(push_read(command, answer, Missing::named(call, number)?, out)?)
+    written(push_read(command, answer, Missing::named(call, number)?, out))
 }

@@ -1,5 +1,5 @@
 //! Cases of methods, statuses and default pages.
-use cases::{CaseError, parsed};
+use cases::{CaseError, parsed, written};
 use rkt_base::{NoMemory, Text};
 use rkt_http::{Method, Status, default_page};
 use std::alloc::Global;
@@ -53,8 +53,8 @@ pub fn push_status(
 ) -> Result<(), CaseError> {
     let status = Status::new(parsed::<u16>(text)?);
     match command {
-        "html" => Ok(push_html(alloc, status, out)?),
-        "json" => Ok(push_json(alloc, status, out)?),
-        _ => Ok(push_kind(status, out)?),
+        "html" => written(push_html(alloc, status, out)),
+        "json" => written(push_json(alloc, status, out)),
+        _ => written(push_kind(status, out)),
     }
 }

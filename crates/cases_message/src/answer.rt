@@ -3,7 +3,7 @@ use crate::change::{change, set_header};
 use crate::look::look;
 use crate::sending::send;
 use crate::shown::{Answer, push_response};
-use cases::{Answers, CaseError, first_word};
+use cases::{Answers, CaseError, first_word, written};
 use rkt_base::NoMemory;
 use std::alloc::Global;
 
@@ -57,12 +57,12 @@ fn changed(
     out: &mut String,
 ) -> Result<(), CaseError> {
     change_kept(alloc, kept, command, rest)?;
-    Ok(push_response(&kept.response, out)?)
+    written(push_response(&kept.response, out))
 }
 
 fn built(alloc: Global, kept: &mut Kept, rest: &str, out: &mut String) -> Result<(), CaseError> {
     build(alloc, &mut kept.response, &mut kept.aside, rest)?;
-    Ok(push_response(&kept.response, out)?)
+    written(push_response(&kept.response, out))
 }
 
 /// Sets a header, and adds whether there was one, and the response.
@@ -75,7 +75,7 @@ fn header_set(
 ) -> Result<(), CaseError> {
     let was = set_header(alloc, response, command, rest)?;
     write!(out, "{was:?} ")?;
-    Ok(push_response(response, out)?)
+    written(push_response(response, out))
 }
 
 /// Whether a command only looks, or reads.

@@ -3,7 +3,7 @@ use crate::header::{header, named};
 use crate::shape::{sized, source};
 use crate::shown::Answer;
 use crate::stalling::Stalling;
-use cases::{CaseError, first_word, parsed};
+use cases::{CaseError, first_word, parsed, written};
 use rkt_http::Status;
 use rkt_message::Builder;
 use std::alloc::Global;
@@ -12,22 +12,22 @@ type Build = Builder<Stalling>;
 
 fn build_header(alloc: Global, builder: &mut Build, text: &str) -> Result<(), CaseError> {
     let header = header(alloc, text)?;
-    Ok(builder.header(header)?)
+    written(builder.header(header))
 }
 
 fn build_raw_header(alloc: Global, builder: &mut Build, text: &str) -> Result<(), CaseError> {
     let named = named(alloc, text)?;
-    Ok(builder.raw_header(named.name.as_str(), named.value.as_str())?)
+    written(builder.raw_header(named.name.as_str(), named.value.as_str()))
 }
 
 fn build_adjoined(alloc: Global, builder: &mut Build, text: &str) -> Result<(), CaseError> {
     let header = header(alloc, text)?;
-    Ok(builder.header_adjoin(header)?)
+    written(builder.header_adjoin(header))
 }
 
 fn build_raw_adjoined(alloc: Global, builder: &mut Build, text: &str) -> Result<(), CaseError> {
     let named = named(alloc, text)?;
-    Ok(builder.raw_header_adjoin(named.name.as_str(), named.value.as_str())?)
+    written(builder.raw_header_adjoin(named.name.as_str(), named.value.as_str()))
 }
 
 /// Sets status 201, body and size of chunks in one row of calls.
@@ -90,25 +90,33 @@ fn build_over(
 ) -> Result<(), CaseError> {
     let other = std::mem::replace(other, Answer::new(alloc));
     match command {
-        "merge" => Ok(builder.merge(other)?),
-        _ => Ok(builder.join(other)?),
+        "merge" => written(builder.merge(other)),
+        _ => written(builder.join(other)),
     }
+}
+
+fn build_status(builder: &mut Build, code: Result<u16, CaseError>) -> Result<(), CaseError> {
+    builder.status(Status::new(code?));
+    Ok(())
+}
+
+fn build_chunk(builder: &mut Build, size: Result<usize, CaseError>) -> Result<(), CaseError> {
+    builder.max_chunk_size(size?);
+    Ok(())
+}
+
+fn end_first(builder: &mut Build) -> Result<(), CaseError> {
+    builder.finalize();
+    Ok(())
 }
 
 /// Sets the status or the size of chunks, or ends the builder a first time.
 fn build_value(builder: &mut Build, command: &str, text: &str) -> Result<(), CaseError> {
     match command {
-        "status" => {
-            builder.status(Status::new(parsed::<u16>(text)?));
-        }
-        "chunk" => {
-            builder.max_chunk_size(parsed::<usize>(text)?);
-        }
-        _ => {
-            builder.finalize();
-        }
+        "status" => build_status(builder, parsed::<u16>(text)),
+        "chunk" => build_chunk(builder, parsed::<usize>(text)),
+        _ => end_first(builder),
     }
-    Ok(())
 }
 
 /// Does what a line says to a builder; `other` is the response that was put aside.

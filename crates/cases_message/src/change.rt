@@ -3,7 +3,7 @@ use crate::header::{NameAndValue, header, named};
 use crate::shape::{body_of, sized, source};
 use crate::shown::Answer;
 use crate::words::text_of;
-use cases::{CaseError, first_word, parsed};
+use cases::{CaseError, first_word, parsed, written};
 use rkt_base::NoMemory;
 use rkt_http::Status;
 use std::alloc::Global;
@@ -29,12 +29,12 @@ pub fn set_header(
 
 fn adjoin(alloc: Global, response: &mut Answer, text: &str) -> Result<(), CaseError> {
     let header = header(alloc, text)?;
-    Ok(response.adjoin_header(header)?)
+    written(response.adjoin_header(header))
 }
 
 fn adjoin_raw(alloc: Global, response: &mut Answer, text: &str) -> Result<(), CaseError> {
     let named = named(alloc, text)?;
-    Ok(response.adjoin_raw_header(named.name.as_str(), named.value.as_str())?)
+    written(response.adjoin_raw_header(named.name.as_str(), named.value.as_str()))
 }
 
 fn remove(alloc: Global, response: &mut Answer, text: &str) -> Result<(), CaseError> {

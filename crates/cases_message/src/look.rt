@@ -1,7 +1,7 @@
 //! Lines that look at the response at hand, or read its body.
 use crate::shown::{Answer, push_bytes, push_text};
 use crate::stalling::Stalling;
-use cases::{CaseError, parsed};
+use cases::{CaseError, parsed, written};
 use rkt_base::{NoMemory, Poll};
 use rkt_cookie::Cookie;
 use rkt_data::{DataError, Gate, SourceError};
@@ -49,7 +49,7 @@ fn read(
 ) -> Result<(), CaseError> {
     let size = parsed::<usize>(text)?;
     let mut buf = vec![in alloc; 0u8; size]?;
-    Ok(push_read(response.body_mut(), buf.as_mut_slice(), out)?)
+    written(push_read(response.body_mut(), buf.as_mut_slice(), out))
 }
 
 /// Adds why nothing was gathered.
@@ -204,8 +204,8 @@ fn read_in_way(
 ) -> Result<(), CaseError> {
     match command {
         "read" => read(alloc, response, rest, out),
-        "bytes" => Ok(bytes(alloc, response, out)?),
-        "text" => Ok(text(alloc, response, out)?),
+        "bytes" => written(bytes(alloc, response, out)),
+        "text" => written(text(alloc, response, out)),
         _ => Err(CaseError::Line),
     }
 }
@@ -219,10 +219,10 @@ pub fn look(
     out: &mut String,
 ) -> Result<(), CaseError> {
     match command {
-        "size" => Ok(push_size(response, out)?),
-        "kind" => Ok(push_kind(alloc, response, out)?),
-        "cookies" => Ok(push_cookies(alloc, response, out)?),
-        "take" => Ok(take(response, out)?),
+        "size" => written(push_size(response, out)),
+        "kind" => written(push_kind(alloc, response, out)),
+        "cookies" => written(push_cookies(alloc, response, out)),
+        "take" => written(take(response, out)),
         _ => read_in_way(alloc, response, command, rest, out),
     }
 }

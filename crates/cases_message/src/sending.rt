@@ -7,7 +7,7 @@ ghost use Rattle.rkt_message.specs.declared.stage.Stage.{Stage};
 use crate::look::GATE;
 use crate::shown::{Answer, push_bytes, push_field};
 use crate::stalling::Stalling;
-use cases::{CaseError, first_word, parsed};
+use cases::{CaseError, first_word, parsed, written};
 use rkt_base::{NoMemory, Poll, Text};
 use rkt_message::{Piece, PieceError, Pieces};
 use std::alloc::Global;
@@ -129,5 +129,5 @@ pub fn send(
 ) -> Result<(), CaseError> {
     let (turns, most) = first_word(line);
     let (turns, most) = (parsed::<u32>(turns)?, parsed::<u32>(most)?);
-    Ok(send_so(alloc, response, turns, most, out)?)
+    written(send_so(alloc, response, turns, most, out))
 }

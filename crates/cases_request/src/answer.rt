@@ -5,11 +5,11 @@ use crate::heads::answer_head;
 use crate::kept::{Kept, config, managed};
 use crate::params::{push_param, push_params, push_segment, push_segments};
 use crate::question::{Question, parse_question};
-use crate::requests::{method_and_uri, take_steps};
+use crate::requests::{method_and_target, take_steps};
 use crate::told::push_request;
-use cases::{Answers, CaseError, first_word};
+use cases::{Answers, CaseError, done, first_word, written};
 use rkt_http::{Method, Origin};
-use rkt_request::{Ctx, Request};
+use rkt_request::{Config, Ctx, Managed, Request};
 use sample_app::{Sample, Server};
 use std::alloc::Global;
 
@@ -22,9 +22,9 @@ fn push_asked(
     out: &mut String,
 ) -> Result<(), CaseError> {
     match question {
-        Question::Tell => Ok(push_request(alloc, request, out)?),
-        Question::Segment(n) => Ok(push_segment(request, n, out)?),
-        Question::Segments(n) => Ok(push_segments(request, n, out)?),
+        Question::Tell => written(push_request(alloc, request, out)),
+        Question::Segment(n) => written(push_segment(request, n, out)),
+        Question::Segments(n) => written(push_segments(request, n, out)),
         Question::Param(n, name) => push_param(alloc, name, request, n, out),
         Question::Params(n, name) => push_params(alloc, name, request, n, out),
         Question::Guard(name) => push_guard(alloc, name, request, ctx, out),
@@ -47,13 +47,16 @@ fn push_stepped(
 /// Asks the request that begins so.
 fn ask(
     alloc: Global,
-    kept: &mut Kept,
+    server: &Server,
+    ctx: &mut Ctx<Sample>,
     first: (Method, Origin),
     asked: (Question<'_>, &str),
     out: &mut String,
 ) -> Result<(), CaseError> {
-    let mut request = kept.server.request(alloc, first.0, first.1)?;
-    push_stepped(alloc, &mut request, &mut kept.ctx, asked, out)
+    match server.request(alloc, first.0, first.1) {
+        Ok(mut request) => push_stepped(alloc, &mut request, ctx, asked, out),
+        Err(_) => Err(CaseError::NoMemory),
+    }
 }
 
 /// The answer to a question, by the request behind it.
@@ -65,19 +68,39 @@ fn answer_question(
     out: &mut String,
 ) -> Result<(), CaseError> {
     let asked = parse_question(command, text)?;
-    let first = method_and_uri(alloc, asked.1)?;
-    ask(alloc, kept, first, asked, out)
+    let (method, target) = method_and_target(asked.1)?;
+    match Origin::parse(alloc, target) {
+        Ok(uri) => ask(
+            alloc,
+            &kept.server,
+            &mut kept.ctx,
+            (method, uri),
+            asked,
+            out,
+        ),
+        Err(error) => Err(CaseError::from(error)),
+    }
+}
+
+fn set_config(
+    server: &mut Server,
+    made: Result<Config, CaseError>,
+    out: &mut String,
+) -> Result<(), CaseError> {
+    server.config = made?;
+    written(out.push_str("done"))
+}
+
+fn set_managed(
+    server: &mut Server,
+    made: Result<Managed<u8>, CaseError>,
+    out: &mut String,
+) -> Result<(), CaseError> {
+    server.managed = made?;
+    written(out.push_str("done"))
 }
 
 /// Changes what is lent to each request.
-fn set(alloc: Global, server: &mut Server, command: &str, text: &str) -> Result<(), CaseError> {
-    match command {
-        "config" => server.config = config(alloc, text)?,
-        _ => server.managed = managed(alloc, text)?,
-    }
-    Ok(())
-}
-
 fn answer_set(
     alloc: Global,
     server: &mut Server,
@@ -85,8 +108,10 @@ fn answer_set(
     text: &str,
     out: &mut String,
 ) -> Result<(), CaseError> {
-    set(alloc, server, command, text)?;
-    Ok(out.push_str("done")?)
+    match command {
+        "config" => set_config(server, config(alloc, text), out),
+        _ => set_managed(server, managed(alloc, text), out),
+    }
 }
 
 fn answer_ctx(
@@ -98,10 +123,7 @@ fn answer_ctx(
     let (command, text) = first_word(text);
     match command {
         "cache" | "tell" | "parts" => push_ctx(alloc, ctx, command, text, out),
-        _ => {
-            change_ctx(alloc, ctx, command, text)?;
-            Ok(out.push_str("done")?)
-        }
+        _ => done(change_ctx(alloc, ctx, command, text), out),
     }
 }
 

@@ -1,25 +1,37 @@
 //! Guards of bodies, by the names of their types.
 use crate::shown::{Shown, show_error, show_forward, show_named};
 use crate::words::unescaped;
-use cases::{CaseError, first_word, numbers, parsed};
-use rkt_base::Poll;
+use cases::{CaseError, first_word, numbers, parsed, written};
+use rkt_base::{NoMemory, Poll};
 use rkt_data::{CancellableIo, Capped, Data, MemorySource};
 use rkt_http::{Outcome, Status};
 use rkt_request::{Body0, FromData, GuardError, Request};
 use sample_app::{Sample, gate_at};
 use std::alloc::Global;
-use std::convert::Infallible;
 use std::fmt::Debug;
 
 type Answer<G, E> = Outcome<G, (Status, E), (Body0<Sample>, Status)>;
 
-/// What a guard answers of a body, through the bound. One that waits makes no case.
+/// Adds what a guard answers.
+fn push_outcome<G: Shown + Drop, E: Debug + Drop>(
+    alloc: Global,
+    outcome: Answer<G, E>,
+    out: &mut String,
+) -> Result<(), CaseError> {
+    match outcome {
+        Outcome::Success(value) => show_named(alloc, "Success", &value, out),
+        Outcome::Error((status, error)) => written(show_error(status, &error, out)),
+        Outcome::Forward((_body, status)) => written(show_forward(status, out)),
+    }
+}
+
+/// What a guard answers of the body of `CHUNK FAILS BYTES`, through the bound. One that waits makes no case.
 fn polled<G: FromData<Sample>>(
     alloc: Global,
     request: &Request<'_, Sample>,
-    body: Body0<Sample>,
+    text: &str,
 ) -> Result<Answer<G, G::Error>, CaseError> {
-    let mut reading = G::from_data(request, body);
+    let mut reading = G::from_data(request, body_of(alloc, text)?);
     match G::poll_data(alloc, &mut reading, gate_at(0)) {
         Poll::Ready(Ok(outcome)) => Ok(outcome),
         Poll::Ready(Err(_)) => Err(CaseError::NoMemory),
@@ -30,23 +42,22 @@ fn polled<G: FromData<Sample>>(
 fn push_guarded<G: FromData<Sample> + Shown + Drop>(
     alloc: Global,
     request: &Request<'_, Sample>,
-    body: Body0<Sample>,
+    text: &str,
     out: &mut String,
 ) -> Result<(), CaseError>
 where
     G::Error: Debug,
 {
-    match polled::<G>(alloc, request, body)? {
-        Outcome::Success(value) => show_named(alloc, "Success", &value, out),
-        Outcome::Error((status, error)) => Ok(show_error(status, &error, out)?),
-        Outcome::Forward((_body, status)) => Ok(show_forward(status, out)?),
+    match polled::<G>(alloc, request, text) {
+        Ok(outcome) => push_outcome(alloc, outcome, out),
+        Err(error) => Err(error),
     }
 }
 
 /// Adds what a body has to read first.
 fn push_peeked(body: &mut Body0<Sample>, out: &mut String) -> Result<(), CaseError> {
     match body.peek(gate_at(0), 9) {
-        Poll::Ready(bytes) => Ok(write!(out, "peeked {bytes:?}")?),
+        Poll::Ready(bytes) => written(write!(out, "peeked {bytes:?}")),
         Poll::Pending => Err(CaseError::Line),
     }
 }
@@ -55,44 +66,41 @@ fn push_peeked(body: &mut Body0<Sample>, out: &mut String) -> Result<(), CaseErr
 fn push_handed_on(
     alloc: Global,
     request: &Request<'_, Sample>,
-    body: Body0<Sample>,
+    text: &str,
     out: &mut String,
 ) -> Result<(), CaseError> {
-    let outcome: Answer<Body0<Sample>, Infallible> = polled(alloc, request, body)?;
-    match outcome {
-        Outcome::Success(mut body) => push_peeked(&mut body, out),
+    match polled::<Body0<Sample>>(alloc, request, text) {
+        Ok(Outcome::Success(mut body)) => push_peeked(&mut body, out),
+        Ok(_) => Err(CaseError::Line),
+        Err(error) => Err(error),
+    }
+}
+
+fn push_option_or_result(
+    alloc: Global,
+    name: &str,
+    request: &Request<'_, Sample>,
+    text: &str,
+    out: &mut String,
+) -> Result<(), CaseError> {
+    match name {
+        "Option<String>" => push_guarded::<Option<String>>(alloc, request, text, out),
+        "Result<String>" => push_guarded::<Result<String, GuardError>>(alloc, request, text, out),
         _ => Err(CaseError::Line),
     }
 }
 
-fn push_guard(
+fn push_capped(
     alloc: Global,
     name: &str,
     request: &Request<'_, Sample>,
-    body: Body0<Sample>,
+    text: &str,
     out: &mut String,
 ) -> Result<(), CaseError> {
     match name {
-        "Data" => push_handed_on(alloc, request, body, out),
-        "String" => push_guarded::<String>(alloc, request, body, out),
-        "Vec<u8>" => push_guarded::<Vec<u8>>(alloc, request, body, out),
-        _ => push_other_guard(alloc, name, request, body, out),
-    }
-}
-
-fn push_other_guard(
-    alloc: Global,
-    name: &str,
-    request: &Request<'_, Sample>,
-    body: Body0<Sample>,
-    out: &mut String,
-) -> Result<(), CaseError> {
-    match name {
-        "Capped<String>" => push_guarded::<Capped<String>>(alloc, request, body, out),
-        "Capped<Vec<u8>>" => push_guarded::<Capped<Vec<u8>>>(alloc, request, body, out),
-        "Option<String>" => push_guarded::<Option<String>>(alloc, request, body, out),
-        "Result<String>" => push_guarded::<Result<String, GuardError>>(alloc, request, body, out),
-        _ => Err(CaseError::Line),
+        "Capped<String>" => push_guarded::<Capped<String>>(alloc, request, text, out),
+        "Capped<Vec<u8>>" => push_guarded::<Capped<Vec<u8>>>(alloc, request, text, out),
+        _ => push_option_or_result(alloc, name, request, text, out),
     }
 }
 
@@ -106,9 +114,15 @@ fn source(alloc: Global, text: &str) -> Result<MemorySource, CaseError> {
     Ok(MemorySource::new(bytes, chunk, fails))
 }
 
+fn body_over(alloc: Global, source: MemorySource) -> Result<Body0<Sample>, NoMemory> {
+    Data::from_source(alloc, CancellableIo::new(source))
+}
+
 fn body_of(alloc: Global, text: &str) -> Result<Body0<Sample>, CaseError> {
-    let source = source(alloc, text)?;
-    Ok(Data::from_source(alloc, CancellableIo::new(source))?)
+    match body_over(alloc, source(alloc, text)?) {
+        Ok(body) => Ok(body),
+        Err(_) => Err(CaseError::NoMemory),
+    }
 }
 
 /// Adds the outcome of the guard of `TYPE CHUNK FAILS BYTES`.
@@ -119,6 +133,10 @@ pub fn push_body_guard(
     out: &mut String,
 ) -> Result<(), CaseError> {
     let (name, text) = first_word(line);
-    let body = body_of(alloc, text)?;
-    push_guard(alloc, name, request, body, out)
+    match name {
+        "Data" => push_handed_on(alloc, request, text, out),
+        "String" => push_guarded::<String>(alloc, request, text, out),
+        "Vec<u8>" => push_guarded::<Vec<u8>>(alloc, request, text, out),
+        _ => push_capped(alloc, name, request, text, out),
+    }
 }

@@ -1,6 +1,6 @@
 //! Cases of a context, which is kept from line to line.
 use crate::kept::new_context;
-use cases::{CaseError, first_word, pair, parsed};
+use cases::{CaseError, first_word, pair, parsed, written};
 use rkt_base::NoMemory;
 use rkt_cookie::Cookie;
 use rkt_http::Key;
@@ -12,7 +12,22 @@ use std::mem;
 fn add(alloc: Global, ctx: &mut Ctx<Sample>, text: &str) -> Result<(), CaseError> {
     let (name, value) = pair(text, "=")?;
     let cookie = Cookie::new(alloc, name, value)?;
-    Ok(ctx.cookies_mut().add(cookie)?)
+    written(ctx.cookies_mut().add(cookie))
+}
+
+fn renew(ctx: &mut Ctx<Sample>, made: Result<Ctx<Sample>, NoMemory>) -> Result<(), CaseError> {
+    *ctx = made?;
+    Ok(())
+}
+
+fn set_gate(ctx: &mut Ctx<Sample>, text: &str) -> Result<(), CaseError> {
+    ctx.set_gate(gate_at(parsed::<u64>(text)?));
+    Ok(())
+}
+
+fn notify(ctx: &mut Ctx<Sample>) -> Result<(), CaseError> {
+    ctx.shutdown().notify(Stopped);
+    Ok(())
 }
 
 /// Changes a context.
@@ -23,13 +38,12 @@ pub fn change_ctx(
     text: &str,
 ) -> Result<(), CaseError> {
     match command {
-        "new" => *ctx = new_context(alloc)?,
-        "add" => add(alloc, ctx, text)?,
-        "gate" => ctx.set_gate(gate_at(parsed::<u64>(text)?)),
-        "notify" => ctx.shutdown().notify(Stopped),
-        _ => return Err(CaseError::Line),
+        "new" => renew(ctx, new_context(alloc)),
+        "add" => add(alloc, ctx, text),
+        "gate" => set_gate(ctx, text),
+        "notify" => notify(ctx),
+        _ => Err(CaseError::Line),
     }
-    Ok(())
 }
 
 /// Adds the number that is cached under a key.
@@ -38,7 +52,7 @@ fn push_cached(ctx: &mut Ctx<Sample>, text: &str, out: &mut String) -> Result<()
     let key = Key(u32::from(parsed::<u8>(key)?));
     let value = parsed::<u8>(value)?;
     let cached = ctx.local_cache(key, || value)?;
-    Ok(write!(out, "{cached}")?)
+    written(write!(out, "{cached}"))
 }
 
 fn push_told(ctx: &Ctx<Sample>, out: &mut String) -> Result<(), NoMemory> {
@@ -86,7 +100,7 @@ pub fn push_ctx(
 ) -> Result<(), CaseError> {
     match command {
         "cache" => push_cached(ctx, text, out),
-        "tell" => Ok(push_told(ctx, out)?),
-        _ => Ok(take_apart(alloc, ctx, out)?),
+        "tell" => written(push_told(ctx, out)),
+        _ => written(take_apart(alloc, ctx, out)),
     }
 }

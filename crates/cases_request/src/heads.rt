@@ -1,7 +1,7 @@
 //! Heads, as lines say them.
 use crate::told::{push_field, push_request};
 use crate::words::{field, first_piece, unescaped};
-use cases::{CaseError, first_word, parsed};
+use cases::{CaseError, first_word, parsed, written};
 use rkt_base::{NoMemory, Seq, Text};
 use rkt_cookie::CookieJar;
 use rkt_request::{Head, Incoming, Request};
@@ -28,7 +28,7 @@ fn push_header(alloc: Global, head: &mut Head, name: &str, value: Vec<u8>) -> Re
 fn take_header(alloc: Global, head: &mut Head, text: &str) -> Result<(), CaseError> {
     let (name, value) = field(text)?;
     let value = unescaped(alloc, value)?;
-    Ok(push_header(alloc, head, name, value)?)
+    written(push_header(alloc, head, name, value))
 }
 
 fn take_field(alloc: Global, head: &mut Head, text: &str) -> Result<(), CaseError> {
@@ -63,7 +63,7 @@ fn push_incoming(
 ) -> Result<(), CaseError> {
     write!(out, "faults={:?} ", asked.faults.as_slice())?;
     push_request(alloc, &asked.request, out)?;
-    Ok(push_cookies(&asked.jar, out)?)
+    written(push_cookies(&asked.jar, out))
 }
 
 fn push_read(
@@ -72,13 +72,10 @@ fn push_read(
     head: &Head,
     out: &mut String,
 ) -> Result<(), CaseError> {
-    let asked: Incoming<'_, Sample> = Request::from_incoming(
-        alloc,
-        head,
-        &server.config,
-        &server.managed,
-    )?;
-    push_incoming(alloc, &asked, out)
+    match Request::from_incoming(alloc, head, &server.config, &server.managed) {
+        Ok(asked) => push_incoming(alloc, &asked, out),
+        Err(_) => Err(CaseError::NoMemory),
+    }
 }
 
 /// Adds a head, part by part.

@@ -45,11 +45,20 @@ fn set_entries(table: &mut ConfigTable, text: &str) -> Result<(), CaseError> {
     Ok(())
 }
 
+fn config_of(
+    alloc: Global,
+    table: &ConfigTable,
+    set: Result<(), CaseError>,
+) -> Result<Config, CaseError> {
+    set?;
+    Ok(Config::from_table(alloc, table)?)
+}
+
 /// The configuration of `NAME=TEXT; ..`.
 pub fn config(alloc: Global, text: &str) -> Result<Config, CaseError> {
     let mut table = ConfigTable::new(alloc);
-    set_entries(&mut table, text)?;
-    Ok(Config::from_table(alloc, &table)?)
+    let set = set_entries(&mut table, text);
+    config_of(alloc, &table, set)
 }
 
 /// Manages a number. The empty text, which stands for no entry at all, has none.

@@ -1,6 +1,6 @@
 //! Parameters of requests, by the names of their types.
 use crate::shown::Shown;
-use cases::CaseError;
+use cases::{CaseError, written};
 use rkt_base::{NoMemory, Want};
 use rkt_http::{PathBuf, PathError, Segments};
 use rkt_request::{FromParam, FromSegments, Request};
@@ -33,7 +33,7 @@ where
 {
     match request.param::<P>(alloc, n) {
         Some(read) => push_read(alloc, read, out),
-        None => Ok(out.push_str("none")?),
+        None => written(out.push_str("none")),
     }
 }
 

@@ -1,6 +1,6 @@
 //! Requests, as lines say them.
 use crate::words::{field, first_piece};
-use cases::{CaseError, first_word, parsed};
+use cases::{CaseError, first_word, parsed, written};
 use rkt_http::{Header, Host, Method, Origin};
 use rkt_request::{Mounted, Request};
 use sample_app::Sample;
@@ -19,11 +19,10 @@ fn header(alloc: Global, text: &str) -> Result<Header, CaseError> {
     Ok(Header::new(alloc, name, value)?)
 }
 
-/// The method and the origin of a request that begins with `METHOD TARGET`.
-pub fn method_and_uri(alloc: Global, text: &str) -> Result<(Method, Origin), CaseError> {
+/// The method and the target of a request that begins with `METHOD TARGET`.
+pub fn method_and_target(text: &str) -> Result<(Method, &str), CaseError> {
     let (word, target) = first_word(first_piece(text));
-    let method = method(word)?;
-    Ok((method, Origin::parse(alloc, target)?))
+    Ok((method(word)?, target))
 }
 
 fn set_route(request: &mut Request<'_, Sample>, text: &str) -> Result<(), CaseError> {
@@ -39,12 +38,12 @@ fn set_route(request: &mut Request<'_, Sample>, text: &str) -> Result<(), CaseEr
 
 fn add(alloc: Global, request: &mut Request<'_, Sample>, text: &str) -> Result<(), CaseError> {
     let header = header(alloc, text)?;
-    Ok(request.add_header(header)?)
+    written(request.add_header(header))
 }
 
 fn replace(alloc: Global, request: &mut Request<'_, Sample>, text: &str) -> Result<(), CaseError> {
     let header = header(alloc, text)?;
-    Ok(request.replace_header(header)?)
+    written(request.replace_header(header))
 }
 
 /// Takes a step that changes the headers or the route.

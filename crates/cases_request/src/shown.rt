@@ -1,6 +1,6 @@
 //! Values, as answers show them.
 use crate::told::push_media;
-use cases::CaseError;
+use cases::{CaseError, written};
 use rkt_base::NoMemory;
 use rkt_data::Capped;
 use rkt_http::{Accept, ContentType, Host, Method, Origin, Outcome, PathBuf, Status};
@@ -73,7 +73,7 @@ impl Shown for PathBuf {
 
 impl Shown for Method {
     fn show(&self, _alloc: Global, out: &mut String) -> Result<(), CaseError> {
-        Ok(out.push_str(self.as_str())?)
+        written(out.push_str(self.as_str()))
     }
 }
 
@@ -97,13 +97,13 @@ impl Shown for IpAddr {
 
 impl<const KEY: u32> Shown for State<'_, u8, KEY> {
     fn show(&self, _alloc: Global, out: &mut String) -> Result<(), CaseError> {
-        Ok(write!(out, "{self}")?)
+        written(write!(out, "{self}"))
     }
 }
 
 impl Shown for Origin {
     fn show(&self, _alloc: Global, out: &mut String) -> Result<(), CaseError> {
-        Ok(out.push_str(self.as_str())?)
+        written(out.push_str(self.as_str()))
     }
 }
 
@@ -115,20 +115,20 @@ impl Shown for Host {
 
 impl Shown for Limits {
     fn show(&self, _alloc: Global, out: &mut String) -> Result<(), CaseError> {
-        Ok(write!(out, "{self}")?)
+        written(write!(out, "{self}"))
     }
 }
 
 impl Shown for ContentType {
     fn show(&self, alloc: Global, out: &mut String) -> Result<(), CaseError> {
-        Ok(push_media(alloc, self.media_type(), out)?)
+        written(push_media(alloc, self.media_type(), out))
     }
 }
 
 /// The media type that is preferred.
 impl Shown for Accept {
     fn show(&self, alloc: Global, out: &mut String) -> Result<(), CaseError> {
-        Ok(push_media(alloc, self.preferred(), out)?)
+        written(push_media(alloc, self.preferred(), out))
     }
 }
 
@@ -136,7 +136,7 @@ impl<V: Shown> Shown for Option<V> {
     fn show(&self, alloc: Global, out: &mut String) -> Result<(), CaseError> {
         match self {
             Some(value) => show_named(alloc, "Some", value, out),
-            None => Ok(out.push_str("None")?),
+            None => written(out.push_str("None")),
         }
     }
 }
@@ -154,8 +154,8 @@ impl<V: Shown, E: Debug> Shown for Outcome<V, (Status, E), Status> {
     fn show(&self, alloc: Global, out: &mut String) -> Result<(), CaseError> {
         match self {
             Outcome::Success(value) => show_named(alloc, "Success", value, out),
-            Outcome::Error((status, error)) => Ok(show_error(*status, error, out)?),
-            Outcome::Forward(status) => Ok(show_forward(*status, out)?),
+            Outcome::Error((status, error)) => written(show_error(*status, error, out)),
+            Outcome::Forward(status) => written(show_forward(*status, out)),
         }
     }
 }
@@ -163,7 +163,7 @@ impl<V: Shown, E: Debug> Shown for Outcome<V, (Status, E), Status> {
 impl<V: Shown> Shown for Capped<V> {
     fn show(&self, alloc: Global, out: &mut String) -> Result<(), CaseError> {
         self.value.show(alloc, out)?;
-        let (written, complete) = (self.n.written, self.n.complete);
-        Ok(write!(out, " written={written} complete={complete}")?)
+        let (length, complete) = (self.n.written, self.n.complete);
+        written(write!(out, " written={length} complete={complete}"))
     }
 }

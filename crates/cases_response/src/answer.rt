@@ -4,7 +4,7 @@ use crate::message::{guard, message, no_cookie};
 use crate::shown::Asked;
 use crate::streaming::reader_stream;
 use crate::texts::{byte_stream, bytes, text, text_stream};
-use cases::{Answers, CaseError, first_word};
+use cases::{Answers, CaseError, first_word, written};
 use rkt_base::NoMemory;
 use rkt_http::{Method, Origin};
 use sample_app::Server;
@@ -31,11 +31,11 @@ fn of_flash(
     out: &mut String,
 ) -> Result<(), CaseError> {
     match command {
-        "flash" => Ok(flash(alloc, rest, out)?),
+        "flash" => written(flash(alloc, rest, out)),
         "flashing" => flashing(alloc, request, rest, out),
-        "guard" => Ok(guard(alloc, request, rest, out)?),
-        "no_cookie" => Ok(no_cookie(alloc, request, out)?),
-        "message" => Ok(message(alloc, request, rest, out)?),
+        "guard" => written(guard(alloc, request, rest, out)),
+        "no_cookie" => written(no_cookie(alloc, request, out)),
+        "message" => written(message(alloc, request, rest, out)),
         _ => push_made(alloc, request, command, rest, out),
     }
 }
@@ -63,9 +63,10 @@ fn answer_by(
     rest: &str,
     out: &mut String,
 ) -> Result<(), CaseError> {
-    let uri = Origin::parse(alloc, "/")?;
-    let request = server.request(alloc, Method::Get, uri)?;
-    answer_to(alloc, &request, command, rest, out)
+    match server.request(alloc, Method::Get, Origin::parse(alloc, "/")?) {
+        Ok(request) => answer_to(alloc, &request, command, rest, out),
+        Err(_) => Err(CaseError::NoMemory),
+    }
 }
 
 impl Answers for Program {

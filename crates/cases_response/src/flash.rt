@@ -1,6 +1,6 @@
 //! Flashes, and the cookies that they are sent as.
 use crate::shown::{Asked, respond_under};
-use cases::{CaseError, first_word};
+use cases::{CaseError, first_word, written};
 use rkt_base::NoMemory;
 use rkt_cookie::{Cookie, CookieJar};
 use rkt_request::Ctx;
@@ -75,7 +75,7 @@ fn flashing_under(
 ) -> Result<(), CaseError> {
     let flash = made(alloc, line)?;
     respond_under(alloc, request, ctx, flash, out)?;
-    Ok(push_sent(alloc, ctx.cookies_mut(), 1000, out)?)
+    written(push_sent(alloc, ctx.cookies_mut(), 1000, out))
 }
 
 /// Adds what the empty response answers with a flash, and what the jar of the request sends.

@@ -4,7 +4,7 @@ use crate::content::typed;
 use crate::inner::inner;
 use crate::redirect::made_redirect;
 use crate::shown::{Asked, respond};
-use cases::{CaseError, first_word, parsed};
+use cases::{CaseError, first_word, parsed, written};
 use rkt_http::Status;
 use rkt_response::Debug;
 use rkt_response::responder::status::{Accepted, Created, Custom};
@@ -58,7 +58,7 @@ fn same(line: &str, out: &mut String) -> Result<(), CaseError> {
     let one = Accepted(parsed::<u16>(one)?);
     let other = Accepted(parsed::<u16>(other)?);
     let equal = one == other;
-    Ok(write!(out, "{equal}")?)
+    written(write!(out, "{equal}"))
 }
 
 fn debug(

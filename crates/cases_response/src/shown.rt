@@ -1,10 +1,10 @@
 //! What a responder answers.
-use cases::CaseError;
+use cases::{CaseError, written};
 use rkt_base::{NoMemory, Poll, Want};
 use rkt_cookie::CookieJar;
 use rkt_data::{DataError, Source};
 use rkt_request::{Ctx, Request, Types};
-use rkt_response::{Body, Responder, Response};
+use rkt_response::{Body, Responder, Response, ResponseResult};
 use sample_app::{Sample, context, gate_at};
 use std::alloc::Global;
 
@@ -36,13 +36,20 @@ fn push_body<S: Source>(alloc: Global, body: Body<S>, out: &mut String) -> Resul
     }
 }
 
+fn push_status<S: Source>(response: &mut Response<S>, out: &mut String) -> Result<(), NoMemory> {
+    let (code, size) = (response.status().code, response.body_mut().size());
+    write!(out, "{code} {size:?}")
+}
+
+fn push_header(name: &str, value: &str, out: &mut String) -> Result<(), NoMemory> {
+    write!(out, " [{name}: {value}]")
+}
+
 /// Adds a response's status, size and headers.
 fn push_head<S: Source>(response: &mut Response<S>, out: &mut String) -> Result<(), NoMemory> {
-    let size = response.body_mut().size();
-    let code = response.status().code;
-    write!(out, "{code} {size:?}")?;
+    push_status(response, out)?;
     for (name, value) in response.headers().iter() {
-        write!(out, " [{name}: {value}]")?;
+        push_header(name, value, out)?;
     }
     Ok(())
 }
@@ -54,7 +61,20 @@ fn push_response<S: Source>(
     out: &mut String,
 ) -> Result<(), CaseError> {
     push_head(response, out)?;
-    Ok(push_body(alloc, response.body_mut().take(), out)?)
+    written(push_body(alloc, response.body_mut().take(), out))
+}
+
+/// Adds a response, or the status in its place.
+fn push_answer<S: Source>(
+    alloc: Global,
+    answer: ResponseResult<S>,
+    out: &mut String,
+) -> Result<(), CaseError> {
+    match answer {
+        Ok(mut response) => push_response(alloc, &mut response, out),
+        Err(Want::Refused(status)) => written(write!(out, "err {}", status.code)),
+        Err(Want::NoMemory) => Err(CaseError::NoMemory),
+    }
 }
 
 /// Adds what a responder answers under a context.
@@ -65,11 +85,7 @@ pub fn respond_under<T: Types, R: Responder<T> + Drop>(
     responder: R,
     out: &mut String,
 ) -> Result<(), CaseError> {
-    match responder.respond_to(alloc, request, ctx) {
-        Ok(mut response) => push_response(alloc, &mut response, out),
-        Err(Want::Refused(status)) => Ok(write!(out, "err {}", status.code)?),
-        Err(Want::NoMemory) => Err(CaseError::NoMemory),
-    }
+    push_answer(alloc, responder.respond_to(alloc, request, ctx), out)
 }
 
 /// Adds what a responder answers to a request without cookies.

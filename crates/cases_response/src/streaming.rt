@@ -27,14 +27,38 @@ impl Types for Streaming {
     type Reason = Stopped;
 }
 
-fn request(alloc: Global, server: &Server) -> Result<Request<'_, Streaming>, CaseError> {
-    let uri = Origin::parse(alloc, "/")?;
-    Ok(Request::new(alloc, &server.config, &server.managed, Method::Get, uri)?)
+fn request(
+    alloc: Global,
+    server: &Server,
+    uri: Origin,
+) -> Result<Request<'_, Streaming>, NoMemory> {
+    Request::new(alloc, &server.config, &server.managed, Method::Get, uri)
 }
 
 fn context(alloc: Global) -> Result<Ctx<Streaming>, NoMemory> {
     let (_wire, shutdown) = TripWire::<Stopped>::new(alloc)?;
     Ok(Ctx::new(alloc, CookieJar::new(alloc), shutdown, gate_at(0)))
+}
+
+fn stream_under(
+    alloc: Global,
+    request: &Request<'_, Streaming>,
+    ctx: &mut Ctx<Streaming>,
+    text: &str,
+    out: &mut String,
+) -> Result<(), CaseError> {
+    let source = source(alloc, text)?;
+    respond_under(alloc, request, ctx, ReaderStream::one(source), out)
+}
+
+fn stream_to(
+    alloc: Global,
+    request: &Request<'_, Streaming>,
+    text: &str,
+    out: &mut String,
+) -> Result<(), CaseError> {
+    let mut ctx = context(alloc)?;
+    stream_under(alloc, request, &mut ctx, text, out)
 }
 
 /// Adds what the stream of one source answers.
@@ -44,8 +68,8 @@ pub fn reader_stream(
     text: &str,
     out: &mut String,
 ) -> Result<(), CaseError> {
-    let stream = ReaderStream::one(source(alloc, text)?);
-    let request = request(alloc, server)?;
-    let mut ctx = context(alloc)?;
-    respond_under(alloc, &request, &mut ctx, stream, out)
+    match request(alloc, server, Origin::parse(alloc, "/")?) {
+        Ok(request) => stream_to(alloc, &request, text, out),
+        Err(_) => Err(CaseError::NoMemory),
+    }
 }

@@ -9,6 +9,36 @@ use std::borrow::{CowSlice, CowStr};
 use std::boxed::{BoxedSlice, BoxedStr};
 use std::sync::{ArcSlice, ArcStr};
 
+fn string(
+    alloc: Global,
+    request: &Asked<'_>,
+    text: &str,
+    out: &mut String,
+) -> Result<(), CaseError> {
+    let owned = String::from_str(alloc, text)?;
+    respond(alloc, request, owned, out)
+}
+
+fn boxed_text(
+    alloc: Global,
+    request: &Asked<'_>,
+    text: &str,
+    out: &mut String,
+) -> Result<(), CaseError> {
+    let owned = BoxedStr::from_str(alloc, text)?;
+    respond(alloc, request, owned, out)
+}
+
+fn shared_text(
+    alloc: Global,
+    request: &Asked<'_>,
+    text: &str,
+    out: &mut String,
+) -> Result<(), CaseError> {
+    let shared = ArcStr::from_str(alloc, text)?;
+    respond(alloc, request, shared, out)
+}
+
 fn owned_text(
     alloc: Global,
     request: &Asked<'_>,
@@ -29,13 +59,43 @@ pub fn text(
     let (kind, text) = first_word(line);
     match kind {
         "str" => respond(alloc, request, text, out),
-        "string" => respond(alloc, request, String::from_str(alloc, text)?, out),
-        "boxed" => respond(alloc, request, BoxedStr::from_str(alloc, text)?, out),
-        "arc" => respond(alloc, request, ArcStr::from_str(alloc, text)?, out),
+        "string" => string(alloc, request, text, out),
+        "boxed" => boxed_text(alloc, request, text, out),
+        "arc" => shared_text(alloc, request, text, out),
         "cow" => respond::<CowStr<'_>>(alloc, request, CowStr::Borrowed(text), out),
         "owned_cow" => owned_text(alloc, request, text, out),
         _ => Err(CaseError::Line),
     }
+}
+
+fn list(
+    alloc: Global,
+    request: &Asked<'_>,
+    bytes: &[u8],
+    out: &mut String,
+) -> Result<(), CaseError> {
+    let owned = bytes.to_vec(alloc)?;
+    respond(alloc, request, owned, out)
+}
+
+fn boxed_bytes(
+    alloc: Global,
+    request: &Asked<'_>,
+    bytes: &[u8],
+    out: &mut String,
+) -> Result<(), CaseError> {
+    let owned = BoxedSlice::from_slice(alloc, bytes)?;
+    respond(alloc, request, owned, out)
+}
+
+fn shared_bytes(
+    alloc: Global,
+    request: &Asked<'_>,
+    bytes: &[u8],
+    out: &mut String,
+) -> Result<(), CaseError> {
+    let shared = ArcSlice::from_slice(alloc, bytes)?;
+    respond(alloc, request, shared, out)
 }
 
 fn owned_bytes(
@@ -59,9 +119,9 @@ pub fn bytes(
     let bytes = text.as_bytes();
     match kind {
         "slice" => respond(alloc, request, bytes, out),
-        "vec" => respond(alloc, request, bytes.to_vec(alloc)?, out),
-        "boxed" => respond(alloc, request, BoxedSlice::from_slice(alloc, bytes)?, out),
-        "arc" => respond(alloc, request, ArcSlice::from_slice(alloc, bytes)?, out),
+        "vec" => list(alloc, request, bytes, out),
+        "boxed" => boxed_bytes(alloc, request, bytes, out),
+        "arc" => shared_bytes(alloc, request, bytes, out),
         "cow" => respond::<CowSlice<'_, u8>>(alloc, request, CowSlice::Borrowed(bytes), out),
         "owned_cow" => owned_bytes(alloc, request, bytes, out),
         _ => Err(CaseError::Line),

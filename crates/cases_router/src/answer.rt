@@ -1,10 +1,9 @@
 use crate::asked::{answer_question, finalize};
 use crate::catchers::register;
-use crate::refusal::Refusal;
 use crate::routes::{SampleRouter, mount, numbered, push_counts};
 use crate::sentinels::push_abort;
 use crate::uris::{media, segment, uri};
-use cases::{Answers, CaseError, first_word, parsed};
+use cases::{Answers, CaseError, first_word, parsed, written};
 use rkt_base::NoMemory;
 use sample_app::Server;
 use std::alloc::Global;
@@ -47,9 +46,9 @@ fn fill(
     router: &mut SampleRouter,
     count: &str,
     out: &mut String,
-) -> Result<(), Refusal> {
+) -> Result<(), CaseError> {
     numbered(alloc, router, parsed::<u16>(count)?)?;
-    Ok(push_counts(router, out)?)
+    written(push_counts(router, out))
 }
 
 fn answer_asked(
@@ -58,11 +57,11 @@ fn answer_asked(
     command: &str,
     rest: &str,
     out: &mut String,
-) -> Result<(), Refusal> {
+) -> Result<(), CaseError> {
     match command {
-        "new" => Ok(empty(alloc, &mut program.router, out)?),
+        "new" => written(empty(alloc, &mut program.router, out)),
         "numbered" => fill(alloc, &mut program.router, rest, out),
-        "finalize" => Ok(finalize(alloc, &program.router, out)?),
+        "finalize" => finalize(alloc, &program.router, out),
         _ => answer_question(
             alloc,
             &program.server,
@@ -79,47 +78,25 @@ fn answer_read(
     command: &str,
     rest: &str,
     out: &mut String,
-) -> Result<(), Refusal> {
+) -> Result<(), CaseError> {
     match command {
-        "segment" => Ok(segment(alloc, rest, out)?),
+        "segment" => written(segment(alloc, rest, out)),
         "uri" => uri(alloc, rest, out),
-        "media" => Ok(media(alloc, rest, out)?),
-        "sentinel" => Ok(push_abort(alloc, &program.server.config, rest, out)?),
+        "media" => media(alloc, rest, out),
+        "sentinel" => push_abort(alloc, &program.server.config, rest, out),
         _ => answer_asked(alloc, program, command, rest, out),
-    }
-}
-
-fn answer_line(
-    alloc: Global,
-    program: &mut Program,
-    line: &str,
-    out: &mut String,
-) -> Result<(), Refusal> {
-    let (command, rest) = first_word(line);
-    if makes_route(command) {
-        return mount(alloc, &mut program.router, command, rest, out);
-    }
-    if makes_catcher(command) {
-        return register(alloc, &mut program.router, command, rest, out);
-    }
-    answer_read(alloc, program, command, rest, out)
-}
-
-/// Adds what is refused, in place of what was added before.
-fn push_refusal(refusal: Refusal, out: &mut String) -> Result<(), CaseError> {
-    out.clear();
-    match refusal {
-        Refusal::Place(at) => Ok(write!(out, "refused at {at}")?),
-        Refusal::Code(code) => Ok(write!(out, "bad code {code}")?),
-        Refusal::Case(error) => Err(error),
     }
 }
 
 impl Answers for Program {
     fn answer(&mut self, alloc: Global, line: &str, out: &mut String) -> Result<(), CaseError> {
-        match answer_line(alloc, self, line, out) {
-            Ok(()) => Ok(()),
-            Err(refusal) => push_refusal(refusal, out),
+        let (command, rest) = first_word(line);
+        if makes_route(command) {
+            return mount(alloc, &mut self.router, command, rest, out);
         }
+        if makes_catcher(command) {
+            return register(alloc, &mut self.router, command, rest, out);
+        }
+        answer_read(alloc, self, command, rest, out)
     }
 }

@@ -1,9 +1,9 @@
 //! What a router answers, most of it for requests.
 use crate::callbacks::push_call;
 use crate::question::{Asked, Question, parse_asked};
-use crate::refusal::Refusal;
+use crate::refusal::push_misplaced;
 use crate::routes::SampleRouter;
-use cases::CaseError;
+use cases::{CaseError, written};
 use rkt_base::{NoMemory, Want};
 use rkt_http::{Origin, Status};
 use rkt_request::Request;
@@ -48,9 +48,9 @@ fn push_tries(
     router: &SampleRouter,
     request: &Request<'_, Sample>,
     out: &mut String,
-) -> Result<(), Refusal> {
+) -> Result<(), NoMemory> {
     push_walk(router, request, out)?;
-    Ok(push_nexts(router, request, out)?)
+    push_nexts(router, request, out)
 }
 
 fn push_caught(
@@ -58,10 +58,10 @@ fn push_caught(
     request: &Request<'_, Sample>,
     status: Status,
     out: &mut String,
-) -> Result<(), Refusal> {
+) -> Result<(), NoMemory> {
     match router.catch(status, request) {
-        Some((position, _)) => Ok(write!(out, "{position}")?),
-        None => Ok(out.push_str("none")?),
+        Some((position, _)) => write!(out, "{position}"),
+        None => out.push_str("none"),
     }
 }
 
@@ -72,11 +72,11 @@ fn push_asked(
     request: &Request<'_, Sample>,
     question: Question<'_>,
     out: &mut String,
-) -> Result<(), Refusal> {
+) -> Result<(), CaseError> {
     match question {
-        Question::Tries => push_tries(router, request, out),
-        Question::Catch(status) => push_caught(router, request, status, out),
-        Question::Call(command, rest) => Ok(push_call(alloc, request, command, rest, out)?),
+        Question::Tries => written(push_tries(router, request, out)),
+        Question::Catch(status) => written(push_caught(router, request, status, out)),
+        Question::Call(command, rest) => push_call(alloc, request, command, rest, out),
     }
 }
 
@@ -87,7 +87,7 @@ fn ask(
     uri: Origin,
     asked: Asked<'_>,
     out: &mut String,
-) -> Result<(), Refusal> {
+) -> Result<(), CaseError> {
     let request = server.request(alloc, asked.method, uri)?;
     push_asked(alloc, router, &request, asked.question, out)
 }
@@ -99,21 +99,23 @@ pub fn answer_question(
     router: &SampleRouter,
     line: (&str, &str),
     out: &mut String,
-) -> Result<(), Refusal> {
+) -> Result<(), CaseError> {
     let asked = parse_asked(line.0, line.1)?;
-    let uri = Origin::parse(alloc, asked.uri)?;
-    ask(alloc, server, router, uri, asked, out)
+    match Origin::parse(alloc, asked.uri) {
+        Ok(uri) => ask(alloc, server, router, uri, asked, out),
+        Err(error) => push_misplaced(error, out),
+    }
 }
 
 fn push_collisions(found: &Collisions, out: &mut String) -> Result<(), CaseError> {
     let (routes, catchers) = (found.routes.as_slice(), found.catchers.as_slice());
-    Ok(write!(out, "routes {routes:?}, catchers {catchers:?}")?)
+    written(write!(out, "routes {routes:?}, catchers {catchers:?}"))
 }
 
 /// Adds whether a router is taken, or all that collides.
 pub fn finalize(alloc: Global, router: &SampleRouter, out: &mut String) -> Result<(), CaseError> {
     match router.finalize(alloc) {
-        Ok(()) => Ok(out.push_str("ok")?),
+        Ok(()) => written(out.push_str("ok")),
         Err(Want::Refused(found)) => push_collisions(&found, out),
         Err(Want::NoMemory) => Err(CaseError::NoMemory),
     }

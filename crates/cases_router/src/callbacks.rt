@@ -3,7 +3,7 @@ use crate::handlers::{Bare, Passes};
 use crate::replies::{body_of, push_error, push_made, push_response, push_step};
 use crate::turns::{push_catch_turns, push_turns};
 use crate::words::status;
-use cases::CaseError;
+use cases::{CaseError, written};
 use rkt_base::NoMemory;
 use rkt_cookie::CookieJar;
 use rkt_data::{Data, MemorySource};
@@ -73,7 +73,7 @@ fn page(
     out: &mut String,
 ) -> Result<(), CaseError> {
     let mut response = default_handler(alloc, status(code)?, request)?;
-    Ok(push_response(&mut response, out)?)
+    written(push_response(&mut response, out))
 }
 
 fn called(
@@ -99,8 +99,8 @@ fn polled(
     out: &mut String,
 ) -> Result<(), CaseError> {
     match asked.0 {
-        "dummy" => Ok(dummy(alloc, request, ctx, asked.1, out)?),
-        "passes" => Ok(passes(alloc, request, ctx, asked.1, out)?),
+        "dummy" => written(dummy(alloc, request, ctx, asked.1, out)),
+        "passes" => written(passes(alloc, request, ctx, asked.1, out)),
         "bare" => bare(alloc, request, ctx, asked.1, out),
         _ => called(alloc, request, ctx, asked, out),
     }

@@ -1,17 +1,15 @@
 //! Catchers that are made, shown and registered.
-use crate::refusal::Refusal;
+use crate::refusal::{push_bad_code, push_misplaced};
 use crate::routes::SampleRouter;
 use crate::words::parsed_or_any;
-use cases::first_word;
+use cases::{CaseError, first_word, written};
 use rkt_base::{NoMemory, Want};
 use rkt_http::{InvalidUri, Origin};
 use rkt_router::catcher::StaticInfo;
-use rkt_router::{Catcher, Catching};
+use rkt_router::{BadCode, Catcher, Catching};
 use std::alloc::Global;
 
 type SampleCatcher = Catcher<u8>;
-
-type Made = Result<SampleCatcher, Want<InvalidUri>>;
 
 fn push_handler(handler: Catching<u8>, out: &mut String) -> Result<(), NoMemory> {
     match handler {
@@ -27,52 +25,109 @@ fn push_catcher(catcher: &SampleCatcher, out: &mut String) -> Result<(), NoMemor
     push_handler(catcher.handler, out)
 }
 
-fn new_catcher(alloc: Global, code: &str) -> Result<SampleCatcher, Refusal> {
-    Ok(Catcher::new(alloc, parsed_or_any::<u16>(code)?, 7)?)
+/// Shows a catcher, and registers it.
+fn register_catcher(
+    router: &mut SampleRouter,
+    catcher: SampleCatcher,
+    out: &mut String,
+) -> Result<(), NoMemory> {
+    let shown = push_catcher(&catcher, out);
+    router.add_catcher(catcher)?;
+    shown
 }
 
-fn described(alloc: Global, code: &str) -> Result<SampleCatcher, Refusal> {
+/// The same of one that is made of a code.
+fn register_coded(
+    router: &mut SampleRouter,
+    made: Result<SampleCatcher, Want<BadCode>>,
+    out: &mut String,
+) -> Result<(), CaseError> {
+    match made {
+        Ok(catcher) => written(register_catcher(router, catcher, out)),
+        Err(error) => push_bad_code(error, out),
+    }
+}
+
+/// The same of one that is put at a base.
+fn register_placed(
+    router: &mut SampleRouter,
+    made: Result<SampleCatcher, Want<InvalidUri>>,
+    out: &mut String,
+) -> Result<(), CaseError> {
+    match made {
+        Ok(catcher) => written(register_catcher(router, catcher, out)),
+        Err(error) => push_misplaced(error, out),
+    }
+}
+
+fn new_catcher(
+    alloc: Global,
+    router: &mut SampleRouter,
+    code: &str,
+    out: &mut String,
+) -> Result<(), CaseError> {
+    let code = parsed_or_any::<u16>(code)?;
+    register_coded(router, Catcher::new(alloc, code, 7), out)
+}
+
+fn described(
+    alloc: Global,
+    router: &mut SampleRouter,
+    code: &str,
+    out: &mut String,
+) -> Result<(), CaseError> {
     let info = StaticInfo {
         name: "static",
         code: parsed_or_any::<u16>(code)?,
         handler: 9,
     };
-    Ok(Catcher::from_info(alloc, info)?)
+    register_coded(router, Catcher::from_info(alloc, info), out)
+}
+
+fn default(alloc: Global, router: &mut SampleRouter, out: &mut String) -> Result<(), NoMemory> {
+    let catcher = Catcher::default(alloc)?;
+    register_catcher(router, catcher, out)
 }
 
 /// The default catcher below the base that is put before its own.
-fn moved(alloc: Global, catcher: SampleCatcher, front: &str) -> Made {
-    catcher.map_base(
+fn default_below(
+    alloc: Global,
+    router: &mut SampleRouter,
+    front: &str,
+    out: &mut String,
+) -> Result<(), CaseError> {
+    let catcher: SampleCatcher = Catcher::default(alloc)?;
+    let moved = catcher.map_base(
         alloc,
         move |base| format!(in alloc; "{front}{}", base.as_str()),
-    )
+    );
+    register_placed(router, moved, out)
 }
 
-fn default_below(alloc: Global, front: &str) -> Result<SampleCatcher, Refusal> {
-    let catcher = Catcher::default(alloc)?;
-    Ok(moved(alloc, catcher, front)?)
+fn placed(
+    code: Option<u16>,
+    base: Result<Origin, Want<InvalidUri>>,
+) -> Result<SampleCatcher, Want<InvalidUri>> {
+    match base {
+        Ok(base) => Ok(Catcher {
+            name: None,
+            code,
+            handler: Catching::App(7),
+            base,
+        }),
+        Err(error) => Err(error),
+    }
 }
 
-fn at_base(alloc: Global, line: &str) -> Result<SampleCatcher, Refusal> {
+fn at_base(
+    alloc: Global,
+    router: &mut SampleRouter,
+    line: &str,
+    out: &mut String,
+) -> Result<(), CaseError> {
     let (base, code) = first_word(line);
     let code = parsed_or_any::<u16>(code)?;
-    Ok(Catcher {
-        name: None,
-        code,
-        handler: Catching::App(7),
-        base: Origin::parse(alloc, base)?,
-    })
-}
-
-/// The catcher that a line says.
-fn made(alloc: Global, command: &str, rest: &str) -> Result<SampleCatcher, Refusal> {
-    match command {
-        "catcher" => new_catcher(alloc, rest),
-        "static_catcher" => described(alloc, rest),
-        "default_catcher" => Ok(Catcher::default(alloc)?),
-        "default_below" => default_below(alloc, rest),
-        _ => at_base(alloc, rest),
-    }
+    register_placed(router, placed(code, Origin::parse(alloc, base)), out)
 }
 
 /// Makes the catcher that a line says, shows it, and registers it.
@@ -82,8 +137,12 @@ pub fn register(
     command: &str,
     rest: &str,
     out: &mut String,
-) -> Result<(), Refusal> {
-    let catcher = made(alloc, command, rest)?;
-    push_catcher(&catcher, out)?;
-    Ok(router.add_catcher(catcher)?)
+) -> Result<(), CaseError> {
+    match command {
+        "catcher" => new_catcher(alloc, router, rest, out),
+        "static_catcher" => described(alloc, router, rest, out),
+        "default_catcher" => written(default(alloc, router, out)),
+        "default_below" => default_below(alloc, router, rest, out),
+        _ => at_base(alloc, router, rest, out),
+    }
 }

@@ -1,6 +1,6 @@
 //! Answers of handlers and of catchers.
 use crate::words::status;
-use cases::{CaseError, first_word};
+use cases::{CaseError, first_word, written};
 use rkt_base::NoMemory;
 use rkt_data::{Data, MemorySource};
 use rkt_http::{Outcome, Status};
@@ -94,7 +94,7 @@ fn made_forward(alloc: Global, line: &str, out: &mut String) -> Result<(), CaseE
     let (code, text) = first_word(line);
     let status = status(code)?;
     let body = body_of(alloc, text)?;
-    Ok(push_outcome(forward::<Sample>(body, status), out)?)
+    written(push_outcome(forward::<Sample>(body, status), out))
 }
 
 /// Adds an answer that is made by one of the functions for it.
@@ -106,8 +106,8 @@ pub fn push_made(
     out: &mut String,
 ) -> Result<(), CaseError> {
     match asked.0 {
-        "from" => Ok(made_from(alloc, request, ctx, asked.1, out)?),
-        "try_from" => Ok(made_from_value(alloc, request, ctx, asked.1, out)?),
+        "from" => written(made_from(alloc, request, ctx, asked.1, out)),
+        "try_from" => written(made_from_value(alloc, request, ctx, asked.1, out)),
         "error" => Ok(push_outcome(error::<Sample>(status(asked.1)?), out)?),
         "forward" => made_forward(alloc, asked.1, out),
         _ => Err(CaseError::Line),

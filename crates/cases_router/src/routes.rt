@@ -1,7 +1,7 @@
 //! Routes that are made, shown and mounted.
-use crate::refusal::Refusal;
+use crate::refusal::push_misplaced;
 use crate::words::{media_type, method, parsed_or_any};
-use cases::{CaseError, first_word, parsed};
+use cases::{CaseError, first_word, parsed, written};
 use rkt_base::{NoMemory, Seq, Want};
 use rkt_http::{InvalidUri, MediaType, Method};
 use rkt_router::route::StaticInfo;
@@ -48,19 +48,54 @@ fn method_and_path(line: &str) -> Result<(Method, &str), CaseError> {
     Ok((method(name)?, path))
 }
 
-fn new_route(alloc: Global, line: &str) -> Result<SampleRoute, Refusal> {
-    let (method, path) = method_and_path(line)?;
-    Ok(SampleRoute::new(alloc, method, path, 7)?)
+fn mount_route(
+    alloc: Global,
+    router: &mut SampleRouter,
+    route: SampleRoute,
+    out: &mut String,
+) -> Result<(), NoMemory> {
+    let shown = push_route(alloc, &route, out);
+    router.add_route(route)?;
+    shown
 }
 
-fn of_rank(alloc: Global, rank: i64, line: &str) -> Result<SampleRoute, Refusal> {
-    let (method, path) = method_and_path(line)?;
-    Ok(SampleRoute::ranked(alloc, Some(rank), method, path, 7)?)
+/// Shows the route that is made, and mounts it.
+fn mount_made(
+    alloc: Global,
+    router: &mut SampleRouter,
+    made: Made,
+    out: &mut String,
+) -> Result<(), CaseError> {
+    match made {
+        Ok(route) => written(mount_route(alloc, router, route, out)),
+        Err(error) => push_misplaced(error, out),
+    }
 }
 
-fn ranked(alloc: Global, line: &str) -> Result<SampleRoute, Refusal> {
+fn new_route(
+    alloc: Global,
+    router: &mut SampleRouter,
+    line: &str,
+    out: &mut String,
+) -> Result<(), CaseError> {
+    let (method, path) = method_and_path(line)?;
+    mount_made(alloc, router, SampleRoute::new(alloc, method, path, 7), out)
+}
+
+fn of_rank(alloc: Global, rank: i64, method: Method, path: &str) -> Made {
+    SampleRoute::ranked(alloc, Some(rank), method, path, 7)
+}
+
+fn ranked(
+    alloc: Global,
+    router: &mut SampleRouter,
+    line: &str,
+    out: &mut String,
+) -> Result<(), CaseError> {
     let (rank, line) = first_word(line);
-    of_rank(alloc, parsed::<i64>(rank)?, line)
+    let rank = parsed::<i64>(rank)?;
+    let (method, path) = method_and_path(line)?;
+    mount_made(alloc, router, of_rank(alloc, rank, method, path), out)
 }
 
 fn info(rank: Option<i64>, method: Method, sentinels: Seq<Sentry<u8>>) -> StaticInfo<u8, u8> {
@@ -76,48 +111,62 @@ fn info(rank: Option<i64>, method: Method, sentinels: Seq<Sentry<u8>>) -> Static
 }
 
 /// The route that static information describes.
-fn described(alloc: Global, line: &str) -> Result<SampleRoute, Refusal> {
+fn described(
+    alloc: Global,
+    router: &mut SampleRouter,
+    line: &str,
+    out: &mut String,
+) -> Result<(), CaseError> {
     let (rank, name) = first_word(line);
-    let rank = parsed_or_any::<i64>(rank)?;
-    let info = info(rank, method(name)?, Seq::new(alloc));
-    Ok(SampleRoute::from_info(alloc, info)?)
+    let (rank, method) = (parsed_or_any::<i64>(rank)?, method(name)?);
+    let info = info(rank, method, Seq::new(alloc));
+    mount_made(alloc, router, SampleRoute::from_info(alloc, info), out)
 }
 
 /// The route below the base that is put before its own.
-fn moved(alloc: Global, route: SampleRoute, front: &str) -> Made {
-    route.map_base(
-        alloc,
-        move |base| format!(in alloc; "{front}{}", base.as_str()),
-    )
-}
-
-fn below(alloc: Global, line: &str) -> Result<SampleRoute, Refusal> {
-    let (front, line) = first_word(line);
-    let route = of_rank(alloc, 3, line)?;
-    Ok(moved(alloc, route, front)?)
-}
-
-fn set_format(alloc: Global, route: &mut SampleRoute, name: &str) -> Result<(), CaseError> {
-    route.format = Some(media_type(alloc, name)?);
-    Ok(())
-}
-
-fn with_format(alloc: Global, line: &str) -> Result<SampleRoute, Refusal> {
-    let (name, line) = first_word(line);
-    let mut route = new_route(alloc, line)?;
-    set_format(alloc, &mut route, name)?;
-    Ok(route)
-}
-
-/// The route that a line says.
-fn made(alloc: Global, command: &str, rest: &str) -> Result<SampleRoute, Refusal> {
-    match command {
-        "route" => new_route(alloc, rest),
-        "ranked" => ranked(alloc, rest),
-        "static" => described(alloc, rest),
-        "below" => below(alloc, rest),
-        _ => with_format(alloc, rest),
+fn moved(alloc: Global, made: Made, front: &str) -> Made {
+    match made {
+        Ok(route) => route.map_base(
+            alloc,
+            move |base| format!(in alloc; "{front}{}", base.as_str()),
+        ),
+        Err(error) => Err(error),
     }
+}
+
+fn below(
+    alloc: Global,
+    router: &mut SampleRouter,
+    line: &str,
+    out: &mut String,
+) -> Result<(), CaseError> {
+    let (front, line) = first_word(line);
+    let (method, path) = method_and_path(line)?;
+    let made = moved(alloc, of_rank(alloc, 3, method, path), front);
+    mount_made(alloc, router, made, out)
+}
+
+fn formatted(made: Made, format: MediaType) -> Made {
+    match made {
+        Ok(mut route) => {
+            route.format = Some(format);
+            Ok(route)
+        }
+        Err(error) => Err(error),
+    }
+}
+
+fn with_format(
+    alloc: Global,
+    router: &mut SampleRouter,
+    line: &str,
+    out: &mut String,
+) -> Result<(), CaseError> {
+    let (name, line) = first_word(line);
+    let (method, path) = method_and_path(line)?;
+    let format = media_type(alloc, name)?;
+    let made = formatted(SampleRoute::new(alloc, method, path, 7), format);
+    mount_made(alloc, router, made, out)
 }
 
 /// Makes the route that a line says, shows it, and mounts it.
@@ -127,20 +176,33 @@ pub fn mount(
     command: &str,
     rest: &str,
     out: &mut String,
-) -> Result<(), Refusal> {
-    let route = made(alloc, command, rest)?;
-    push_route(alloc, &route, out)?;
-    Ok(router.add_route(route)?)
+) -> Result<(), CaseError> {
+    match command {
+        "route" => new_route(alloc, router, rest, out),
+        "ranked" => ranked(alloc, router, rest, out),
+        "static" => described(alloc, router, rest, out),
+        "below" => below(alloc, router, rest, out),
+        _ => with_format(alloc, router, rest, out),
+    }
 }
 
-fn mount_numbered(alloc: Global, router: &mut SampleRouter, number: u16) -> Result<(), Refusal> {
+fn add_made(router: &mut SampleRouter, made: Made) -> Result<(), CaseError> {
+    match made {
+        Ok(route) => written(router.add_route(route)),
+        Err(error) => Err(CaseError::from(error)),
+    }
+}
+
+fn mount_numbered(alloc: Global, router: &mut SampleRouter, number: u16) -> Result<(), CaseError> {
     let path = format!(in alloc; "/r{number}")?;
-    let route = SampleRoute::new(alloc, Method::Get, path.as_str(), 7)?;
-    Ok(router.add_route(route)?)
+    add_made(
+        router,
+        SampleRoute::new(alloc, Method::Get, path.as_str(), 7),
+    )
 }
 
 /// Mounts so many routes of one static segment.
-pub fn numbered(alloc: Global, router: &mut SampleRouter, count: u16) -> Result<(), Refusal> {
+pub fn numbered(alloc: Global, router: &mut SampleRouter, count: u16) -> Result<(), CaseError> {
     for number in 0..count {
         mount_numbered(alloc, router, number)?;
     }

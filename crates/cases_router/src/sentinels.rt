@@ -1,5 +1,5 @@
 //! Sentinels of a rocket that manages one value, under the key 1.
-use cases::CaseError;
+use cases::{CaseError, written};
 use either::Either;
 use rkt_base::{NoMemory, Want};
 use rkt_http::Key;
@@ -53,7 +53,7 @@ fn ask(
 ) -> Result<(), CaseError> {
     let rocket = Ignited { config, managed };
     let abort = abort_of(name, &rocket)?;
-    Ok(write!(out, "{abort}")?)
+    written(write!(out, "{abort}"))
 }
 
 /// Adds whether a sentinel has to abort the launch.

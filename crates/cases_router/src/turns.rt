@@ -2,7 +2,7 @@
 use crate::handlers::{Bare, Faults, Marks, Waits};
 use crate::replies::{body_of, push_error, push_outcome, push_response};
 use crate::words::status;
-use cases::{CaseError, first_word, parsed};
+use cases::{CaseError, first_word, parsed, written};
 use rkt_base::NoMemory;
 use rkt_data::MemorySource;
 use rkt_http::Status;
@@ -77,7 +77,7 @@ pub fn push_turns(
     let turns = parsed::<u32>(turns)?;
     let body = body_of(alloc, text)?;
     finish_named(alloc, request, ctx, name, turns, body, out)?;
-    Ok(push_changes(ctx, out)?)
+    written(push_changes(ctx, out))
 }
 
 /// Adds what a whole call of a catcher gives.

@@ -1,7 +1,7 @@
 //! Segments, URIs of routes, and media types.
-use crate::refusal::Refusal;
+use crate::refusal::push_misplaced;
 use crate::words::media_type;
-use cases::{CaseError, first_word};
+use cases::{CaseError, first_word, written};
 use rkt_base::NoMemory;
 use rkt_http::MediaType;
 use rkt_router::{Collide, RouteUri, Segment};
@@ -32,20 +32,27 @@ fn says_the_same(uri: &RouteUri) -> bool {
     uri.base() == uri.base_origin().path() && uri.as_str() == uri.origin().as_str()
 }
 
-fn push_uri(uri: &RouteUri, out: &mut String) -> Result<(), Refusal> {
+/// Adds that the other ways say something else.
+fn push_doubt(uri: &RouteUri, out: &mut String) -> Result<(), NoMemory> {
+    if says_the_same(uri) {
+        return Ok(());
+    }
+    out.push_str(" but")
+}
+
+fn push_uri(uri: &RouteUri, out: &mut String) -> Result<(), NoMemory> {
     push_origins(uri, out)?;
     push_parts(uri, out)?;
-    if !says_the_same(uri) {
-        out.push_str(" but")?;
-    }
-    Ok(())
+    push_doubt(uri, out)
 }
 
 /// Adds what a base and a path are mounted as.
-pub fn uri(alloc: Global, line: &str, out: &mut String) -> Result<(), Refusal> {
+pub fn uri(alloc: Global, line: &str, out: &mut String) -> Result<(), CaseError> {
     let (base, path) = first_word(line);
-    let uri = RouteUri::try_new(alloc, base, path)?;
-    push_uri(&uri, out)
+    match RouteUri::try_new(alloc, base, path) {
+        Ok(uri) => written(push_uri(&uri, out)),
+        Err(error) => push_misplaced(error, out),
+    }
 }
 
 fn push_collide(
@@ -56,7 +63,7 @@ fn push_collide(
 ) -> Result<(), CaseError> {
     let other = media_type(alloc, other)?;
     let collides = one.collides_with(&other);
-    Ok(write!(out, "{collides}")?)
+    written(write!(out, "{collides}"))
 }
 
 /// Adds whether two media types collide.
