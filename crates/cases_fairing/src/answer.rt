@@ -1,11 +1,13 @@
+use crate::ad_hoc::ad_hoc_answer;
 use crate::build::{
     Built, configure_answer, manage_answer, mount_answer, register_answer, text_answer,
 };
 use crate::kinds::{kinds_answer, read_event};
 use crate::named::{Named, read_named};
 use crate::shown::{push_active, push_audit, push_fairings};
+use crate::turns::{ask_answer, respond_answer};
 use cases::{Answers, CaseError, first_word, parsed};
-use rkt_fairing::{Attach, BuildingOf, Fairings, Slot};
+use rkt_fairing::{Attach, BuildingOf, Callback, Fairings, Slot};
 use rkt_request::ConfigTable;
 use rkt_shield::Shield;
 use std::alloc::Global;
@@ -71,6 +73,48 @@ fn at_answer(fairings: &Fairings<Named>, text: &str, out: &mut String) -> Result
     Ok(write!(out, "{name} of {}", fairings.count(event))?)
 }
 
+/// Puts another fairing in place of one that is called at an event.
+fn change_answer(
+    alloc: Global,
+    fairings: &mut Fairings<Named>,
+    text: &str,
+    out: &mut String,
+) -> Result<(), CaseError> {
+    let (event, rest) = first_word(text);
+    let (place, other) = first_word(rest);
+    let (event, place) = (read_event(event)?, parsed::<usize>(place)?);
+    let other = read_slot(alloc, other)?;
+    if !replace_at(fairings, event, place, other) {
+        return Ok(out.push_str("none")?);
+    }
+    Ok(push_fairings(out, fairings)?)
+}
+
+/// Whether there was one to be replaced.
+fn replace_at(
+    fairings: &mut Fairings<Named>,
+    event: Callback,
+    place: usize,
+    other: Slot<Named>,
+) -> bool {
+    match fairings.get_mut(event, place) {
+        Some(slot) => {
+            *slot = other;
+            true
+        }
+        None => false,
+    }
+}
+
+/// Adds the name of the next one that is called at ignition.
+fn ignite_answer(fairings: &mut Fairings<Named>, out: &mut String) -> Result<(), CaseError> {
+    let name = match fairings.next_ignite() {
+        Some(slot) => slot.info().name,
+        None => "none",
+    };
+    Ok(out.push_str(name)?)
+}
+
 /// Adds the answer to a line on fairings.
 fn fairings_answer(
     alloc: Global,
@@ -86,6 +130,8 @@ fn fairings_answer(
         "audit" => Ok(push_audit(out, &kept.built.fairings)?),
         "active" => Ok(push_active(out, &kept.built.fairings)?),
         "at" => at_answer(&kept.built.fairings, rest, out),
+        "change" => change_answer(alloc, &mut kept.built.fairings, rest, out),
+        "ignite" => ignite_answer(&mut kept.built.fairings, out),
         _ => Err(CaseError::Line),
     }
 }
@@ -112,6 +158,9 @@ impl Answers for Kept {
         let (command, rest) = first_word(line);
         match command {
             "kind" | "is" | "is_exactly" => kinds_answer(command, rest, out),
+            "adhoc" => ad_hoc_answer(alloc, rest, out),
+            "ask" => ask_answer(alloc, rest, out),
+            "respond" => respond_answer(alloc, rest, out),
             "build" => {
                 *self = Kept::new(alloc);
                 Ok(out.push_str("new")?)

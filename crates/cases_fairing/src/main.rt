@@ -15,16 +15,25 @@
 //! | `audit` | `ok`, or the names of those that were refused |
 //! | `active` | the places of those that are called among all that were attached, event by event |
 //! | `at EVENT NUMBER` | the name at a place of an event's list, and its length |
+//! | `change EVENT NUMBER NAME KEY KINDS` | another fairing is put in that place: the names by event, or `none` |
+//! | `ignite next` | the name of the first of ignition that still waits, which counts as ignited then, or `none` |
+//! | `adhoc KIND COMES NUMBER` | what an ad hoc fairing tells, what each of so many calls of it answers, and what they leave: at `ignite` and `try` how many fairings they attached, at `liftoff` the word of the shutdown that they notified; `shutdown` changes nothing |
+//! | `ask NAME`, `ask shield` | the end of the one turn of a call for a GET, and the method then: a fairing of a NAME makes a PUT of each request |
+//! | `respond NAME HEADER VALUE`, `respond shield HEADER VALUE` | the same for a response with this header, or without any, and its headers then: a fairing of a NAME adds its name, and the shield has its policies by default |
 //!
+//! COMES is what comes of the change behind it: `done`, `refused` or `starved`.
 //! The builder and the other list are kept from line to line. KINDS and EVENTs are the names of kinds, parted by blanks, and
 //! `-` for no kind; a NAME is `ada`, `bob` or `cy`.
 #![tactic(auto)]
 
+mod ad_hoc;
 mod answer;
 mod build;
 mod kinds;
 mod named;
 mod shown;
+mod site;
+mod turns;
 
 use crate::answer::Kept;
 use cases::answer_lines;

@@ -12,6 +12,21 @@ pub struct Named {
     kind: Kind,
 }
 
+impl Named {
+    /// One that is called for requests.
+    pub fn for_requests() -> Named {
+        Named {
+            name: "bob",
+            key: 2,
+            kind: Kind::Request,
+        }
+    }
+
+    pub fn name(&self) -> &'static str {
+        self.name
+    }
+}
+
 impl Attach for Named {
     ghost key = { λ f. record { 0 = f.key } };
 
@@ -47,4 +62,11 @@ pub fn read_named(text: &str) -> Result<Named, CaseError> {
         key: parsed::<u32>(key)?,
         kind: read_kind(kinds)?,
     })
+}
+
+/// The fairing of this name, for requests.
+pub fn read_called(text: &str) -> Result<Named, CaseError> {
+    let mut named = Named::for_requests();
+    named.name = read_name(text)?;
+    Ok(named)
 }

@@ -1,7 +1,10 @@
 pub mod Flags
 pub mod Grown
+pub mod Lent
 pub mod Moved
 pub mod Moving
 pub mod Room
+pub mod Shielding
 pub mod Sound
 pub mod Stands
+pub mod Turned

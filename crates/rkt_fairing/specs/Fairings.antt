@@ -1,5 +1,5 @@
 -- Fairings in the order in which they were attached, and which of them are called at each event.
-use Rattle.std.specs.Prelude.{◌≡◌, ◌≤◌, ◌+◌, ◌∷◌, ◌++◌, ℕ, [], List, Bool, Option, length, map, take, slice_get, if◌then◌else◌, vec_len, vec_capacity}
+use Rattle.std.specs.Prelude.{◌≡◌, ◌≤◌, ◌+◌, ◌∷◌, ◌++◌, ℕ, [], List, Bool, Option, length, map, take, slice_get, if◌then◌else◌, vec_len, vec_capacity, slice_index, slice_set}
 use Rattle.std.specs.List.{list_any}
 use Rattle.std.specs.Option.{option_and_then}
 use Rattle.rkt_http.specs.declared.key.Key.{Key}
@@ -8,6 +8,7 @@ use Rattle.rkt_fairing.specs.Places.{SeenPlaces, AreBelow, HaveRoom, joined, no_
 use Rattle.rkt_fairing.specs.Slot.{slot_info, slot_key}
 use Rattle.rkt_fairing.specs.Told.{SeenTold, has_key, is_other}
 use Rattle.rkt_fairing.specs.declared.callback.Callback.{Callback}
+use Rattle.rkt_fairing.specs.declared.callback.Callback.TheVariants.{Ignite}
 use Rattle.rkt_fairing.specs.declared.lists.Lists.{Lists}
 use Rattle.rkt_fairing.specs.declared.slot.Slot.{Slot}
 
@@ -58,6 +59,14 @@ added key info fairings slot = admitted slot (record { key = slot_key key slot; 
 -- the fairing at a place of an event's list
 abbrev pub fairing_at : {F : Type 0} → Callback → SeenFairings F → ℕ → Option (Slot F)
 fairing_at callback fairings n = option_and_then (slice_get fairings.slots) (slice_get (places_of callback fairings.places) n)
+
+-- the one there is another one; what was told stays told
+abbrev pub with_fairing_at : {F : Type 0} → Callback → SeenFairings F → ℕ → Slot F → SeenFairings F
+with_fairing_at callback fairings n slot = record fairings { slots = slice_set fairings.slots (slice_index (places_of callback fairings.places) n) slot }
+
+-- the first of those that are called at ignition that still waits is another one, and counts as ignited
+abbrev pub with_next_ignited : {F : Type 0} → SeenFairings F → Slot F → SeenFairings F
+with_next_ignited fairings slot = record (with_fairing_at Ignite fairings fairings.ignited slot) { ignited = fairings.ignited + 1 }
 
 -- each position is that of a fairing, which told something
 pub record AreSound {F : Type 0} (fairings : SeenFairings F) : Type 0 where

@@ -4,9 +4,11 @@ pub mod Building
 pub mod Callbacks
 pub mod Changes
 pub mod Fairings
+pub mod InSlot
 pub mod Info
 pub mod Kind
 pub mod Life
+pub mod LifeChanges
 pub mod Names
 pub mod Places
 pub mod Slot

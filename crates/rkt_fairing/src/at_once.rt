@@ -47,7 +47,8 @@ pub trait ChangesResponse<A: Types> {
         ensures grows { MayGrow ctx.old ctx.new };
 }
 
-/// Stands for being called as `ChangesRequest` or `ChangesResponse` says: it is done at the first poll that finds memory.
+/// Stands for being called as `ChangesRequest` or `ChangesResponse` says: it is done at the first poll that finds memory. At
+/// ignition, at liftoff and at a shutdown it stands for `TriesBuilding`, `SeesLiftoff` and `SeesShutdown`.
 #[derive(Clone, Copy, Debug, PartialEq, Eq, Drop)]
 pub struct AtOnce;
 

@@ -14,7 +14,7 @@ use std::marker::Model;
 /// What was attached to a rocket, in order, and which of it is called at each event.
 #[derive(Drop)]
 pub struct Fairings<F> {
-    lists: Lists<F>,
+    pub(crate) lists: Lists<F>,
 }
 
 impl<F> Model for Fairings<F> {

@@ -1,0 +1,256 @@
+//! Ad hoc changes of a rocket's life.
+use crate::named::Named;
+use crate::site::{Site, Sorry, Stopped};
+use cases::{CaseError, first_word, parsed};
+use rkt_base::NoMemory;
+use rkt_fairing::{
+    AdHoc, Attach, Building, BuildingOf, Callback, ChangesBuilding, OnIgnite, OnLiftoff,
+    OnShutdown, SeesLiftoff, SeesShutdown, Slot, TriesBuilding, TryOnIgnite, View, ViewOf,
+};
+use rkt_http::Key;
+use rkt_request::{Config, ConfigTable, Managed};
+use rkt_router::{Answering, Dummy, Router, Step};
+use rkt_turn::{Shutdown, TripWire};
+use std::alloc::{AllocError, Global};
+
+/// What comes of a change once it was made.
+#[derive(Clone, Copy, Drop)]
+enum Comes {
+    Done,
+    Refused,
+    Starved,
+}
+
+impl Comes {
+    // Where it may not be refused.
+    fn made(self) -> Result<(), NoMemory> {
+        match self {
+            Comes::Starved => Err(AllocError),
+            _ => Ok(()),
+        }
+    }
+
+    fn tried(self) -> Result<Result<(), ()>, NoMemory> {
+        match self {
+            Comes::Done => Ok(Ok(())),
+            Comes::Refused => Ok(Err(())),
+            Comes::Starved => Err(AllocError),
+        }
+    }
+}
+
+// It attaches a fairing that is called for requests.
+impl ChangesBuilding<Site, Named> for Comes {
+    fn on_ignite(
+        &mut self,
+        _alloc: Global,
+        building: &mut Building<Site, Named>,
+    ) -> Result<(), NoMemory> {
+        building.attach(Slot::App(Named::for_requests()))?;
+        self.made()
+    }
+}
+
+impl TriesBuilding<Site, Named> for Comes {
+    fn try_on_ignite(
+        &mut self,
+        _alloc: Global,
+        building: &mut Building<Site, Named>,
+    ) -> Result<Result<(), ()>, NoMemory> {
+        building.attach(Slot::App(Named::for_requests()))?;
+        self.tried()
+    }
+}
+
+// It notifies a shutdown.
+impl SeesLiftoff<Site> for Comes {
+    fn on_liftoff(
+        &mut self,
+        _alloc: Global,
+        _view: &View<'_, Site>,
+        shutdown: &mut Shutdown<Stopped>,
+    ) -> Result<(), NoMemory> {
+        shutdown.notify(Stopped);
+        self.made()
+    }
+}
+
+impl SeesShutdown<Site> for Comes {
+    fn on_shutdown(&self, _alloc: Global, _view: &View<'_, Site>) -> Result<(), NoMemory> {
+        self.made()
+    }
+}
+
+fn read_comes(text: &str) -> Result<Comes, CaseError> {
+    match text {
+        "done" => Ok(Comes::Done),
+        "refused" => Ok(Comes::Refused),
+        "starved" => Ok(Comes::Starved),
+        _ => Err(CaseError::Line),
+    }
+}
+
+fn push_step(out: &mut String, step: Step<()>) -> Result<(), NoMemory> {
+    match step {
+        Step::Done(()) => out.push_str("done "),
+        Step::Starved => out.push_str("starved "),
+        Step::Pending | Step::Fault => out.push_str("? "),
+    }
+}
+
+fn push_tried(out: &mut String, step: Step<Result<(), ()>>) -> Result<(), NoMemory> {
+    match step {
+        Step::Done(Ok(())) => out.push_str("done "),
+        Step::Done(Err(())) => out.push_str("refused "),
+        Step::Starved => out.push_str("starved "),
+        Step::Pending | Step::Fault => out.push_str("? "),
+    }
+}
+
+type SiteBuilding = Building<Site, Named>;
+
+fn new_building(alloc: Global) -> SiteBuilding {
+    BuildingOf::new(alloc, ConfigTable::new(alloc))
+}
+
+fn push_ignited(
+    alloc: Global,
+    ad_hoc: &mut OnIgnite<Comes>,
+    calls: usize,
+    out: &mut String,
+) -> Result<(), NoMemory> {
+    let mut building = new_building(alloc);
+    for _ in 0..calls {
+        push_tried(out, ad_hoc.run::<Site, Named>(alloc, &mut building))?;
+    }
+    write!(out, "{}", building.fairings.count(Callback::Request))
+}
+
+fn push_tries(
+    alloc: Global,
+    ad_hoc: &mut TryOnIgnite<Comes>,
+    calls: usize,
+    out: &mut String,
+) -> Result<(), NoMemory> {
+    let mut building = new_building(alloc);
+    for _ in 0..calls {
+        push_tried(out, ad_hoc.run::<Site, Named>(alloc, &mut building))?;
+    }
+    write!(out, "{}", building.fairings.count(Callback::Request))
+}
+
+/// A rocket in orbit, as fairings see it.
+#[derive(Drop)]
+pub struct Orbit {
+    pub config: Config,
+    pub managed: Managed<u32>,
+    router: Router<Dummy, Answering<Sorry>, ()>,
+}
+
+impl Orbit {
+    pub fn new(alloc: Global) -> Result<Orbit, NoMemory> {
+        Ok(Orbit {
+            config: Config::default(alloc)?,
+            managed: Managed::new(alloc),
+            router: Router::new(alloc),
+        })
+    }
+
+    fn view(&self) -> View<'_, Site> {
+        ViewOf {
+            config: &self.config,
+            managed: &self.managed,
+            router: &self.router,
+        }
+    }
+}
+
+fn push_liftoffs(
+    alloc: Global,
+    ad_hoc: &mut OnLiftoff<Comes>,
+    calls: usize,
+    out: &mut String,
+) -> Result<(), NoMemory> {
+    let orbit = Orbit::new(alloc)?;
+    let (_wire, mut shutdown) = TripWire::<Stopped>::new(alloc)?;
+    for _ in 0..calls {
+        push_step(out, ad_hoc.run::<Site>(alloc, &orbit.view(), &mut shutdown))?;
+    }
+    write!(out, "{}", shutdown.seen())
+}
+
+fn push_shutdowns(
+    alloc: Global,
+    ad_hoc: &OnShutdown<Comes>,
+    calls: usize,
+    out: &mut String,
+) -> Result<(), NoMemory> {
+    let orbit = Orbit::new(alloc)?;
+    for _ in 0..calls {
+        push_step(out, ad_hoc.run::<Site>(alloc, &orbit.view()))?;
+    }
+    Ok(())
+}
+
+/// Adds what an ad hoc fairing tells, and what its calls answer.
+pub fn ad_hoc_answer(alloc: Global, text: &str, out: &mut String) -> Result<(), CaseError> {
+    let (kind, rest) = first_word(text);
+    let (comes, calls) = first_word(rest);
+    let (comes, calls) = (read_comes(comes)?, parsed::<usize>(calls)?);
+    match kind {
+        "ignite" => ignite_answer(alloc, comes, calls, out),
+        "try" => try_answer(alloc, comes, calls, out),
+        "liftoff" => liftoff_answer(alloc, comes, calls, out),
+        "shutdown" => shutdown_answer(alloc, comes, calls, out),
+        _ => Err(CaseError::Line),
+    }
+}
+
+fn push_info<F: Attach>(out: &mut String, fairing: &F) -> Result<(), NoMemory> {
+    let info = fairing.info();
+    write!(out, "{} {} {}: ", info.name, fairing.key().0, info.kind)
+}
+
+fn ignite_answer(
+    alloc: Global,
+    comes: Comes,
+    calls: usize,
+    out: &mut String,
+) -> Result<(), CaseError> {
+    let mut ad_hoc = AdHoc::on_ignite("ada", Key(1), comes);
+    push_info(out, &ad_hoc)?;
+    Ok(push_ignited(alloc, &mut ad_hoc, calls, out)?)
+}
+
+fn try_answer(
+    alloc: Global,
+    comes: Comes,
+    calls: usize,
+    out: &mut String,
+) -> Result<(), CaseError> {
+    let mut ad_hoc = AdHoc::try_on_ignite("bob", Key(2), comes);
+    push_info(out, &ad_hoc)?;
+    Ok(push_tries(alloc, &mut ad_hoc, calls, out)?)
+}
+
+fn liftoff_answer(
+    alloc: Global,
+    comes: Comes,
+    calls: usize,
+    out: &mut String,
+) -> Result<(), CaseError> {
+    let mut ad_hoc = AdHoc::on_liftoff("cy", Key(3), comes);
+    push_info(out, &ad_hoc)?;
+    Ok(push_liftoffs(alloc, &mut ad_hoc, calls, out)?)
+}
+
+fn shutdown_answer(
+    alloc: Global,
+    comes: Comes,
+    calls: usize,
+    out: &mut String,
+) -> Result<(), CaseError> {
+    let ad_hoc = AdHoc::on_shutdown("dan", Key(4), comes);
+    push_info(out, &ad_hoc)?;
+    Ok(push_shutdowns(alloc, &ad_hoc, calls, out)?)
+}

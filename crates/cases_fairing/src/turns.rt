@@ -1,0 +1,169 @@
+//! Turns of what is attached: by the bounds alone, of a shield with its policies by default, or of a fairing.
+use crate::ad_hoc::Orbit;
+use crate::named::{Named, read_called};
+use crate::site::{Site, Stopped};
+use cases::{CaseError, first_word};
+use rkt_base::NoMemory;
+use rkt_cookie::CookieJar;
+use rkt_data::{Data, Gate, MemorySource};
+use rkt_fairing::{
+    AtOnce, ChangesRequest, ChangesResponse, InSlot, RequestCallback, ResponseCallback, Slot,
+    turn_request, turn_response,
+};
+use rkt_http::{Method, Origin};
+use rkt_request::{Body0, Ctx, Request};
+use rkt_response::Response;
+use rkt_router::{Final, Turn};
+use rkt_shield::Shield;
+use rkt_turn::TripWire;
+use std::alloc::Global;
+
+const GATE: Gate = Gate {
+    moment: 0,
+    tripped: None,
+    grace: 2,
+    mercy: 3,
+};
+
+// It makes a PUT of each request.
+impl ChangesRequest<Site> for Named {
+    fn on_request(
+        &self,
+        _alloc: Global,
+        request: &mut Request<'_, Site>,
+        _body: &mut Body0<Site>,
+        _ctx: &mut Ctx<Site>,
+    ) -> Result<(), NoMemory> {
+        request.set_method(Method::Put);
+        Ok(())
+    }
+}
+
+// It adds its name to each response.
+impl ChangesResponse<Site> for Named {
+    fn on_response(
+        &self,
+        _alloc: Global,
+        _request: &Request<'_, Site>,
+        response: &mut Response<MemorySource>,
+        _ctx: &mut Ctx<Site>,
+    ) -> Result<(), NoMemory> {
+        response.adjoin_raw_header("X-Name", self.name())
+    }
+}
+
+fn push_turn(out: &mut String, turn: Turn<()>) -> Result<(), NoMemory> {
+    out.push_str(match turn {
+        Turn::Pending => "pending",
+        Turn::Over(Final::Done(())) => "done",
+        Turn::Over(Final::FailedTurn) => "failed turn",
+        Turn::Over(Final::Starved) => "starved",
+    })
+}
+
+/// One turn for a request.
+fn push_request_turn<P: RequestCallback<Site, Slot<Named>>>(
+    alloc: Global,
+    out: &mut String,
+    slot: &Slot<Named>,
+    request: &mut Request<'_, Site>,
+    ctx: &mut Ctx<Site>,
+) -> Result<(), NoMemory> {
+    let mut task = P::start(slot);
+    let mut body = Data::local(Vec::new(alloc));
+    let turn = turn_request::<Site, Slot<Named>, P>(
+        alloc, slot, 1, 0, &mut task, request, &mut body, ctx,
+    );
+    push_turn(out, turn)
+}
+
+/// One turn for a response.
+fn push_response_turn<Q: ResponseCallback<Site, Slot<Named>>>(
+    alloc: Global,
+    out: &mut String,
+    slot: &Slot<Named>,
+    request: &Request<'_, Site>,
+    response: &mut Response<MemorySource>,
+    ctx: &mut Ctx<Site>,
+) -> Result<(), NoMemory> {
+    let mut task = Q::start(slot, request);
+    let turn = turn_response::<Site, Slot<Named>, Q>(
+        alloc, slot, 1, 0, &mut task, request, response, ctx,
+    );
+    push_turn(out, turn)
+}
+
+fn read_called_slot(alloc: Global, text: &str) -> Result<Slot<Named>, CaseError> {
+    if text == "shield" {
+        return Ok(Slot::Shield(Shield::default(alloc)?));
+    }
+    Ok(Slot::App(read_called(text)?))
+}
+
+fn context(alloc: Global) -> Result<Ctx<Site>, NoMemory> {
+    let (_wire, shutdown) = TripWire::<Stopped>::new(alloc)?;
+    Ok(Ctx::new(alloc, CookieJar::new(alloc), shutdown, GATE))
+}
+
+fn request(alloc: Global, orbit: &Orbit) -> Result<Request<'_, Site>, CaseError> {
+    let uri = Origin::parse(alloc, "/")?;
+    Ok(Request::new(alloc, &orbit.config, &orbit.managed, Method::Get, uri)?)
+}
+
+/// Adds the answer to a line on what is done to a request.
+pub fn ask_answer(alloc: Global, text: &str, out: &mut String) -> Result<(), CaseError> {
+    let slot = read_called_slot(alloc, text)?;
+    let orbit = Orbit::new(alloc)?;
+    ask(alloc, &slot, &orbit, out)
+}
+
+fn ask(
+    alloc: Global,
+    slot: &Slot<Named>,
+    orbit: &Orbit,
+    out: &mut String,
+) -> Result<(), CaseError> {
+    let mut request = request(alloc, orbit)?;
+    let mut ctx = context(alloc)?;
+    push_request_turn::<InSlot<AtOnce>>(alloc, out, slot, &mut request, &mut ctx)?;
+    out.push_str(" ")?;
+    Ok(out.push_str(request.method().as_str())?)
+}
+
+/// The response with the header that a line says, if any.
+fn read_response(alloc: Global, text: &str) -> Result<Response<MemorySource>, NoMemory> {
+    let mut response = Response::new(alloc);
+    if !text.is_empty() {
+        let (name, value) = first_word(text);
+        response.adjoin_raw_header(name, value)?;
+    }
+    Ok(response)
+}
+
+fn push_headers(out: &mut String, response: &Response<MemorySource>) -> Result<(), NoMemory> {
+    for (name, value) in response.headers().iter() {
+        write!(out, " | {name}: {value}")?;
+    }
+    Ok(())
+}
+
+/// Adds the answer to a line on what is done to a response.
+pub fn respond_answer(alloc: Global, text: &str, out: &mut String) -> Result<(), CaseError> {
+    let (called, header) = first_word(text);
+    let slot = read_called_slot(alloc, called)?;
+    let mut response = read_response(alloc, header)?;
+    respond(alloc, &slot, &mut response, out)?;
+    Ok(push_headers(out, &response)?)
+}
+
+fn respond(
+    alloc: Global,
+    slot: &Slot<Named>,
+    response: &mut Response<MemorySource>,
+    out: &mut String,
+) -> Result<(), CaseError> {
+    let orbit = Orbit::new(alloc)?;
+    let request = request(alloc, &orbit)?;
+    let mut ctx = context(alloc)?;
+    Ok(push_response_turn::<InSlot<AtOnce>>(alloc, out, slot, &request, response, &mut ctx)?)
+}

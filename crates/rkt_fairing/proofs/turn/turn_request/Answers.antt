@@ -1,0 +1,19 @@
+use Rattle.std.proofs.Common.{arith}
+use Rattle.std.proofs.lemmas.Bool.Decides.{nat_tests}
+use Rattle.rkt_router.specs.CallLaws.{turn_made}
+use Rattle.rkt_fairing.proofs.Turned.{request_poll_grows}
+use Rattle.rkt_fairing.proofs.turn.turn_request.Goals as goal
+
+pub poll-step-requires : goal.poll-step-requires
+poll-step-requires g c = (c.requires.1, c.requires.2.gates, c.args.turn, c.requires.2.goes.begun)
+
+pub returns-clause-gives : goal.returns-clause-gives
+returns-clause-gives g c = λ rule before fits making.
+    rw c.of.ensures (turn_made g.P.RequestCallback.calling rule c.args.turns c.args.fairing.now tt before (record { request = c.args.request.now; body = c.args.body.now; kept = c.args.ctx.now.kept })
+    (record { request = c.poll-step.new.request; body = c.poll-step.new.body; kept = c.poll-step.new.ctx.kept }) c.args.ctx.now.gate c.args.task.now c.poll-step.new.task c.args.turn _ c.poll-step.result
+    (λ h. grind (arith, nat_tests, h), λ h. grind (arith, nat_tests, h)) fits making c.poll-step.ensures.polls)
+
+pub returns-clause-grows : goal.returns-clause-grows
+returns-clause-grows g c = λ rule before making.
+    request_poll_grows g.P.RequestCallback.calling g.met.P.RequestCallback.keeps c.args.fairing.now tt rule c.args.turns before (record { request = c.args.request.now; body = c.args.body.now; kept = c.args.ctx.now.kept })
+    (record { request = c.poll-step.new.request; body = c.poll-step.new.body; kept = c.poll-step.new.ctx.kept }) c.args.ctx.now.gate c.args.turn c.args.task.now c.poll-step.new.task c.poll-step.result making c.poll-step.ensures.polls
