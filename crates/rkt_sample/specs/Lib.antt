@@ -1,0 +1,12 @@
+pub mod Added
+pub mod Bodies
+pub mod Catching
+pub mod CatchingLaws
+pub mod Echo
+pub mod Greeting
+pub mod Laws
+pub mod MadeLaws
+pub mod Mounted
+pub mod Replies
+pub mod Routing
+pub mod RoutingLaws
