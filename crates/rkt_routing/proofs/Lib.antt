@@ -1,0 +1,4 @@
+pub mod Endings
+pub mod Routes
+pub mod Statuses
+pub mod Steps

@@ -1,0 +1,13 @@
+pub mod Backs
+pub mod Beginning
+pub mod Between
+pub mod BetweenLaws
+pub mod Found
+pub mod MakingLaws
+pub mod Ranks
+pub mod Recorded
+pub mod Relations
+pub mod Routed
+pub mod RoutedLaws
+pub mod Stands
+pub mod Table

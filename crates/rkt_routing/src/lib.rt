@@ -1,0 +1,17 @@
+//! How a request is routed to its response: routes are tried, forwards reach the next one, errors reach their catcher, poll by
+//! poll.
+#![tactic(auto)]
+
+mod catching;
+mod recording;
+mod routing;
+mod run;
+mod stage;
+mod table;
+mod trying;
+
+pub use recording::recorded;
+pub use routing::{Routed, RoutingOf};
+pub use run::{Answer, Call, Which};
+pub use stage::{Live, LiveOf, RoutedOf};
+pub use table::TableOf;

@@ -1,0 +1,193 @@
+//! How a request is routed, poll by poll.
+ghost use Rattle.std.specs.Prelude.{◌≡◌, IsSome};
+ghost use Rattle.rkt_router.specs.Calls.{GateRule, GateFits};
+ghost use Rattle.rkt_cancel.specs.Cancel.{Cancellable};
+ghost use Rattle.rkt_data.specs.Body.{Body};
+ghost use Rattle.rkt_routing.specs.Beginning.{Beginning};
+ghost use Rattle.rkt_routing.specs.Relations.{relations};
+ghost use Rattle.rkt_routing.specs.Stands.{PolledGives, StandsFor, begins};
+
+use crate::catching::{begin_catch, catch_turned};
+use crate::stage::{Live, LiveOf, Moved, Stage, StageOf, Underway, UnderwayOf};
+use crate::trying::{begin_route, route_turned};
+use crate::{RoutedOf, TableOf};
+use rkt_base::{Poll, Seq};
+use rkt_data::Gate;
+use rkt_http::Status;
+use rkt_request::{Bad, Body0, Ctx, Request, Types};
+use rkt_router::{CatchHandler, Handler, Router, turn_catch, turn_handler};
+use rkt_turn::Shutdown;
+use std::alloc::Global;
+use std::marker::Model;
+
+/// A request on its way to its response, by handlers H and catchers K.
+#[derive(Drop)]
+pub struct RoutingOf<'a, T: Types, H: Handler<T>, K: CatchHandler<T>, N> {
+    alloc: Global,
+    router: &'a Router<H, K, N>,
+    turns: u32,
+    live: Option<UnderwayOf<'a, T, H, K>>,
+}
+
+impl<'a, T: Types, H: Handler<T>, K: CatchHandler<T>, N> Model for RoutingOf<'a, T, H, K, N> {
+    ghost use Rattle.rkt_cancel.specs.Cancel.{Cancellable};
+    ghost use Rattle.rkt_data.specs.Body.{Body};
+    ghost use Rattle.rkt_routing.specs.Stands.{Holding, IsSound};
+
+    ghost Value = { Holding T.Value (Body (Cancellable T.Source)) T.Cached H H.Task K K.Task N };
+
+    ghost view = { λ r. record { table = record { router = r.router.now; turns = r.turns }; live = r.live } };
+
+    ghost invariant = { λ r. IsSound H.calling K.calling (record { table = record { router = r.router.now; turns = r.turns }; live = r.live }) };
+}
+
+/// What routing a request of an application comes to.
+pub type Routed<'a, T> = RoutedOf<
+    Request<'a, T>,
+    Ctx<T>,
+    <T as Types>::Stream,
+    Shutdown<<T as Types>::Reason>,
+>;
+
+// Ends routing for which there is no memory.
+fn give_up<'a, T: Types>(live: LiveOf<'a, T>) -> Routed<'a, T>
+    ensures { result ≡ RoutedOf.Starved live.entry.ctx.kept.shutdown }
+{
+    let Live {
+        request: _,
+        ctx,
+        calls: _,
+    } = live;
+    let (_, _, shutdown) = ctx.into_parts();
+    RoutedOf::Starved { shutdown }
+}
+
+// Where routing begins: a bad request, which has faults, is answered by the catcher of 400.
+fn begin<T: Types, H: Handler<T>, K: CatchHandler<T>>(
+    faults: &[Bad],
+    body: Body0<T>,
+) -> StageOf<T, H, K>
+    ensures { result ≡ begins faults.now body }
+{
+    match faults {
+        [] => Stage::Next {
+            behind: None,
+            body,
+            status: Status::NotFound,
+            again: false,
+        },
+        [..] => Stage::Catch {
+            status: Status::BadRequest,
+        },
+    }
+}
+
+impl<'a, T: Types, H: Handler<T> + Drop, K: CatchHandler<T> + Drop, N: Drop> RoutingOf<
+    'a,
+    T,
+    H,
+    K,
+    N,
+> {
+    /// Begins to route a request, with what is wrong with it; nothing is called for it before the first poll. A callback may
+    /// be polled `turns` times, and once where that is 0.
+    pub fn new(
+        alloc: Global,
+        router: &'a Router<H, K, N>,
+        turns: u32,
+        request: Request<'a, T>,
+        faults: &[Bad],
+        body: Body0<T>,
+        ctx: Ctx<T>,
+    ) -> RoutingOf<'a, T, H, K, N>
+        ensures table { result.table ≡ record { router = router.entry.now; turns = turns } }
+        ensures going { IsSome result.live }
+        ensures stands { (rule : GateRule)
+            → StandsFor (relations H.calling K.calling rule) (record { at = record { request = request.entry; body = body; kept = ctx.kept }; faults = faults.now }) result.table result.live }
+    {
+        let stage = begin::<T, H, K>(faults, body);
+        let live = Live {
+            request,
+            ctx,
+            calls: Seq::new(alloc),
+        };
+        RoutingOf {
+            alloc,
+            router,
+            turns,
+            live: Some(Underway { live, stage }),
+        }
+    }
+
+    /// Goes on under a Gate, until a callback is Pending or there is a response. Where it was Ready it is not polled again.
+    pub fn poll(&mut self, gate: Gate) -> Poll<Routed<'a, T>>
+        requires going { IsSome self.old.live }
+        ensures table { self.new.table ≡ self.old.table }
+        ensures going { result ≡ Poll.Pending → IsSome self.new.live }
+        ensures gives { (rule : GateRule) (first : Beginning T.Value (Body (Cancellable T.Source)) T.Cached) → GateFits rule gate
+            → StandsFor (relations H.calling K.calling rule) first self.old.table self.old.live
+            → PolledGives (relations H.calling K.calling rule) first self.new.table gate self.new.live result }
+    {
+        let Some(underway) = self.live.take() else {
+            unreachable!();
+        };
+        let Underway {
+            mut live,
+            mut stage,
+        } = underway;
+        let alloc = self.alloc;
+        let table = TableOf {
+            router: self.router,
+            turns: self.turns,
+        };
+        live.ctx.set_gate(gate);
+        loop {
+            let moved = match stage {
+                Stage::Next {
+                    behind,
+                    body,
+                    status,
+                    again,
+                } => begin_route(&table, &mut live, behind, body, status, again),
+                Stage::Trying(mut call) => {
+                    let lent = &mut live;
+                    let turn = turn_handler(
+                        alloc,
+                        &table.route(call.position).handler,
+                        table.turns(),
+                        call.turn,
+                        &mut call.task,
+                        &lent.request,
+                        &mut lent.ctx,
+                    );
+                    call.turn += 1;
+                    route_turned(&table, &mut live, call, turn)
+                }
+                Stage::Catch { status } => begin_catch(alloc, &table, &mut live, status),
+                Stage::Catching(mut call) => {
+                    let lent = &mut live;
+                    let turn = turn_catch(
+                        alloc,
+                        table.handler(call.position),
+                        table.turns(),
+                        call.turn,
+                        &mut call.task,
+                        &lent.request,
+                        &mut lent.ctx,
+                    );
+                    call.turn += 1;
+                    catch_turned(alloc, &table, &mut live, call, turn)
+                }
+            };
+            match moved {
+                Moved::Going(next) => stage = next,
+                Moved::Pending(next) => {
+                    self.live = Some(Underway { live, stage: next });
+                    return Poll::Pending;
+                }
+                Moved::Ended(response) => return Poll::Ready(RoutedOf::Found { live, response }),
+                Moved::Starved => return Poll::Ready(give_up(live)),
+            }
+        }
+    }
+}
