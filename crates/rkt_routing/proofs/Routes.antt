@@ -1,6 +1,7 @@
 -- The walk over the routes of a request.
-use Rattle.std.specs.Prelude.{◌≡◌, ◌++◌, ◌+◌, ◌<◌, ℕ, List, [], ◌∷◌, Bool, true, false, Option, Some, None, slice_get}
+use Rattle.std.specs.Prelude.{◌≡◌, ◌++◌, ◌+◌, ◌<◌, ℕ, List, [], ◌∷◌, Bool, true, false, Option, Some, None, length, slice_get}
 use Rattle.std.proofs.Common.{refl, sym, ap, ◌∙◌, subst}
+use Rattle.std.proofs.lemmas.Option.{slice_get_within}
 use Rattle.rkt_http.specs.declared.method.Method.TheVariants.{Get}
 use Rattle.rkt_http.specs.declared.outcome.Outcome.TheVariants.{Success, Error, Forward}
 use Rattle.rkt_http.specs.declared.status.Status.{Status}
@@ -31,10 +32,6 @@ use Rattle.rkt_routing.specs.declared.stage.Stage.TheVariants as stage
 use Rattle.rkt_routing.specs.Table.{SeenTable}
 use Rattle.rkt_routing.specs.MakingLaws.{pends, some_turns}
 use Rattle.rkt_routing.proofs.Steps.{between_call, between_on, follows_again, follows_error, follows_forward, follows_success, walks_none}
-
--- what is read twice is the same
-pub same_read : {X : Type 0} (xs : List X) (i : ℕ) {x y : X} → slice_get xs i ≡ Some x → slice_get xs i ≡ Some y → x ≡ y
-same_read xs i e f = cc (e, f)
 
 module _ {V B C S H HTask K KTask N : Type 0} (rel : Relations V B C S H HTask K KTask) (first : Beginning V B C) (table : SeenTable H K N) where
   -- no route is left
@@ -118,6 +115,18 @@ module _ {V B C S H HTask K KTask N : Type 0} (rel : Relations V B C S H HTask K
     grows = grows;
     made = rw request_is made;
   }
+
+  -- its place is one of the routes, and its call is under way
+  pub trying_within : (live : Live (Seen V) (Lent C)) (position : ℕ) (task : HTask) (n : ℕ) (again : Bool) → Trying rel first table live position task n again → position < length table.router.routes
+  trying_within live position task n again was = slice_get_within table.router.routes position was.route was.found
+
+  pub trying_makes : (live : Live (Seen V) (Lent C)) (position : ℕ) (task : HTask) (n : ℕ) (again : Bool) (route : Route H N) (turns : ℕ) → turns ≡ turns_of table → slice_get table.router.routes position ≡ Some route
+      → (was : Trying rel first table live position task n again)
+      → Making rel.handlers rel.gates turns route.handler (record { request = live.request; body = was.before.body }) was.before.kept task live.ctx.kept n
+  trying_makes live position task n again route turns turns_is found was =
+      let same : route ≡ was.route = cc (found, was.found) in
+      subst (λ t. Making rel.handlers rel.gates t route.handler (record { request = live.request; body = was.before.body }) was.before.kept task live.ctx.kept n) (sym turns_is)
+      (subst (λ r. Making rel.handlers rel.gates (turns_of table) r.handler (record { request = live.request; body = was.before.body }) was.before.kept task live.ctx.kept n) (sym same) was.making)
 
   -- a turn of its call was made, of which there are so many
   pub trying_turned : (live : Live (Seen V) (Lent C)) (ctx : Lent C) (position : ℕ) (task task' : HTask) (n : ℕ) (again : Bool) (route : Route H N) (turns : ℕ) (made : Turn (Reply S B))

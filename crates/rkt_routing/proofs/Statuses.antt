@@ -7,7 +7,6 @@ use Rattle.rkt_request.specs.Lent.{Kept, Lent, Grows}
 use Rattle.rkt_request.specs.LentLaws.{grows_same}
 use Rattle.rkt_request.specs.Seen.{Seen}
 use Rattle.rkt_route.specs.declared.catcher.Catcher.{Catcher}
-use Rattle.rkt_route.specs.declared.catcher.Catching.{Catching as CatchingOf}
 use Rattle.rkt_route.specs.declared.catcher.Catching.TheVariants.{Rocket, App}
 use Rattle.rkt_router.specs.Calling.{Polls, Starts}
 use Rattle.rkt_router.specs.CallLaws.{making_begins}
@@ -31,10 +30,6 @@ use Rattle.rkt_routing.specs.declared.stage.Stage.TheVariants as stage
 use Rattle.rkt_routing.specs.Table.{SeenTable}
 use Rattle.rkt_routing.specs.MakingLaws.{pends, some_turns}
 use Rattle.rkt_routing.proofs.Steps.{between_call, between_on}
-
--- a catcher has one handler
-pub same_handler : {K : Type 0} {catching : CatchingOf K} {x y : K} → catching ≡ App x → catching ≡ App y → x ≡ y
-same_handler e f = cc (e, f)
 
 module _ {V B C S H HTask K KTask N : Type 0} (rel : Relations V B C S H HTask K KTask) (first : Beginning V B C) (table : SeenTable H K N) where
   -- no catcher is chosen
@@ -122,6 +117,15 @@ module _ {V B C S H HTask K KTask N : Type 0} (rel : Relations V B C S H HTask K
     grows = grows;
     made = once_app reply (λ m. subst (λ h. CatcherReplies rel table h status live'.request was.before reply live'.ctx.kept) (sym was.handles) (rw request_is m)) made;
   }
+
+  -- its handler's call is under way
+  pub catching_makes : (live : Live (Seen V) (Lent C)) (status : Status) (position : ℕ) (task : KTask) (n : ℕ) (handler : K) (turns : ℕ) → turns ≡ turns_of table
+      → (was : Catching rel first table live status position task n) → was.catcher.handler ≡ App handler
+      → Making rel.catchers rel.gates turns handler (record { status = status; request = live.request }) was.before task live.ctx.kept n
+  catching_makes live status position task n handler turns turns_is was handles =
+      let same : handler ≡ was.handler = cc (handles, was.handles) in
+      subst (λ t. Making rel.catchers rel.gates t handler (record { status = status; request = live.request }) was.before task live.ctx.kept n) (sym turns_is)
+      (subst (λ h. Making rel.catchers rel.gates (turns_of table) h (record { status = status; request = live.request }) was.before task live.ctx.kept n) (sym same) was.making)
 
   -- a turn of its call was made, of which there are so many
   pub catching_turned : (live : Live (Seen V) (Lent C)) (ctx : Lent C) (status : Status) (position : ℕ) (task task' : KTask) (n : ℕ) (catcher : Catcher K) (handler : K) (turns : ℕ) (made : Turn (Result (ResponseOf S) Status))

@@ -1,8 +1,6 @@
 -- What routing holds at each of its stages: whatever completes it from here completes it from its beginning, behind the calls
 -- that were made so far.
-use Rattle.std.specs.Prelude.{◌≡◌, ◌++◌, ℕ, List, [], ◌∷◌, Bool, true, false, Option, Some, None, Result, slice_get, ⊤}
-use Rattle.rkt_base.specs.declared.poll.Poll.{Poll}
-use Rattle.rkt_base.specs.declared.poll.Poll.TheVariants as poll
+use Rattle.std.specs.Prelude.{◌≡◌, ◌++◌, ℕ, List, [], ◌∷◌, Bool, true, false, Option, Some, None, Result, slice_get}
 use Rattle.rkt_http.specs.declared.outcome.Outcome.TheVariants.{Forward}
 use Rattle.rkt_http.specs.declared.status.Status.{Status}
 use Rattle.rkt_source.specs.declared.source.Gate.{Gate}
@@ -31,6 +29,8 @@ use Rattle.rkt_routing.specs.Found.{Found}
 use Rattle.rkt_routing.specs.Routed.{Routes, Walks, Goes, Chooses, Errors, Fails, Catches, CatcherReplies, Finds, Following, Retries, Settles, mounted, turns_of}
 use Rattle.rkt_routing.specs.Ranks.{Falls, rank}
 use Rattle.rkt_routing.specs.Relations.{Relations, relations}
+use Rattle.rkt_routing.specs.declared.progress.Progress.{Progress}
+use Rattle.rkt_routing.specs.declared.progress.Progress.TheVariants as progress
 use Rattle.rkt_routing.specs.declared.run.Call.{Call}
 use Rattle.rkt_routing.specs.declared.stage.CatcherTask.{CatcherTask}
 use Rattle.rkt_routing.specs.declared.stage.Live.{Live}
@@ -41,7 +41,6 @@ use Rattle.rkt_routing.specs.declared.stage.RoutedOf.TheVariants as routed
 use Rattle.rkt_routing.specs.declared.stage.RouteTask.{RouteTask}
 use Rattle.rkt_routing.specs.declared.stage.Stage.{Stage}
 use Rattle.rkt_routing.specs.declared.stage.Stage.TheVariants as stage
-use Rattle.rkt_routing.specs.declared.stage.Underway.{Underway}
 use Rattle.rkt_routing.specs.Table.{SeenTable}
 
 -- where routing begins
@@ -174,16 +173,6 @@ module _ {V B C S H HTask K KTask N : Type 0} (rel : Relations V B C S H HTask K
   Moves live (moved.Ended response) = Answered live response
   Moves live moved.Starved = HandsBack first.at.kept.shutdown live.ctx.kept.shutdown
 
-  -- what routing holds, unless it has ended
-  abbrev pub StandsFor : Option (Underway (Seen V) (Lent C) (Stage B HTask KTask)) → Type 0
-  StandsFor None = ⊤
-  StandsFor (Some underway) = StandsAt underway.live underway.stage
-
-  -- the same of one that was Pending under this Gate
-  abbrev pub WaitsFor : Gate → Option (Underway (Seen V) (Lent C) (Stage B HTask KTask)) → Type 0
-  WaitsFor gate None = ⊥
-  WaitsFor gate (Some underway) = (underway.live.ctx.gate ≡ gate) × WaitsAt underway.live underway.stage
-
   -- how routing ends: with what was found, to which the calls that were made lead, or with the handle; each word that a call
   -- recorded is the one that the handle has seen
   abbrev pub EndsSo : RoutedOf (Seen V) (Lent C) S Handle → Type 0
@@ -192,15 +181,18 @@ module _ {V B C S H HTask K KTask N : Type 0} (rel : Relations V B C S H HTask K
       × Backs first.at.kept.shutdown live.ctx.kept.shutdown live.calls
   EndsSo (routed.Starved shutdown) = HandsBack first.at.kept.shutdown shutdown
 
-  -- what a poll under a Gate gives
-  abbrev pub PolledGives : Gate → Option (Underway (Seen V) (Lent C) (Stage B HTask KTask)) → Poll (RoutedOf (Seen V) (Lent C) S Handle) → Type 0
-  PolledGives gate live poll.Pending = StandsFor live × WaitsFor gate live
-  PolledGives gate live (poll.Ready ended) = EndsSo ended
-
 -- routing as contracts see it
 pub record Holding (V B C H HTask K KTask N : Type 0) : Type 0 where
   pub table : SeenTable H K N
-  pub live : Option (Underway (Seen V) (Lent C) (Stage B HTask KTask))
+  pub live : Live (Seen V) (Lent C)
+  pub stage : Stage B HTask KTask
+
+module _ {V B C S H HTask K KTask N : Type 0} (rel : Relations V B C S H HTask K KTask) (first : Beginning V B C) (table : SeenTable H K N) where
+  -- what a poll under a Gate gives: a callback was Pending under it, or routing has ended
+  abbrev pub PolledGives : Gate → Progress (Holding V B C H HTask K KTask N) (RoutedOf (Seen V) (Lent C) S Handle) → Type 0
+  PolledGives gate (progress.Pending next) =
+      (next.table ≡ table) × (next.live.ctx.gate ≡ gate) × StandsAt rel first table next.live next.stage × WaitsAt rel first table next.live next.stage
+  PolledGives gate (progress.Ready ended) = EndsSo rel first table ended
 
 -- what is known at a stage of what the callbacks mean: H, K and S stand for some handlers, catchers and streams
 module _ {V B C S H HTask K KTask N : Type 0} (handlers : Calling H (Handed V B) (Kept C) (Reply S B) HTask) (catchers : Calling K (Refused V) (Kept C) (Result (ResponseOf S) Status) KTask) (table : SeenTable H K N) where
@@ -223,4 +215,4 @@ pub record IsStep {V B C S H HTask K KTask N : Type 0} (handlers : Calling H (Ha
 
 -- it stands for some beginning
 abbrev pub IsSound : {V B C S H HTask K KTask N : Type 0} → Calling H (Handed V B) (Kept C) (Reply S B) HTask → Calling K (Refused V) (Kept C) (Result (ResponseOf S) Status) KTask → Holding V B C H HTask K KTask N → Type 0
-IsSound {V = V} {B = B} {C = C} handlers catchers held = (first : Beginning V B C) × StandsFor (relations handlers catchers any_gate) first held.table held.live
+IsSound {V = V} {B = B} {C = C} handlers catchers held = (first : Beginning V B C) × StandsAt (relations handlers catchers any_gate) first held.table held.live held.stage

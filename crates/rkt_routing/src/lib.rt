@@ -3,6 +3,7 @@
 #![tactic(auto)]
 
 mod catching;
+mod progress;
 mod recording;
 mod routing;
 mod run;
@@ -10,6 +11,7 @@ mod stage;
 mod table;
 mod trying;
 
+pub use progress::Progress;
 pub use recording::recorded;
 pub use routing::{Routed, RoutingOf};
 pub use run::{Answer, Call, Which};

@@ -1,17 +1,17 @@
 //! How a request is routed, poll by poll.
-ghost use Rattle.std.specs.Prelude.{◌≡◌, IsSome};
+ghost use Rattle.std.specs.Prelude.{◌≡◌};
 ghost use Rattle.rkt_router.specs.Calls.{GateRule, GateFits};
 ghost use Rattle.rkt_cancel.specs.Cancel.{Cancellable};
 ghost use Rattle.rkt_data.specs.Body.{Body};
 ghost use Rattle.rkt_routing.specs.Beginning.{Beginning};
 ghost use Rattle.rkt_routing.specs.Relations.{relations};
-ghost use Rattle.rkt_routing.specs.Stands.{PolledGives, StandsFor, begins};
+ghost use Rattle.rkt_routing.specs.Stands.{PolledGives, StandsAt, begins};
 
 use crate::catching::{begin_catch, catch_turned};
 use crate::stage::{Live, LiveOf, Moved, Stage, StageOf, Underway, UnderwayOf};
 use crate::trying::{begin_route, route_turned};
-use crate::{RoutedOf, TableOf};
-use rkt_base::{Poll, Seq};
+use crate::{Progress, RoutedOf, TableOf};
+use rkt_base::Seq;
 use rkt_data::Gate;
 use rkt_http::Status;
 use rkt_request::{Bad, Body0, Ctx, Request, Types};
@@ -26,7 +26,7 @@ pub struct RoutingOf<'a, T: Types, H: Handler<T>, K: CatchHandler<T>, N> {
     alloc: Global,
     router: &'a Router<H, K, N>,
     turns: u32,
-    live: Option<UnderwayOf<'a, T, H, K>>,
+    underway: UnderwayOf<'a, T, H, K>,
 }
 
 impl<'a, T: Types, H: Handler<T>, K: CatchHandler<T>, N> Model for RoutingOf<'a, T, H, K, N> {
@@ -36,9 +36,9 @@ impl<'a, T: Types, H: Handler<T>, K: CatchHandler<T>, N> Model for RoutingOf<'a,
 
     ghost Value = { Holding T.Value (Body (Cancellable T.Source)) T.Cached H H.Task K K.Task N };
 
-    ghost view = { λ r. record { table = record { router = r.router.now; turns = r.turns }; live = r.live } };
+    ghost view = { λ r. record { table = record { router = r.router.now; turns = r.turns }; live = r.underway.live; stage = r.underway.stage } };
 
-    ghost invariant = { λ r. IsSound H.calling K.calling (record { table = record { router = r.router.now; turns = r.turns }; live = r.live }) };
+    ghost invariant = { λ r. IsSound H.calling K.calling (record { table = record { router = r.router.now; turns = r.turns }; live = r.underway.live; stage = r.underway.stage }) };
 }
 
 /// What routing a request of an application comes to.
@@ -53,11 +53,7 @@ pub type Routed<'a, T> = RoutedOf<
 fn give_up<'a, T: Types>(live: LiveOf<'a, T>) -> Routed<'a, T>
     ensures { result ≡ RoutedOf.Starved live.entry.ctx.kept.shutdown }
 {
-    let Live {
-        request: _,
-        ctx,
-        calls: _,
-    } = live;
+    let (ctx, _) = live.without_request();
     let (_, _, shutdown) = ctx.into_parts();
     RoutedOf::Starved { shutdown }
 }
@@ -101,9 +97,8 @@ impl<'a, T: Types, H: Handler<T> + Drop, K: CatchHandler<T> + Drop, N: Drop> Rou
         ctx: Ctx<T>,
     ) -> RoutingOf<'a, T, H, K, N>
         ensures table { result.table ≡ record { router = router.entry.now; turns = turns } }
-        ensures going { IsSome result.live }
         ensures stands { (rule : GateRule)
-            → StandsFor (relations H.calling K.calling rule) (record { at = record { request = request.entry; body = body; kept = ctx.kept }; faults = faults.now }) result.table result.live }
+            → StandsAt (relations H.calling K.calling rule) (record { at = record { request = request.entry; body = body; kept = ctx.kept }; faults = faults.now }) result.table result.live result.stage }
     {
         let stage = begin::<T, H, K>(faults, body);
         let live = Live {
@@ -115,31 +110,27 @@ impl<'a, T: Types, H: Handler<T> + Drop, K: CatchHandler<T> + Drop, N: Drop> Rou
             alloc,
             router,
             turns,
-            live: Some(Underway { live, stage }),
+            underway: Underway { live, stage },
         }
     }
 
-    /// Goes on under a Gate, until a callback is Pending or there is a response. Where it was Ready it is not polled again.
-    pub fn poll(&mut self, gate: Gate) -> Poll<Routed<'a, T>>
-        requires going { IsSome self.old.live }
-        ensures table { self.new.table ≡ self.old.table }
-        ensures going { result ≡ Poll.Pending → IsSome self.new.live }
-        ensures gives { (rule : GateRule) (first : Beginning T.Value (Body (Cancellable T.Source)) T.Cached) → GateFits rule gate
-            → StandsFor (relations H.calling K.calling rule) first self.old.table self.old.live
-            → PolledGives (relations H.calling K.calling rule) first self.new.table gate self.new.live result }
+    /// Goes on under a Gate, until a callback is Pending or there is a response.
+    pub fn poll(self, gate: Gate) -> Progress<RoutingOf<'a, T, H, K, N>, Routed<'a, T>>
+        ensures { (rule : GateRule) (first : Beginning T.Value (Body (Cancellable T.Source)) T.Cached) → GateFits rule gate
+            → StandsAt (relations H.calling K.calling rule) first self.entry.table self.entry.live self.entry.stage
+            → PolledGives (relations H.calling K.calling rule) first self.entry.table gate result }
     {
-        let Some(underway) = self.live.take() else {
-            unreachable!();
-        };
+        let RoutingOf {
+            alloc,
+            router,
+            turns,
+            underway,
+        } = self;
         let Underway {
             mut live,
             mut stage,
         } = underway;
-        let alloc = self.alloc;
-        let table = TableOf {
-            router: self.router,
-            turns: self.turns,
-        };
+        let table = TableOf { router, turns };
         live.ctx.set_gate(gate);
         loop {
             let moved = match stage {
@@ -182,11 +173,17 @@ impl<'a, T: Types, H: Handler<T> + Drop, K: CatchHandler<T> + Drop, N: Drop> Rou
             match moved {
                 Moved::Going(next) => stage = next,
                 Moved::Pending(next) => {
-                    self.live = Some(Underway { live, stage: next });
-                    return Poll::Pending;
+                    return Progress::Pending(RoutingOf {
+                        alloc,
+                        router,
+                        turns,
+                        underway: Underway { live, stage: next },
+                    });
                 }
-                Moved::Ended(response) => return Poll::Ready(RoutedOf::Found { live, response }),
-                Moved::Starved => return Poll::Ready(give_up(live)),
+                Moved::Ended(response) => {
+                    return Progress::Ready(RoutedOf::Found { live, response });
+                }
+                Moved::Starved => return Progress::Ready(give_up(live)),
             }
         }
     }

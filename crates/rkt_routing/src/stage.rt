@@ -1,4 +1,6 @@
 //! Where routing stands.
+ghost use Rattle.std.specs.Prelude.{◌≡◌};
+
 use crate::Call;
 use rkt_base::Seq;
 use rkt_http::Status;
@@ -86,8 +88,26 @@ pub enum RoutedOf<R, X, S, W> {
 /// What an application's callbacks are lent for a request.
 pub type LiveOf<'a, T> = Live<Request<'a, T>, Ctx<T>>;
 
+impl<'a, T: Types> Live<Request<'a, T>, Ctx<T>> {
+    /// The context and the calls; the request is let go.
+    pub fn without_request(self) -> (Ctx<T>, Seq<Call>)
+        ensures ctx { result.0 ≡ self.entry.ctx }
+        ensures calls { result.1 ≡ self.entry.calls }
+    {
+        let Live {
+            request: _,
+            ctx,
+            calls,
+        } = self;
+        (ctx, calls)
+    }
+}
+
+/// Where routing stands, for an application.
 pub type StageOf<T, H, K> = Stage<Body0<T>, <H as Handler<T>>::Task, <K as CatchHandler<T>>::Task>;
 
+/// What a move of routing leads to, for an application.
 pub type MovedOf<T, H, K> = Moved<StageOf<T, H, K>, Response<<T as Types>::Stream>>;
 
+/// Where routing stands, and what it holds there, for an application.
 pub type UnderwayOf<'a, T, H, K> = Underway<Request<'a, T>, Ctx<T>, StageOf<T, H, K>>;

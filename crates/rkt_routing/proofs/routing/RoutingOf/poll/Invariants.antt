@@ -6,14 +6,13 @@ use Rattle.rkt_routing.specs.Relations.{relations}
 use Rattle.rkt_routing.specs.Stands.{IsSoundAt, StandsAt}
 use Rattle.rkt_routing.proofs.routing.RoutingOf.poll.Given as goal
 
--- the Gate stays; the exchange stands for some beginning, and for each that it stood for at first; nothing is put back yet
+-- the Gate stays; routing stands for some beginning, and for each that it stood for at first
 abbrev pub invariant-loop-stage : goal.invariant-loop-stage
 invariant-loop-stage g l =
     (l.live.ctx.gate ≡ l.fn.gate) × IsSoundAt g.H.Handler.calling g.K.CatchHandler.calling l.table l.live l.stage
     × ((rule : GateRule) (first : Beginning _ _ _) → GateFits rule l.fn.gate
     → StandsAt (relations g.H.Handler.calling g.K.CatchHandler.calling rule) first l.table l.initial.live l.initial.stage
     → StandsAt (relations g.H.Handler.calling g.K.CatchHandler.calling rule) first l.table l.live l.stage)
-    × (l.self-inside ≡ l.initial.self-inside)
 
 abbrev pub decreases-loop-stage : goal.decreases-loop-stage
 decreases-loop-stage g l = rank l.table l.stage
