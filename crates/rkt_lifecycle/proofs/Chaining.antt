@@ -118,7 +118,7 @@ pub found_within : {F : Type 0} (event : Callback) (fairings : SeenFairings F) (
 found_within event fairings place found = let there = and_then_some (slice_get (places_of event fairings.places) place) (slice_get fairings.slots) found in slice_get_within (places_of event fairings.places) place there.0 there.1
 
 -- fewer are to be called behind the next one
-pub begins_falls : {F Task : Type 0} (event : Callback) (fairings : SeenFairings F) (place : ℕ) (next : Option (FairingTask Task)) (Starts : Slot F → Task → Type 0) → place < length (places_of event fairings.places)
+pub begins_falls : {F Task : Type 0} (event : Callback) (fairings : SeenFairings F) (place : ℕ) (next : Option (FairingTask Task)) (Starts : Slot F → Option Task → Type 0) → place < length (places_of event fairings.places)
     → Begins event fairings (place + 1) Starts next → to_call event fairings next + place < length (places_of event fairings.places)
 begins_falls event fairings place None Starts within begins = omega (arith, within)
 begins_falls event fairings place (Some call) Starts within begins = omega (arith, within, begins.2)

@@ -1,1 +1,3 @@
 pub mod Chaining
+pub mod Cookies
+pub mod Exchanging

@@ -1,7 +1,5 @@
 -- The fairings that are called for a response, in order.
-use Rattle.std.specs.Prelude.{◌≡◌, ℕ, List, Option, Some, None, max, ⊤}
-use Rattle.rkt_base.specs.declared.poll.Poll.{Poll}
-use Rattle.rkt_base.specs.declared.poll.Poll.TheVariants as poll
+use Rattle.std.specs.Prelude.{◌≡◌, ℕ, List, Option, Some, None, max}
 use Rattle.rkt_fairing.specs.Callbacks.{ResponseAt}
 use Rattle.rkt_fairing.specs.Fairings.{SeenFairings}
 use Rattle.rkt_fairing.specs.declared.callback.Callback.TheVariants as event
@@ -12,6 +10,8 @@ use Rattle.rkt_router.specs.Calling.{Calling}
 use Rattle.rkt_router.specs.Calls.{GateRule, any_gate}
 use Rattle.rkt_router.specs.declared.turn.Final.{Final}
 use Rattle.rkt_routing.specs.Backs.{Backs}
+use Rattle.rkt_routing.specs.declared.progress.Progress.{Progress}
+use Rattle.rkt_routing.specs.declared.progress.Progress.TheVariants as progress
 use Rattle.rkt_routing.specs.declared.run.Call.{Call}
 use Rattle.rkt_routing.specs.declared.run.Which.TheVariants as which
 use Rattle.rkt_source.specs.declared.source.Gate.{Gate}
@@ -39,9 +39,10 @@ pub record Outgoing (V C S : Type 0) : Type 0 where
 pub record Answers (V C S F Task : Type 0) : Type 0 where
   pub fairings : SeenFairings F
   pub turns : ℕ
-  pub live : Option (Underway (Departure (Seen V) (Lent C) S) Task)
+  pub lent : Departure (Seen V) (Lent C) S
+  pub next : Option (FairingTask Task)
 
-module _ {V C S F Task : Type 0} (calling : Calling (Slot F) (Seen V) (ResponseAt S C) (Unit {0}) Task) (rule : GateRule) where
+module _ {V C S F Task : Type 0} (calling : Calling (Slot F) (Seen V) (ResponseAt S C) (Unit {0}) (Option Task)) (rule : GateRule) where
   -- the fairings of the list of responses; none of the turns counts as one
   abbrev pub answering : SeenFairings F → ℕ → Seen V → Chain F (Seen V) (ResponseAt S C) Task C
   answering fairings turns request = record {
@@ -70,18 +71,10 @@ module _ {V C S F Task : Type 0} (calling : Calling (Slot F) (Seen V) (ResponseA
     AnsweredSo departure place reply =
         (departure.live.request ≡ first.request) × Called (answering fairings turns first.request) Leads first.at.kept.shutdown Ends (answered_at departure) departure.live.calls place reply
 
-    abbrev pub StandsAt : Option (Underway (Departure (Seen V) (Lent C) S) Task) → Type 0
-    StandsAt None = ⊤
-    StandsAt (Some underway) = AnswerStands underway.lent underway.next
-
     -- one was Pending under this Gate
     abbrev pub Pends : Gate → Departure (Seen V) (Lent C) S → Option (FairingTask Task) → Type 0
     Pends gate departure None = ⊥
     Pends gate departure (Some call) = CallWaits (answering fairings turns first.request) Leads first.at.kept.shutdown Ends gate (answered_at departure) departure.live.calls call
-
-    abbrev pub WaitsAt : Gate → Option (Underway (Departure (Seen V) (Lent C) S) Task) → Type 0
-    WaitsAt gate None = ⊥
-    WaitsAt gate (Some underway) = Pends gate underway.lent underway.next
 
     -- all were called, and left this; each word that a call recorded is the one that the handle has seen
     abbrev pub AnsweredAt : AnsweredOf (Seen V) (Lent C) S Handle → Type 0
@@ -89,15 +82,21 @@ module _ {V C S F Task : Type 0} (calling : Calling (Slot F) (Seen V) (ResponseA
         (departure.live.request ≡ first.request) × Leads departure.live.calls (answered_at departure) × Backs first.at.kept.shutdown departure.live.ctx.kept.shutdown departure.live.calls
     AnsweredAt (answered.Starved shutdown) = HandsBack first.at.kept.shutdown shutdown
 
-  -- what the calls stand for, unless they are over
+    -- what is under way behind a poll under a Gate, or what they came to
+    abbrev pub RunGives : Gate → Progress (Underway (Departure (Seen V) (Lent C) S) Task) (AnsweredOf (Seen V) (Lent C) S Handle) → Type 0
+    RunGives gate (progress.Pending underway) = AnswerStands underway.lent underway.next × Pends gate underway.lent underway.next
+    RunGives gate (progress.Ready over) = AnsweredAt over
+
+  -- what the calls stand for
   abbrev pub StandsFor : Outgoing V C S → Answers V C S F Task → Type 0
-  StandsFor first answers = StandsAt answers.fairings answers.turns first answers.live
+  StandsFor first answers = AnswerStands answers.fairings answers.turns first answers.lent answers.next
 
   -- what a poll under a Gate gives
-  abbrev pub AnsweredGives : Outgoing V C S → SeenFairings F → ℕ → Gate → Answers V C S F Task → Poll (AnsweredOf (Seen V) (Lent C) S Handle) → Type 0
-  AnsweredGives first fairings turns gate answers poll.Pending = StandsFor first answers × WaitsAt fairings turns first gate answers.live
-  AnsweredGives first fairings turns gate answers (poll.Ready answered) = AnsweredAt fairings turns first answered
+  abbrev pub AnsweredGives : Outgoing V C S → SeenFairings F → ℕ → Gate → Progress (Answers V C S F Task) (AnsweredOf (Seen V) (Lent C) S Handle) → Type 0
+  AnsweredGives first fairings turns gate (progress.Pending answers) =
+      (answers.fairings ≡ fairings) × (answers.turns ≡ turns) × AnswerStands fairings turns first answers.lent answers.next × Pends fairings turns first gate answers.lent answers.next
+  AnsweredGives first fairings turns gate (progress.Ready answered) = AnsweredAt fairings turns first answered
 
 -- they stand for some beginning
-abbrev pub IsSound : {V C S F Task : Type 0} → Calling (Slot F) (Seen V) (ResponseAt S C) (Unit {0}) Task → Answers V C S F Task → Type 0
+abbrev pub IsSound : {V C S F Task : Type 0} → Calling (Slot F) (Seen V) (ResponseAt S C) (Unit {0}) (Option Task) → Answers V C S F Task → Type 0
 IsSound {V = V} {C = C} {S = S} calling answers = (first : Outgoing V C S) × StandsFor calling any_gate first answers

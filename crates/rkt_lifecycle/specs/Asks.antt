@@ -1,7 +1,5 @@
 -- The fairings that are called for a request, in order.
-use Rattle.std.specs.Prelude.{ℕ, List, Option, Some, None, max, ⊤}
-use Rattle.rkt_base.specs.declared.poll.Poll.{Poll}
-use Rattle.rkt_base.specs.declared.poll.Poll.TheVariants as poll
+use Rattle.std.specs.Prelude.{◌≡◌, ℕ, List, Option, Some, None, max}
 use Rattle.rkt_fairing.specs.Callbacks.{RequestAt}
 use Rattle.rkt_fairing.specs.Fairings.{SeenFairings}
 use Rattle.rkt_fairing.specs.declared.callback.Callback.TheVariants.{Request}
@@ -12,6 +10,8 @@ use Rattle.rkt_router.specs.Calling.{Calling}
 use Rattle.rkt_router.specs.Calls.{GateRule, any_gate}
 use Rattle.rkt_router.specs.declared.turn.Final.{Final}
 use Rattle.rkt_routing.specs.Backs.{Backs}
+use Rattle.rkt_routing.specs.declared.progress.Progress.{Progress}
+use Rattle.rkt_routing.specs.declared.progress.Progress.TheVariants as progress
 use Rattle.rkt_routing.specs.declared.run.Call.{Call}
 use Rattle.rkt_routing.specs.declared.run.Which.TheVariants as which
 use Rattle.rkt_source.specs.declared.source.Gate.{Gate}
@@ -34,9 +34,10 @@ asked_at arrival = record { request = arrival.live.request; body = arrival.body;
 pub record Asks (V B C F Task : Type 0) : Type 0 where
   pub fairings : SeenFairings F
   pub turns : ℕ
-  pub live : Option (Underway (Arrival (Seen V) B (Lent C)) Task)
+  pub lent : Arrival (Seen V) B (Lent C)
+  pub next : Option (FairingTask Task)
 
-module _ {V B C F Task : Type 0} (calling : Calling (Slot F) (Unit {0}) (RequestAt V B C) (Unit {0}) Task) (rule : GateRule) where
+module _ {V B C F Task : Type 0} (calling : Calling (Slot F) (Unit {0}) (RequestAt V B C) (Unit {0}) (Option Task)) (rule : GateRule) where
   -- the fairings of the list of requests; none of the turns counts as one
   abbrev pub asking : SeenFairings F → ℕ → Chain F (Unit {0}) (RequestAt V B C) Task C
   asking fairings turns = record {
@@ -63,33 +64,31 @@ module _ {V B C F Task : Type 0} (calling : Calling (Slot F) (Unit {0}) (Request
     abbrev pub AskedSo : Arrival (Seen V) B (Lent C) → ℕ → Final (Unit {0}) → Type 0
     AskedSo arrival = Called (asking fairings turns) Leads first.kept.shutdown Ends (asked_at arrival) arrival.live.calls
 
-    abbrev pub StandsAt : Option (Underway (Arrival (Seen V) B (Lent C)) Task) → Type 0
-    StandsAt None = ⊤
-    StandsAt (Some underway) = AskStands underway.lent underway.next
-
     -- one was Pending under this Gate
     abbrev pub Pends : Gate → Arrival (Seen V) B (Lent C) → Option (FairingTask Task) → Type 0
     Pends gate arrival None = ⊥
     Pends gate arrival (Some call) = CallWaits (asking fairings turns) Leads first.kept.shutdown Ends gate (asked_at arrival) arrival.live.calls call
-
-    abbrev pub WaitsAt : Gate → Option (Underway (Arrival (Seen V) B (Lent C)) Task) → Type 0
-    WaitsAt gate None = ⊥
-    WaitsAt gate (Some underway) = Pends gate underway.lent underway.next
 
     -- all were called, and left this; each word that a call recorded is the one that the handle has seen
     abbrev pub AskedAt : AskedOf (Seen V) B (Lent C) Handle → Type 0
     AskedAt (asked.Done arrival) = Leads arrival.live.calls (asked_at arrival) × Backs first.kept.shutdown arrival.live.ctx.kept.shutdown arrival.live.calls
     AskedAt (asked.Starved shutdown) = HandsBack first.kept.shutdown shutdown
 
-  -- what the calls stand for, unless they are over
+    -- what is under way behind a poll under a Gate, or what they came to
+    abbrev pub RunGives : Gate → Progress (Underway (Arrival (Seen V) B (Lent C)) Task) (AskedOf (Seen V) B (Lent C) Handle) → Type 0
+    RunGives gate (progress.Pending underway) = AskStands underway.lent underway.next × Pends gate underway.lent underway.next
+    RunGives gate (progress.Ready over) = AskedAt over
+
+  -- what the calls stand for
   abbrev pub StandsFor : RequestAt V B C → Asks V B C F Task → Type 0
-  StandsFor first asks = StandsAt asks.fairings asks.turns first asks.live
+  StandsFor first asks = AskStands asks.fairings asks.turns first asks.lent asks.next
 
   -- what a poll under a Gate gives
-  abbrev pub AskedGives : RequestAt V B C → SeenFairings F → ℕ → Gate → Asks V B C F Task → Poll (AskedOf (Seen V) B (Lent C) Handle) → Type 0
-  AskedGives first fairings turns gate asks poll.Pending = StandsFor first asks × WaitsAt fairings turns first gate asks.live
-  AskedGives first fairings turns gate asks (poll.Ready asked) = AskedAt fairings turns first asked
+  abbrev pub AskedGives : RequestAt V B C → SeenFairings F → ℕ → Gate → Progress (Asks V B C F Task) (AskedOf (Seen V) B (Lent C) Handle) → Type 0
+  AskedGives first fairings turns gate (progress.Pending asks) =
+      (asks.fairings ≡ fairings) × (asks.turns ≡ turns) × AskStands fairings turns first asks.lent asks.next × Pends fairings turns first gate asks.lent asks.next
+  AskedGives first fairings turns gate (progress.Ready asked) = AskedAt fairings turns first asked
 
 -- they stand for some beginning
-abbrev pub IsSound : {V B C F Task : Type 0} → Calling (Slot F) (Unit {0}) (RequestAt V B C) (Unit {0}) Task → Asks V B C F Task → Type 0
+abbrev pub IsSound : {V B C F Task : Type 0} → Calling (Slot F) (Unit {0}) (RequestAt V B C) (Unit {0}) (Option Task) → Asks V B C F Task → Type 0
 IsSound {V = V} {B = B} {C = C} calling asks = (first : RequestAt V B C) × StandsFor calling any_gate first asks

@@ -24,7 +24,7 @@ use Rattle.rkt_lifecycle.specs.declared.calls.FairingTask.{FairingTask}
 -- which fairings are called, at which event, and what a call means. F is the type of fairings, A that of what they are handed,
 -- X that of what they may change, Task that of their tasks, and C that of cached values
 pub record Chain (F A X Task C : Type 0) : Type 1 where
-  pub calling : Calling (Slot F) A X (Unit {0}) Task
+  pub calling : Calling (Slot F) A X (Unit {0}) (Option Task)
   pub gates : GateRule
   -- as often as each may be polled
   pub turns : ℕ
@@ -41,7 +41,7 @@ to_call event fairings None = 0
 to_call event fairings (Some call) = length (places_of event fairings.places) - call.place
 
 -- the call of the fairing at a place has begun, if there is one
-abbrev pub Begins : {F Task : Type 0} → Callback → SeenFairings F → ℕ → (Slot F → Task → Type 0) → Option (FairingTask Task) → Type 0
+abbrev pub Begins : {F Task : Type 0} → Callback → SeenFairings F → ℕ → (Slot F → Option Task → Type 0) → Option (FairingTask Task) → Type 0
 Begins event fairings place Starts None = fairing_at event fairings place ≡ None
 Begins {F} event fairings place Starts (Some call) =
     (fairing : Slot F) × (fairing_at event fairings place ≡ Some fairing) × (call.place ≡ place) × (call.turn ≡ 0) × Starts fairing call.task

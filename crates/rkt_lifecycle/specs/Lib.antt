@@ -1,4 +1,11 @@
 pub mod Answers
 pub mod Asks
+pub mod Beginning
 pub mod Chain
+pub mod Dressed
+pub mod Ended
+pub mod Lifecycle
 pub mod Recorded
+pub mod Relations
+pub mod Stands
+pub mod Tables

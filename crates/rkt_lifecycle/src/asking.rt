@@ -1,113 +1,71 @@
 //! The fairings that are called for a request.
-ghost use Rattle.std.specs.Prelude.{◌≡◌, ◌<◌, ◌+◌, IfOk, IsSome, Some, length, max};
+ghost use Rattle.std.specs.Prelude.{◌≡◌, ◌<◌, ◌+◌, IfOk, Some, length, max};
 ghost use Rattle.rkt_cancel.specs.Cancel.{Cancellable};
 ghost use Rattle.rkt_data.specs.Body.{Body};
 ghost use Rattle.rkt_fairing.specs.Callbacks.{RequestAt, RequestGrows};
 ghost use Rattle.rkt_fairing.specs.Fairings.{fairing_at};
+ghost use Rattle.rkt_fairing.specs.InSlot.{slot_request};
 ghost use Rattle.rkt_fairing.specs.Places.{places_of};
 ghost use Rattle.rkt_router.specs.Calling.{Polls, Starts};
-ghost use Rattle.rkt_router.specs.Calls.{GateFits, GateRule, Making, Turned};
-ghost use Rattle.rkt_lifecycle.specs.Asks.{AskStands, AskedSo, AskedGives, StandsFor, asked_at};
+ghost use Rattle.rkt_router.specs.Calls.{GateFits, GateRule, Making, Turned, any_gate};
+ghost use Rattle.rkt_lifecycle.specs.Asks.{RunGives, AskStands, AskedSo, AskedGives, StandsFor, asked_at};
 ghost use Rattle.rkt_lifecycle.specs.Chain.{Begins, to_call};
 
-use crate::calls::{Arrival, AskedOf, FairingTask, Underway, fairing_says, place_behind};
-use rkt_base::{NoMemory, Poll, Seq};
+use crate::calls::{
+    Arrival, ArrivalOf, AskedOf, FairingTask, Underway, fairing_says, place_behind,
+};
+use rkt_base::{NoMemory, Seq};
 use rkt_data::Gate;
-use rkt_fairing::{Callback, Fairings, RequestCallback, Slot, turn_request};
+use rkt_fairing::{Callback, Fairings, InSlot, RequestCallback, Slot, turn_request};
 use rkt_request::{Body0, Ctx, Request, Types};
 use rkt_router::{Final, Step, Turn};
-use rkt_routing::{Live, Which, recorded};
+use rkt_routing::{Live, Progress, Which, recorded};
 use rkt_turn::Shutdown;
 use std::alloc::{AllocError, Global};
 use std::marker::Model;
-
-type ArrivalOf<'a, T> = Arrival<Request<'a, T>, Body0<T>, Ctx<T>>;
 
 /// What the calls for a request of an application come to.
 pub type Asked<'a, T> = AskedOf<Request<'a, T>, Body0<T>, Ctx<T>, Shutdown<<T as Types>::Reason>>;
 
 /// A request that fairings F are called for as P says, in the order in which they were attached.
 #[derive(Drop)]
-pub struct AskingOf<'a, T: Types, F, P: RequestCallback<T, Slot<F>>> {
+pub struct AskingOf<'a, T: Types, F, P: RequestCallback<T, F>> {
     alloc: Global,
     fairings: &'a Fairings<F>,
     turns: u32,
-    live: Option<Underway<ArrivalOf<'a, T>, P::Task>>,
+    underway: Underway<ArrivalOf<'a, T>, P::Task>,
 }
 
-impl<'a, T: Types, F, P: RequestCallback<T, Slot<F>>> Model for AskingOf<'a, T, F, P> {
+impl<'a, T: Types, F, P: RequestCallback<T, F>> Model for AskingOf<'a, T, F, P> {
     ghost use Rattle.rkt_cancel.specs.Cancel.{Cancellable};
     ghost use Rattle.rkt_data.specs.Body.{Body};
+    ghost use Rattle.rkt_fairing.specs.InSlot.{slot_request};
     ghost use Rattle.rkt_lifecycle.specs.Asks.{Asks, IsSound};
 
     ghost Value = { Asks T.Value (Body (Cancellable T.Source)) T.Cached F P.Task };
 
-    ghost view = { λ a. record { fairings = a.fairings.now; turns = a.turns; live = a.live } };
+    ghost view = { λ a. record { fairings = a.fairings.now; turns = a.turns; lent = a.underway.lent; next = a.underway.next } };
 
-    ghost invariant = { λ a. IsSound P.calling (record { fairings = a.fairings.now; turns = a.turns; live = a.live }) };
+    ghost invariant = { λ a. IsSound (slot_request P.calling) (record { fairings = a.fairings.now; turns = a.turns; lent = a.underway.lent; next = a.underway.next }) };
 }
 
 // Begins the call of the fairing at a place, if there is one.
-fn begin<T: Types, F, P: RequestCallback<T, Slot<F>>>(
+fn begin<T: Types, F, P: RequestCallback<T, F>>(
     fairings: &Fairings<F>,
     place: usize,
 ) -> Option<FairingTask<P::Task>>
-    ensures begins { Begins Callback.Request fairings.now place (λ fairing task. Starts P.calling fairing tt task) result }
+    ensures begins { Begins Callback.Request fairings.now place (λ fairing task. Starts (slot_request P.calling) fairing tt task) result }
 {
     let fairing = fairings.get(Callback::Request, place)?;
     Some(FairingTask {
         place,
-        task: P::start(fairing),
+        task: <InSlot<P> as RequestCallback<T, Slot<F>>>::start(fairing),
         turn: 0,
     })
 }
 
-// One more turn of a fairing's call.
-fn turned<T: Types, F, P: RequestCallback<T, Slot<F>>>(
-    alloc: Global,
-    fairings: &Fairings<F>,
-    turns: u32,
-    arrival: &mut ArrivalOf<'_, T>,
-    call: &mut FairingTask<P::Task>,
-) -> Turn<()>
-    requires { (rule : GateRule) × (before : RequestAt T.Value (Body (Cancellable T.Source)) T.Cached) × (fairing : _)
-        × (fairing_at Callback.Request fairings.now call.old.place ≡ Some fairing)
-        × Making P.calling rule turns fairing tt before call.old.task (asked_at arrival.old) call.old.turn }
-    ensures place { call.new.place ≡ call.old.place }
-    ensures turn { call.new.turn ≡ call.old.turn + 1 }
-    ensures calls { arrival.new.live.calls ≡ arrival.old.live.calls }
-    ensures gate { arrival.new.live.ctx.gate ≡ arrival.old.live.ctx.gate }
-    ensures gives { (rule : GateRule) (before : RequestAt T.Value (Body (Cancellable T.Source)) T.Cached) (fairing : _)
-        → fairing_at Callback.Request fairings.now call.old.place ≡ Some fairing → GateFits rule arrival.old.live.ctx.gate
-        → Making P.calling rule turns fairing tt before call.old.task (asked_at arrival.old) call.old.turn
-        → Turned P.calling rule turns fairing tt before result call.new.task (asked_at arrival.new) (call.old.turn + 1) }
-    ensures grows { (rule : GateRule) (before : RequestAt T.Value (Body (Cancellable T.Source)) T.Cached) (fairing : _)
-        → fairing_at Callback.Request fairings.now call.old.place ≡ Some fairing
-        → Making P.calling rule turns fairing tt before call.old.task (asked_at arrival.old) call.old.turn → RequestGrows before (asked_at arrival.new) }
-    ensures left { result ≡ Turn.Pending → call.old.turn + 1 < turns }
-    ensures pending { result ≡ Turn.Pending → (fairing : _) → fairing_at Callback.Request fairings.now call.old.place ≡ Some fairing
-        → Polls P.calling fairing tt call.old.task (asked_at arrival.old) arrival.old.live.ctx.gate Step.Pending call.new.task (asked_at arrival.new) }
-{
-    let Some(fairing) = fairings.get(Callback::Request, call.place) else {
-        unreachable!();
-    };
-    let lent = &mut arrival.live;
-    let turn = turn_request::<T, Slot<F>, P>(
-        alloc,
-        fairing,
-        turns,
-        call.turn,
-        &mut call.task,
-        &mut lent.request,
-        &mut arrival.body,
-        &mut lent.ctx,
-    );
-    call.turn += 1;
-    turn
-}
-
 // Records a call, and begins that of the next fairing, if there is one.
-fn called<T: Types, F, P: RequestCallback<T, Slot<F>>>(
+fn called<T: Types, F, P: RequestCallback<T, F>>(
     fairings: &Fairings<F>,
     turns: u32,
     arrival: &mut ArrivalOf<'_, T>,
@@ -117,7 +75,7 @@ fn called<T: Types, F, P: RequestCallback<T, Slot<F>>>(
     ensures gate { arrival.new.live.ctx.gate ≡ arrival.old.live.ctx.gate }
     ensures shutdown { arrival.new.live.ctx.kept.shutdown ≡ arrival.old.live.ctx.kept.shutdown }
     ensures gives { IfOk result (λ next. (rule : GateRule) (first : RequestAt T.Value (Body (Cancellable T.Source)) T.Cached)
-        → AskedSo P.calling rule fairings.now turns first arrival.old place reply → AskStands P.calling rule fairings.now turns first arrival.new next) }
+        → AskedSo (slot_request P.calling) rule fairings.now turns first arrival.old place reply → AskStands (slot_request P.calling) rule fairings.now turns first arrival.new next) }
     ensures falls { IfOk result (λ next. place < length (places_of Callback.Request fairings.now.places)
         → to_call Callback.Request fairings.now next + place < length (places_of Callback.Request fairings.now.places)) }
 {
@@ -139,16 +97,65 @@ fn give_up<'a, T: Types>(arrival: ArrivalOf<'a, T>) -> Asked<'a, T>
     ensures { result ≡ AskedOf.Starved arrival.entry.live.ctx.kept.shutdown }
 {
     let Arrival { live, body: _ } = arrival;
-    let Live {
-        request: _,
-        ctx,
-        calls: _,
-    } = live;
+    let (ctx, _) = live.without_request();
     let (_, _, shutdown) = ctx.into_parts();
     AskedOf::Starved { shutdown }
 }
 
-impl<'a, T: Types, F, P: RequestCallback<T, Slot<F>>> AskingOf<'a, T, F, P> {
+// Goes on under a Gate, until a fairing is Pending or all were called.
+fn run<'a, T: Types, F, P: RequestCallback<T, F>>(
+    alloc: Global,
+    fairings: &Fairings<F>,
+    turns: u32,
+    underway: Underway<ArrivalOf<'a, T>, P::Task>,
+    gate: Gate,
+) -> Progress<Underway<ArrivalOf<'a, T>, P::Task>, Asked<'a, T>>
+    requires { (first : RequestAt T.Value (Body (Cancellable T.Source)) T.Cached) × AskStands (slot_request P.calling) any_gate fairings.now turns first underway.lent underway.next }
+    ensures { (rule : GateRule) (first : RequestAt T.Value (Body (Cancellable T.Source)) T.Cached) → GateFits rule gate
+        → AskStands (slot_request P.calling) rule fairings.now turns first underway.entry.lent underway.entry.next
+        → RunGives (slot_request P.calling) rule fairings.now turns first gate result }
+{
+    let Underway { mut lent, mut next } = underway;
+    let most = turns.max(1);
+    lent.live.ctx.set_gate(gate);
+    loop {
+        let Some(mut call) = next else {
+            return Progress::Ready(AskedOf::Done(lent));
+        };
+        let Some(fairing) = fairings.get(Callback::Request, call.place) else {
+            unreachable!();
+        };
+        let arrival = &mut lent;
+        let live = &mut arrival.live;
+        let turn = turn_request::<T, Slot<F>, InSlot<P>>(
+            alloc,
+            fairing,
+            most,
+            call.turn,
+            &mut call.task,
+            &mut live.request,
+            &mut arrival.body,
+            &mut live.ctx,
+        );
+        call.turn += 1;
+        match turn {
+            Turn::Pending => {
+                return Progress::Pending(Underway {
+                    lent,
+                    next: Some(call),
+                });
+            }
+            Turn::Over(reply) => {
+                match called::<T, F, P>(fairings, turns, &mut lent, call.place, reply) {
+                    Ok(begun) => next = begun,
+                    Err(_) => return Progress::Ready(give_up(lent)),
+                }
+            }
+        }
+    }
+}
+
+impl<'a, T: Types, F, P: RequestCallback<T, F>> AskingOf<'a, T, F, P> {
     /// Begins with the first fairing, which nothing is asked of before the first poll. Each may be polled `turns` times, and
     /// once where that is 0.
     pub fn new(
@@ -161,9 +168,8 @@ impl<'a, T: Types, F, P: RequestCallback<T, Slot<F>>> AskingOf<'a, T, F, P> {
     ) -> AskingOf<'a, T, F, P>
         ensures fairings { result.fairings ≡ fairings.entry.now }
         ensures turns { result.turns ≡ turns }
-        ensures going { IsSome result.live }
         ensures stands { (rule : GateRule)
-            → StandsFor P.calling rule (record { request = request.entry; body = body; kept = ctx.kept }) result }
+            → StandsFor (slot_request P.calling) rule (record { request = request.entry; body = body; kept = ctx.kept }) result }
     {
         let next = begin::<T, F, P>(fairings, 0);
         let live = Live {
@@ -176,45 +182,29 @@ impl<'a, T: Types, F, P: RequestCallback<T, Slot<F>>> AskingOf<'a, T, F, P> {
             alloc,
             fairings,
             turns,
-            live: Some(Underway { lent, next }),
+            underway: Underway { lent, next },
         }
     }
 
-    /// Goes on under a Gate, until a fairing is Pending or all were called. Where it was Ready it is not polled again.
-    pub fn poll(&mut self, gate: Gate) -> Poll<Asked<'a, T>>
-        requires going { IsSome self.old.live }
-        ensures fairings { self.new.fairings ≡ self.old.fairings }
-        ensures turns { self.new.turns ≡ self.old.turns }
-        ensures going { result ≡ Poll.Pending → IsSome self.new.live }
-        ensures gives { (rule : GateRule) (first : RequestAt T.Value (Body (Cancellable T.Source)) T.Cached) → GateFits rule gate
-            → StandsFor P.calling rule first self.old → AskedGives P.calling rule first self.old.fairings self.old.turns gate self.new result }
+    /// Goes on under a Gate, until a fairing is Pending or all were called.
+    pub fn poll(self, gate: Gate) -> Progress<AskingOf<'a, T, F, P>, Asked<'a, T>>
+        ensures { (rule : GateRule) (first : RequestAt T.Value (Body (Cancellable T.Source)) T.Cached) → GateFits rule gate
+            → StandsFor (slot_request P.calling) rule first self.entry → AskedGives (slot_request P.calling) rule first self.entry.fairings self.entry.turns gate result }
     {
-        let Some(underway) = self.live.take() else {
-            unreachable!();
-        };
-        let Underway { mut lent, mut next } = underway;
-        let (alloc, fairings, turns) = (self.alloc, self.fairings, self.turns);
-        let most = turns.max(1);
-        lent.live.ctx.set_gate(gate);
-        loop {
-            let Some(mut call) = next else {
-                return Poll::Ready(AskedOf::Done(lent));
-            };
-            match turned::<T, F, P>(alloc, fairings, most, &mut lent, &mut call) {
-                Turn::Pending => {
-                    self.live = Some(Underway {
-                        lent,
-                        next: Some(call),
-                    });
-                    return Poll::Pending;
-                }
-                Turn::Over(reply) => {
-                    match called::<T, F, P>(fairings, turns, &mut lent, call.place, reply) {
-                        Ok(begun) => next = begun,
-                        Err(_) => return Poll::Ready(give_up(lent)),
-                    }
-                }
-            }
+        let AskingOf {
+            alloc,
+            fairings,
+            turns,
+            underway,
+        } = self;
+        match run::<T, F, P>(alloc, fairings, turns, underway, gate) {
+            Progress::Pending(underway) => Progress::Pending(AskingOf {
+                alloc,
+                fairings,
+                turns,
+                underway,
+            }),
+            Progress::Ready(over) => Progress::Ready(over),
         }
     }
 }

@@ -4,6 +4,7 @@ ghost use Rattle.rkt_fairing.specs.Places.{places_of};
 ghost use Rattle.rkt_lifecycle.specs.Recorded.{fairing_answer};
 
 use rkt_fairing::{Callback, Fairings};
+use rkt_request::{Body0, Ctx, Request, Types};
 use rkt_response::Response;
 use rkt_router::Final;
 use rkt_routing::{Answer, Live};
@@ -22,11 +23,17 @@ pub struct Departure<R, X, S> {
     pub response: Response<S>,
 }
 
-/// The call of the fairing at a place, which was Pending so many turns.
+/// A request of an application as it arrives.
+pub type ArrivalOf<'a, T> = Arrival<Request<'a, T>, Body0<T>, Ctx<T>>;
+
+/// A response of an application before it departs.
+pub type DepartureOf<'a, T> = Departure<Request<'a, T>, Ctx<T>, <T as Types>::Stream>;
+
+/// The call of the fairing at a place, which was Pending so many turns; a shield has no task of its own.
 #[derive(Drop)]
 pub struct FairingTask<K> {
     pub place: usize,
-    pub task: K,
+    pub task: Option<K>,
     pub turn: u32,
 }
 

@@ -1,5 +1,6 @@
 use Rattle.std.proofs.Common.{◌+◌, refl, subst}
 use Rattle.rkt_fairing.specs.declared.callback.Callback.TheVariants.{Response}
+use Rattle.rkt_fairing.specs.InSlot.{slot_response}
 use Rattle.rkt_router.specs.Calling.{Starts}
 use Rattle.rkt_routing.specs.MakingLaws.{some_turns}
 use Rattle.rkt_lifecycle.proofs.Chaining.{begins_falls, begins_stand, called_next, found_within}
@@ -12,10 +13,10 @@ returns g c = record {
   gate = refl;
   shutdown = refl;
   gives = λ rule first so.
-      let chain = answering g.Q.ResponseCallback.calling rule c.args.fairings.now c.args.turns first.request in
-      let whole = Leads g.Q.ResponseCallback.calling rule c.args.fairings.now c.args.turns first in
-      let begins = subst (λ r. Begins Response c.args.fairings.now (c.args.place + 1) (λ fairing task. Starts g.Q.ResponseCallback.calling fairing r task) c.begin.result) so.0
-      (subst (λ p. Begins Response c.args.fairings.now p (λ fairing task. Starts g.Q.ResponseCallback.calling fairing c.args.departure.now.live.request task) c.begin.result)
+      let chain = answering (slot_response g.Q.ResponseCallback.calling) rule c.args.fairings.now c.args.turns first.request in
+      let whole = Leads (slot_response g.Q.ResponseCallback.calling) rule c.args.fairings.now c.args.turns first in
+      let begins = subst (λ r. Begins Response c.args.fairings.now (c.args.place + 1) (λ fairing task. Starts (slot_response g.Q.ResponseCallback.calling) fairing r task) c.begin.result) so.0
+      (subst (λ p. Begins Response c.args.fairings.now p (λ fairing task. Starts (slot_response g.Q.ResponseCallback.calling) fairing c.args.departure.now.live.request task) c.begin.result)
       (c.place_behind-next.ensures (found_within Response c.args.fairings.now c.args.place so.1.found)) c.begin.ensures.begins) in (
         so.0,
         begins_stand chain whole first.at.kept.shutdown Ends (answered_at c.args.departure.now) c.push.new.self (c.args.place + 1) c.begin.result (some_turns c.args.turns) begins
@@ -23,5 +24,5 @@ returns g c = record {
             (rw (← c.fairing_says.ensures) c.recorded-call.ensures) so.1),
       );
   falls = λ within. begins_falls Response c.args.fairings.now c.args.place c.begin.result _ within
-      (subst (λ p. Begins Response c.args.fairings.now p (λ fairing task. Starts g.Q.ResponseCallback.calling fairing c.args.departure.now.live.request task) c.begin.result) (c.place_behind-next.ensures within) c.begin.ensures.begins);
+      (subst (λ p. Begins Response c.args.fairings.now p (λ fairing task. Starts (slot_response g.Q.ResponseCallback.calling) fairing c.args.departure.now.live.request task) c.begin.result) (c.place_behind-next.ensures within) c.begin.ensures.begins);
 }

@@ -1,70 +1,18 @@
-use Rattle.std.proofs.Common.{◌∙◌, arith, sym}
-use Rattle.rkt_fairing.specs.declared.callback.Callback.TheVariants.{Request}
+use Rattle.std.proofs.Common.{refl}
 use Rattle.rkt_router.specs.CallLaws.{any_gate_fits}
 use Rattle.rkt_router.specs.Calls.{any_gate}
-use Rattle.rkt_lifecycle.proofs.Chaining.{call_backs, call_turned, calls_end, found_within}
-use Rattle.rkt_lifecycle.specs.Asks.{Leads, asked_at, asking}
-use Rattle.rkt_lifecycle.specs.Chain.{Ends}
 use Rattle.rkt_lifecycle.proofs.asking.AskingOf.poll.Goals as goal
 
-pub returns-in_default-next-clause-gives : goal.returns-in_default-next-clause-gives
-returns-in_default-next-clause-gives g c = λ rule first fits stands.
-    let now = c.loop-next.invariant.2 rule first fits (rw c.set_gate.ensures (rw (sym c.take.ensures.value ∙ c.in-Some.is) at (rw (← c.self.view_is) at stands))) in
-    rw (← c.self.view_is) (calls_end (asking g.P.RequestCallback.calling rule c.self.inside.fairings.now c.self.inside.turns) first first.kept.shutdown (asked_at c.loop-next.lent) c.loop-next.lent.live.calls (rw c.in_default-next.is at now))
+pub run-requires : goal.run-requires
+run-requires g c = c.self.invariant
 
-pub invariant_of-self-in-Pending : goal.invariant_of-self-in-Pending
-invariant_of-self-in-Pending g c =
-    let first = c.loop-next.invariant.1.0 in
-    let waits = rw c.in-Pending.is at (call_turned (asking g.P.RequestCallback.calling any_gate c.self.inside.fairings.now c.self.inside.turns) (Leads g.P.RequestCallback.calling any_gate c.self.inside.fairings.now c.self.inside.turns first) first.kept.shutdown Ends (asked_at c.loop-next.lent) (asked_at c.turned.new.arrival) c.loop-next.lent.live.calls
-    c.turned.new.arrival.live.calls c.in-Some-next.call c.turned.new.call c.args.gate c.max-most.result c.turned.result c.max-most.ensures (any_gate_fits c.args.gate) c.turned.ensures.calls c.turned.ensures.place c.turned.ensures.turn c.turned.ensures.left
-    (λ pending fairing found. rw c.loop-next.invariant.0 at (c.turned.ensures.pending pending fairing found))
-    (λ before fairing found making. (c.turned.ensures.grows any_gate before fairing found making).kept.shutdown)
-    (λ before fairing found making. c.turned.ensures.gives any_gate before fairing found (rw c.loop-next.invariant.0 (any_gate_fits c.args.gate)) making)
-    (rw c.in-Some-next.is at c.loop-next.invariant.1.1)) in
-    (first, rw c.loop-next.invariant.3 waits.0)
+pub invariant_of-result : goal.invariant_of-result
+invariant_of-result g c = (c.self.invariant.0, (c.in-Pending.ensures any_gate c.self.invariant.0 (any_gate_fits c.args.gate) c.self.invariant.1).0)
 
-pub returns-in-Pending-clause-gives : goal.returns-in-Pending-clause-gives
-returns-in-Pending-clause-gives g c = λ rule first fits stands.
-    let now = c.loop-next.invariant.2 rule first fits (rw c.set_gate.ensures (rw (sym c.take.ensures.value ∙ c.in-Some.is) at (rw (← c.self.view_is) at stands))) in
-    let waits = rw c.in-Pending.is at (call_turned (asking g.P.RequestCallback.calling rule c.self.inside.fairings.now c.self.inside.turns) (Leads g.P.RequestCallback.calling rule c.self.inside.fairings.now c.self.inside.turns first) first.kept.shutdown Ends (asked_at c.loop-next.lent) (asked_at c.turned.new.arrival) c.loop-next.lent.live.calls
-    c.turned.new.arrival.live.calls c.in-Some-next.call c.turned.new.call c.args.gate c.max-most.result c.turned.result c.max-most.ensures fits c.turned.ensures.calls c.turned.ensures.place c.turned.ensures.turn c.turned.ensures.left
-    (λ pending fairing found. rw c.loop-next.invariant.0 at (c.turned.ensures.pending pending fairing found))
-    (λ before fairing found making. (c.turned.ensures.grows rule before fairing found making).kept.shutdown)
-    (λ before fairing found making. c.turned.ensures.gives rule before fairing found (rw c.loop-next.invariant.0 fits) making)
-    (rw c.in-Some-next.is at now)) in
-    rw (← c.self.view_is) (rw c.loop-next.invariant.3 (waits.0, waits))
+pub returns-in-Pending : goal.returns-in-Pending
+returns-in-Pending g c = λ rule first fits stands.
+    let runs = c.in-Pending.ensures rule first fits (rw (← c.self.view_is) at stands) in
+    rw (← c.self.view_is) (refl, refl, runs.0, runs.1)
 
-pub returns-in-Err-clause-gives : goal.returns-in-Err-clause-gives
-returns-in-Err-clause-gives g c = λ rule first fits stands.
-    let now = c.loop-next.invariant.2 rule first fits (rw c.set_gate.ensures (rw (sym c.take.ensures.value ∙ c.in-Some.is) at (rw (← c.self.view_is) at stands))) in
-    rw (c.give_up.ensures, c.in-Err.ensures.shutdown) (call_backs (asking g.P.RequestCallback.calling rule c.self.inside.fairings.now c.self.inside.turns) (Leads g.P.RequestCallback.calling rule c.self.inside.fairings.now c.self.inside.turns first) first.kept.shutdown Ends (asked_at c.loop-next.lent) (asked_at c.turned.new.arrival) c.loop-next.lent.live.calls
-    c.in-Some-next.call c.max-most.result c.max-most.ensures (λ before fairing found making. (c.turned.ensures.grows rule before fairing found making).kept.shutdown) (rw c.in-Some-next.is at now))
-
-pub loop-next-smaller : goal.loop-next-smaller
-loop-next-smaller g c =
-    let was = rw c.in-Some-next.is at c.loop-next.invariant.1.1 in
-    let within = found_within Request c.self.inside.fairings.now c.in-Some-next.call.place was.found in
-    let falls = c.in-Ok.ensures.falls (rw c.turned.ensures.place within) in
-    rw c.in-Some-next.is (omega (arith, falls, c.turned.ensures.place))
-
-pub loop-next-preserved : goal.loop-next-preserved
-loop-next-preserved g c =
-    let begun = c.loop-next.invariant.1.0 in
-    let asked = rw c.in-Over.is at (call_turned (asking g.P.RequestCallback.calling any_gate c.self.inside.fairings.now c.self.inside.turns) (Leads g.P.RequestCallback.calling any_gate c.self.inside.fairings.now c.self.inside.turns begun) begun.kept.shutdown Ends (asked_at c.loop-next.lent) (asked_at c.turned.new.arrival) c.loop-next.lent.live.calls
-    c.turned.new.arrival.live.calls c.in-Some-next.call c.turned.new.call c.args.gate c.max-most.result c.turned.result c.max-most.ensures (any_gate_fits c.args.gate) c.turned.ensures.calls c.turned.ensures.place c.turned.ensures.turn c.turned.ensures.left
-    (λ pending fairing found. rw c.loop-next.invariant.0 at (c.turned.ensures.pending pending fairing found))
-    (λ before fairing found making. (c.turned.ensures.grows any_gate before fairing found making).kept.shutdown)
-    (λ before fairing found making. c.turned.ensures.gives any_gate before fairing found (rw c.loop-next.invariant.0 (any_gate_fits c.args.gate)) making)
-    (rw c.in-Some-next.is at c.loop-next.invariant.1.1)) in (
-      c.in-Ok.ensures.gate ∙ c.turned.ensures.gate ∙ c.loop-next.invariant.0,
-      (begun, c.in-Ok.ensures.gives any_gate begun asked),
-      λ rule first fits start.
-          let now = c.loop-next.invariant.2 rule first fits start in
-          c.in-Ok.ensures.gives rule first (rw c.in-Over.is at (call_turned (asking g.P.RequestCallback.calling rule c.self.inside.fairings.now c.self.inside.turns) (Leads g.P.RequestCallback.calling rule c.self.inside.fairings.now c.self.inside.turns first) first.kept.shutdown Ends (asked_at c.loop-next.lent) (asked_at c.turned.new.arrival) c.loop-next.lent.live.calls
-          c.turned.new.arrival.live.calls c.in-Some-next.call c.turned.new.call c.args.gate c.max-most.result c.turned.result c.max-most.ensures fits c.turned.ensures.calls c.turned.ensures.place c.turned.ensures.turn c.turned.ensures.left
-          (λ pending fairing found. rw c.loop-next.invariant.0 at (c.turned.ensures.pending pending fairing found))
-          (λ before fairing found making. (c.turned.ensures.grows rule before fairing found making).kept.shutdown)
-          (λ before fairing found making. c.turned.ensures.gives rule before fairing found (rw c.loop-next.invariant.0 fits) making)
-          (rw c.in-Some-next.is at now))),
-      c.loop-next.invariant.3,
-    )
+pub returns-in-Ready : goal.returns-in-Ready
+returns-in-Ready g c = λ rule first fits stands. rw (← c.self.view_is) (c.in-Ready.ensures rule first fits (rw (← c.self.view_is) at stands))

@@ -1,0 +1,32 @@
+-- What the callbacks of an application mean, and the Gates under which they are polled.
+use Rattle.std.specs.Prelude.{Option, Result}
+use Rattle.rkt_fairing.specs.Callbacks.{RequestAt, ResponseAt}
+use Rattle.rkt_fairing.specs.declared.slot.Slot.{Slot}
+use Rattle.rkt_http.specs.declared.status.Status.{Status}
+use Rattle.rkt_message.specs.Response.{ResponseOf}
+use Rattle.rkt_request.specs.Lent.{Kept}
+use Rattle.rkt_request.specs.Seen.{Seen}
+use Rattle.rkt_router.specs.Callbacks.{Handed, Refused, Reply}
+use Rattle.rkt_router.specs.Calling.{Calling}
+use Rattle.rkt_router.specs.Calls.{GateRule}
+use Rattle.rkt_routing.specs.Relations.{Relations as Callbacks}
+
+-- V is the type of managed values, B that of bodies, C that of cached values, S that of streams, F that of fairings, with the
+-- types of their tasks for requests and for responses; H and K are those of handlers and of catchers' handlers, with the types
+-- of their tasks
+pub record Relations (V B C S F FTask GTask H HTask K KTask : Type 0) : Type 1 where
+  pub requests : Calling (Slot F) (Unit {0}) (RequestAt V B C) (Unit {0}) (Option FTask)
+  pub responses : Calling (Slot F) (Seen V) (ResponseAt S C) (Unit {0}) (Option GTask)
+  pub handlers : Calling H (Handed V B) (Kept C) (Reply S B) HTask
+  pub catchers : Calling K (Refused V) (Kept C) (Result (ResponseOf S) Status) KTask
+  -- which Gates a callback may be polled under
+  pub gates : GateRule
+
+abbrev pub relations : {V B C S F FTask GTask H HTask K KTask : Type 0} → Calling (Slot F) (Unit {0}) (RequestAt V B C) (Unit {0}) (Option FTask)
+    → Calling (Slot F) (Seen V) (ResponseAt S C) (Unit {0}) (Option GTask) → Calling H (Handed V B) (Kept C) (Reply S B) HTask
+    → Calling K (Refused V) (Kept C) (Result (ResponseOf S) Status) KTask → GateRule → Relations V B C S F FTask GTask H HTask K KTask
+relations requests responses handlers catchers gates = record { requests = requests; responses = responses; handlers = handlers; catchers = catchers; gates = gates }
+
+-- those by which a request is routed
+abbrev pub callbacks : {V B C S F FTask GTask H HTask K KTask : Type 0} → Relations V B C S F FTask GTask H HTask K KTask → Callbacks V B C S H HTask K KTask
+callbacks rel = record { handlers = rel.handlers; catchers = rel.catchers; gates = rel.gates }

@@ -1,0 +1,153 @@
+-- What an exchange holds in each of its phases.
+use Rattle.std.specs.Prelude.{◌≡◌, ◌++◌, ◌∷◌, ℕ, List, [], Bool, IsSomeAnd, Option, Some, None, ⊤}
+use Rattle.rkt_base.specs.declared.poll.Poll.{Poll}
+use Rattle.rkt_base.specs.declared.poll.Poll.TheVariants as poll
+use Rattle.rkt_fairing.specs.Callbacks.{RequestAt}
+use Rattle.rkt_message.specs.Response.{ResponseOf}
+use Rattle.rkt_request.specs.Lent.{Lent}
+use Rattle.rkt_request.specs.Seen.{Seen}
+use Rattle.rkt_request.specs.declared.bad.Bad.{Bad}
+use Rattle.rkt_router.specs.Calls.{GateFits, GateRule}
+use Rattle.rkt_routing.specs.Backs.{Backs}
+use Rattle.rkt_routing.specs.Beginning.{Beginning}
+use Rattle.rkt_routing.specs.Found.{Found}
+use Rattle.rkt_routing.specs.Routed.{is_head}
+use Rattle.rkt_routing.specs.Stands.{Holding, StandsAt, WaitsAt}
+use Rattle.rkt_routing.specs.declared.progress.Progress.{Progress}
+use Rattle.rkt_routing.specs.declared.progress.Progress.TheVariants as progress
+use Rattle.rkt_routing.specs.declared.run.Call.{Call}
+use Rattle.rkt_routing.specs.declared.stage.Live.{Live}
+use Rattle.rkt_source.specs.declared.source.Gate.{Gate}
+use Rattle.rkt_turn.specs.HandsBack.{HandsBack}
+use Rattle.rkt_turn.specs.Shutdown.{Handle}
+use Rattle.rkt_lifecycle.specs.Answers.{Answers, AnswerStands, Outgoing, Pends as AnswerPends}
+use Rattle.rkt_lifecycle.specs.Asks.{Asks, AskStands, Pends as AskPends}
+use Rattle.rkt_lifecycle.specs.Beginning.{Over}
+use Rattle.rkt_lifecycle.specs.Dressed.{dressed}
+use Rattle.rkt_lifecycle.specs.Lifecycle.{Asked, Lifecycle, Routed}
+use Rattle.rkt_lifecycle.specs.Relations.{Relations, callbacks}
+use Rattle.rkt_lifecycle.specs.Tables.{SeenTables, table_of}
+use Rattle.rkt_lifecycle.specs.declared.ended.EndedOf.{EndedOf}
+use Rattle.rkt_lifecycle.specs.declared.ended.EndedOf.TheVariants as ended
+use Rattle.rkt_lifecycle.specs.declared.phase.Phase.{Phase}
+use Rattle.rkt_lifecycle.specs.declared.phase.Phase.TheVariants as phase
+
+-- a moment is that of a Gate that fits the rule
+abbrev pub IsMoment : GateRule → ℕ → Type 0
+IsMoment rule moment = (gate : Gate) × GateFits rule gate × (gate.moment ≡ moment)
+
+-- it is bad
+abbrev pub IsBad : List Bad → Type 0
+IsBad faults = (fault : Bad) × (others : List Bad) × (faults ≡ fault ∷ others)
+
+-- what was found, as it is lent
+abbrev pub found_of : {V C S : Type 0} → Live (Seen V) (Lent C) → ResponseOf S → Found V C S
+found_of live response = record { response = response; request = live.request; kept = live.ctx.kept }
+
+-- where an exchange stands, as contracts see it
+abbrev pub SeenPhase : (V B C S F FTask GTask H HTask K KTask N : Type 0) → Type 0
+SeenPhase V B C S F FTask GTask H HTask K KTask N = Phase (Asks V B C F FTask) (Holding V B C H HTask K KTask N) (Answers V C S F GTask)
+
+-- an exchange as contracts see it
+pub record SeenExchange (V B C S F FTask GTask H HTask K KTask N : Type 0) : Type 0 where
+  pub tables : SeenTables F H K N V
+  pub phase : Option (SeenPhase V B C S F FTask GTask H HTask K KTask N)
+
+module _ {V B C S F FTask GTask H HTask K KTask N : Type 0} (rel : Relations V B C S F FTask GTask H HTask K KTask) (first : Beginning V B C) (tables : SeenTables F H K N V) where
+  -- the fairings were called for a request
+  pub record WasAsked (calls : List Call) (asked : RequestAt V B C) : Type 0 where
+    pub good : first.faults ≡ []
+    pub asks : Asked rel tables first.at calls asked
+    pub backs : Backs first.at.kept.shutdown asked.kept.shutdown calls
+
+  -- and it was routed, and its response dressed at a moment; `head` says whether its method was HEAD
+  pub record WasRouted (calls : List Call) (head : Bool) (moment : ℕ) (out : Outgoing V C S) : Type 0 where
+    pub asked : RequestAt V B C
+    pub found : Found V C S
+    pub before : List Call
+    pub between : List Call
+    pub calls_are : calls ≡ before ++ between
+    pub asks : WasAsked before asked
+    pub finds : Routed rel tables [] asked between found
+    pub head_is : head ≡ is_head asked.request.method
+    pub moment_is : IsMoment rel.gates moment
+    pub out_is : out ≡ dressed tables.config.ident moment found
+    pub backs : Backs first.at.kept.shutdown out.at.kept.shutdown calls
+
+  -- it was routed to this, behind these calls
+  pub record WasFound (calls : List Call) (head : Bool) (live : Live (Seen V) (Lent C)) (response : ResponseOf S) : Type 0 where
+    pub asked : RequestAt V B C
+    pub asks : WasAsked calls asked
+    pub head_is : head ≡ is_head asked.request.method
+    pub finds : Routed rel tables [] asked live.calls (found_of live response)
+    pub backs : Backs asked.kept.shutdown live.ctx.kept.shutdown live.calls
+
+  -- fairings are being called for a request
+  pub record IsAsking (asks : Asks V B C F FTask) : Type 0 where
+    pub good : first.faults ≡ []
+    pub fairings : asks.fairings ≡ tables.fairings
+    pub turns : asks.turns ≡ tables.config.turns
+    pub stands : AskStands rel.requests rel.gates tables.fairings tables.config.turns first.at asks.lent asks.next
+
+  -- it is being routed
+  pub record IsRouting (routing : Holding V B C H HTask K KTask N) (calls : List Call) (head : Bool) : Type 0 where
+    pub asked : RequestAt V B C
+    pub asks : WasAsked calls asked
+    pub head_is : head ≡ is_head asked.request.method
+    pub table : routing.table ≡ table_of tables
+    pub stands : StandsAt (callbacks rel) (record { at = asked; faults = [] }) (table_of tables) routing.live routing.stage
+
+  -- a bad one is being answered
+  pub record IsRefusing (routing : Holding V B C H HTask K KTask N) : Type 0 where
+    pub bad : IsBad first.faults
+    pub table : routing.table ≡ table_of tables
+    pub stands : StandsAt (callbacks rel) first (table_of tables) routing.live routing.stage
+
+  -- fairings are being called for a response
+  pub record IsAnswering (answers : Answers V C S F GTask) (calls : List Call) (head : Bool) (moment : ℕ) : Type 0 where
+    pub out : Outgoing V C S
+    pub routed : WasRouted calls head moment out
+    pub fairings : answers.fairings ≡ tables.fairings
+    pub turns : answers.turns ≡ tables.config.turns
+    pub stands : AnswerStands rel.responses rel.gates tables.fairings tables.config.turns out answers.lent answers.next
+
+  abbrev pub StandsIn : SeenPhase V B C S F FTask GTask H HTask K KTask N → Type 0
+  StandsIn (phase.Asking asks) = IsAsking asks
+  StandsIn (phase.Routing routing calls head) = IsRouting routing calls head
+  StandsIn (phase.Refusing routing) = IsRefusing routing
+  StandsIn (phase.Answering answers calls head moment) = IsAnswering answers calls head moment
+
+  -- a callback was Pending, and this is the Gate of its last poll
+  abbrev pub WaitsIn : Gate → SeenPhase V B C S F FTask GTask H HTask K KTask N → Type 0
+  WaitsIn gate (phase.Asking asks) = AskPends rel.requests rel.gates tables.fairings tables.config.turns first.at gate asks.lent asks.next
+  WaitsIn gate (phase.Routing routing calls head) =
+      (routing.live.ctx.gate ≡ gate) × (asked : RequestAt V B C) × WaitsAt (callbacks rel) (record { at = asked; faults = [] }) (table_of tables) routing.live routing.stage
+  WaitsIn gate (phase.Refusing routing) = (routing.live.ctx.gate ≡ gate) × WaitsAt (callbacks rel) first (table_of tables) routing.live routing.stage
+  WaitsIn gate (phase.Answering answers calls head moment) =
+      (out : Outgoing V C S) × AnswerPends rel.responses rel.gates tables.fairings tables.config.turns out gate answers.lent answers.next
+
+  -- how an exchange ends: with a run that leads to its response, and the handle; each word that the run recorded is the one
+  -- that the handle has seen, and its moment is that of a Gate
+  pub record IsFinished (calls : List Call) (over : Over C S) : Type 0 where
+    pub lifecycle : Lifecycle rel tables first calls over
+    pub moment : IsMoment rel.gates over.moment
+    pub backs : Backs first.at.kept.shutdown over.kept.shutdown calls
+
+  abbrev pub EndsSo : EndedOf C S Handle → Type 0
+  EndsSo (ended.Finished run response shutdown) =
+      IsFinished run.calls (record { kept = record { jar = run.jar; cache = run.cache; shutdown = shutdown }; moment = run.moment; response = response })
+  EndsSo (ended.Starved shutdown) = HandsBack first.at.kept.shutdown shutdown
+
+  -- what a poll under a Gate gives
+  abbrev pub PolledGives : Gate → Progress (SeenPhase V B C S F FTask GTask H HTask K KTask N) (EndedOf C S Handle) → Type 0
+  PolledGives gate (progress.Pending now) = StandsIn now × WaitsIn gate now
+  PolledGives gate (progress.Ready over) = EndsSo over
+
+  -- the same of an exchange, unless it has ended
+  abbrev pub StandsFor : Option (SeenPhase V B C S F FTask GTask H HTask K KTask N) → Type 0
+  StandsFor None = ⊤
+  StandsFor (Some now) = StandsIn now
+
+  abbrev pub ExchangeGives : Gate → Option (SeenPhase V B C S F FTask GTask H HTask K KTask N) → Poll (EndedOf C S Handle) → Type 0
+  ExchangeGives gate phase poll.Pending = IsSomeAnd phase (λ now. StandsIn now × WaitsIn gate now)
+  ExchangeGives gate phase (poll.Ready over) = EndsSo over

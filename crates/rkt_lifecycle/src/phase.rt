@@ -1,0 +1,24 @@
+use rkt_base::Seq;
+use rkt_routing::Call;
+
+/// Where an exchange stands: A is the type of calls for a request, R that of routing, and W that of calls for a response.
+#[derive(Drop)]
+pub enum Phase<A, R, W> {
+    /// Fairings are called for the request.
+    Asking(A),
+    /// It is routed, behind these calls; `head` where its method was HEAD.
+    Routing {
+        routing: R,
+        calls: Seq<Call>,
+        head: bool,
+    },
+    /// A bad request is answered.
+    Refusing(R),
+    /// Fairings are called for the response, behind these calls; its cookies were sent at this moment.
+    Answering {
+        answering: W,
+        calls: Seq<Call>,
+        head: bool,
+        moment: u64,
+    },
+}
