@@ -43,7 +43,7 @@ def functions(source):
     for at, line in enumerate(lines):
         if head := HEAD.match(line):
             if head[2] in ("trait", "impl"):
-                whole = " ".join([head[3], *lines[at + 1:at + 8]]).split("{")[0]
+                whole = " ".join([head[3], *lines[at + 1:at + 16]]).split("{")[0]
                 owners = owners_of(head[2], whole)
                 open_to_all = head[1] == "pub " if head[2] == "trait" else bool(re.search(r"\bfor\b", without_arguments(whole)))
         elif line == "}":

@@ -1,3 +1,2 @@
-pub mod Changers
 pub mod Pages
 pub mod PageLaws

@@ -1,4 +1,5 @@
-ghost use Rattle.std.specs.Prelude.{◌≡◌, [], IfOk, OnOk, OnErr, Some, None, string_bytes};
+ghost use Rattle.std.specs.List.{slice_split};
+ghost use Rattle.std.specs.Prelude.{◌≡◌, ◌++◌, [], IfOk, OnOk, OnErr, Some, None, fold, string_bytes};
 ghost use Rattle.std.specs.Option.{option_copied};
 ghost use Rattle.rkt_base.specs.Want.{IfRefused, GivesUnlessNoMemory};
 ghost use Rattle.rkt_cookie.specs.Attribute.{with_attribute};
@@ -6,7 +7,7 @@ ghost use Rattle.rkt_cookie.specs.Cookie.{Parts, bare, removal};
 ghost use Rattle.rkt_cookie.specs.Encoded.{encoded_text};
 ghost use Rattle.rkt_cookie.specs.Jar.{is_named};
 ghost use Rattle.rkt_cookie.specs.ReadBack.{IsPrintable, read_back};
-ghost use Rattle.rkt_cookie.specs.Reading.{IsNoPair, Reads, first_piece};
+ghost use Rattle.rkt_cookie.specs.Reading.{IsNoPair, Reads, first_piece, is_semicolon, with_piece};
 
 use crate::attribute::Attribute;
 use crate::builder::CookieBuilder;
@@ -246,12 +247,20 @@ impl Cookie {
     {
         let (name, value) = parse_pair(alloc, before_semicolon(text))?;
         let mut cookie = Cookie::of_parts(name, value);
-        for piece in behind_semicolon(text).split(';') {
+        cookie.set_pieces(alloc, behind_semicolon(text))?;
+        Ok(cookie)
+    }
+
+    /// Sets what each piece of a text says.
+    fn set_pieces(&mut self, alloc: Global, pieces: &str) -> Result<(), NoMemory>
+        ensures { OnOk result (self.new ≡ fold with_piece self.old (slice_split is_semicolon pieces.now)) }
+    {
+        for piece in pieces.split(';') {
             if let Some(attribute) = parse_attribute(alloc, piece)? {
-                cookie.set(attribute);
+                self.set(attribute);
             }
         }
-        Ok(cookie)
+        Ok(())
     }
 
     fn set(&mut self, attribute: Attribute)
@@ -275,17 +284,26 @@ impl Cookie {
         ensures read_again { IfOk result (λ text. IsPrintable self.now → Reads (string_bytes text) (read_back self.now)) }
     {
         let mut text = String::new(alloc);
-        push_escaped(&mut text, self.name())?;
-        text.push_str("=")?;
-        push_escaped(&mut text, self.value())?;
-        push_http_only(&mut text, self.http_only)?;
-        push_same_site(&mut text, self.same_site)?;
-        push_secure(&mut text, self.secure, self.same_site)?;
-        push_path(&mut text, &self.path)?;
-        push_domain(&mut text, &self.domain)?;
-        push_max_age(&mut text, self.max_age)?;
-        push_expires(&mut text, self.expires)?;
+        self.push_to(&mut text)?;
         Ok(text)
+    }
+
+    /// Adds the text that the cookie is sent as.
+    fn push_to(&self, text: &mut String) -> Result<(), NoMemory>
+        ensures printed { OnOk result (string_bytes text.new ≡ string_bytes text.old ++ encoded_text self.now) }
+        ensures read_again { OnOk result (IsPrintable self.now → Reads (encoded_text self.now) (read_back self.now)) }
+    {
+        push_escaped(text, self.name())?;
+        text.push_str("=")?;
+        push_escaped(text, self.value())?;
+        push_http_only(text, self.http_only)?;
+        push_same_site(text, self.same_site)?;
+        push_secure(text, self.secure, self.same_site)?;
+        push_path(text, &self.path)?;
+        push_domain(text, &self.domain)?;
+        push_max_age(text, self.max_age)?;
+        push_expires(text, self.expires)?;
+        Ok(())
     }
 
     /// Makes this the cookie that takes itself away from a client, at a moment in seconds since 1970. Path and domain

@@ -1,6 +1,7 @@
 ghost use Rattle.std.specs.Prelude.{◌≡◌, ◌++◌, ◌∷◌, [], IfOk, OnOk, OnErr, length, option_to_list};
 ghost use Rattle.std.specs.Option.{option_copied};
 ghost use Rattle.std.specs.Iterator.{YieldsFirstRef, item_count};
+ghost use Rattle.rkt_cookie.specs.JarEntries.{IsByName, cookies_in};
 ghost use Rattle.rkt_cookie.specs.Jar.{NamesAscend, addition, cookie_of, delta, last_change, left_by, pending_changes, removal_of, sent, with_cookie, with_defaults};
 
 use crate::change::Change;
@@ -89,6 +90,22 @@ fn push_any(cookies: &mut Vec<Cookie>, cookie: Option<Cookie>) -> Result<(), NoM
         Some(cookie) => Ok(cookies.push(cookie)?),
         None => Ok(()),
     }
+}
+
+/// Keeps a cookie under its name.
+fn insert_named(
+    alloc: Global,
+    cookies: &mut BTreeMap<String, Cookie>,
+    cookie: Cookie,
+) -> Result<(), NoMemory>
+    requires { IsByName cookies.old.entries }
+    ensures by_name { IsByName cookies.new.entries }
+    ensures ok { OnOk result (cookies_in cookies.new.entries ≡ with_cookie (cookies_in cookies.old.entries) cookie) }
+    ensures err { OnErr result (cookies.new.entries ≡ cookies.old.entries) }
+{
+    let name = String::from_str(alloc, cookie.name())?;
+    cookies.insert(name, cookie)?;
+    Ok(())
 }
 
 impl CookieJar {
@@ -186,8 +203,7 @@ impl CookieJar {
         ensures ok { OnOk result (self.new ≡ record self.old { originals = with_cookie self.old.originals cookie }) }
         ensures err { OnErr result (self.new ≡ self.old) }
     {
-        let name = String::from_str(*self.log.allocator(), cookie.name())?;
-        self.originals.insert(name, cookie)?;
+        insert_named(*self.log.allocator(), &mut self.originals, cookie)?;
         Ok(())
     }
 

@@ -1,15 +1,15 @@
 -- Reading on behind the bytes of a buffer.
 use Rattle.std.specs.Option.{ForSome}
-use Rattle.std.proofs.Common.{◌≡◌, ℕ, ◌+◌, ◌≤◌, ◌++◌, ◌∙◌, ◌<◌, Bool, false, true, List, [], length, take, drop, Option, Result, Ok, Err, refl, sym, ap, ap₂, arith, append_assoc, append-nil, length-append, length-drop, length-take-le, take_all, take-add, drop-drop}
+use Rattle.std.proofs.Common.{◌≡◌, ℕ, ◌+◌, ◌≤◌, ◌++◌, ◌∙◌, ◌<◌, Bool, false, true, List, [], length, take, drop, Option, Result, Ok, refl, sym, ap, ap₂, arith, append_assoc, append-nil, length-append, length-drop, length-take-le, take_all, take-add, drop-drop}
 use Rattle.std.specs.Prelude.{nat_le}
 use Rattle.rkt_base.specs.declared.poll.Poll.{Poll}
-use Rattle.rkt_base.specs.declared.poll.Poll.TheVariants.{Ready, Pending}
+use Rattle.rkt_base.specs.declared.poll.Poll.TheVariants.{Ready}
 use Rattle.std.proofs.lemmas.Bool.{leb-true, leb-false}
 use Rattle.std.proofs.lemmas.List.{drop-take}
 use Rattle.rkt_data.specs.Gathering.{Gained, Gathered, Draws, IsUsedUp, Completes}
 use Rattle.rkt_source.specs.Source.{Meaning}
 use Rattle.rkt_data.specs.Stream.{Opened, Piped, Follows, TakesAtMost, IsComplete, whole_of}
-use Rattle.rkt_data.specs.Tap.{ByGate, AsksOnce, Ending, ending_of}
+use Rattle.rkt_data.specs.Tap.{AsksOnce, Ending, ending_of}
 use Rattle.rkt_data.specs.declared.capped.N.{N}
 use Rattle.rkt_source.specs.declared.source.Gate.{Gate}
 use Rattle.rkt_source.specs.declared.source.SourceError.{SourceError}

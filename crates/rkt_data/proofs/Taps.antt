@@ -1,5 +1,5 @@
 -- The source behind a body, over several reads.
-use Rattle.std.proofs.Common.{◌≡◌, ℕ, ◌≤◌, ◌∙◌, Bool, true, false, IsTrue, List, [], length, take, drop, Option, None, Some, Result, Ok, Err, inl, ⊎_elim, refl, sym, ap, arith, length-drop, length-take, take_all, take-append-drop, take-take}
+use Rattle.std.proofs.Common.{◌≡◌, ℕ, ◌≤◌, ◌∙◌, Bool, true, false, List, length, take, drop, Option, None, Some, Result, Ok, Err, inl, ⊎_elim, refl, sym, ap, arith, length-drop, length-take, take_all, take-append-drop, take-take}
 use Rattle.std.specs.Prelude.{◌++◌, min, option_map}
 use Rattle.std.proofs.lemmas.Bool.{false≢true}
 use Rattle.rkt_base.specs.declared.poll.Poll.{Poll}

@@ -1,5 +1,5 @@
 //! An opened body on its way to a sink.
-ghost use Rattle.std.specs.Prelude.{◌≡◌, ◌+◌, ◌≤◌, [], false, length};
+ghost use Rattle.std.specs.Prelude.{◌≡◌, ◌+◌, ◌-◌, ◌≤◌, [], false, length};
 ghost use Rattle.rkt_data.specs.Gathering.{IsUsedUp, Closes};
 ghost use Rattle.rkt_data.specs.Sending.{PumpStops, SentAll, Sends, SendsByGate, pumped_end};
 ghost use Rattle.rkt_source.specs.Sink.{SinkKeeps};
@@ -61,9 +61,9 @@ impl<S: Source, K: Sink> Sender<S, K> {
 
     // How many bytes were sent.
     pub(crate) fn sent(&self) -> u64
-        ensures count { result + (self.now.from + length self.now.pending) ≡ self.now.piped.opened.given }
-        ensures sends { Sends S.meaning K.meaning self.now.piped.opened self.now.sink self.now.from result }
-        ensures all { self.now.pending ≡ [] → IsUsedUp S.meaning self.now.piped.opened → SentAll S.meaning self.now.piped.opened self.now.from result }
+        ensures count { result ≡ self.now.piped.opened.given - (self.now.from + length self.now.pending) }
+        ensures sends { Sends S.meaning K.meaning self.now.piped.opened self.now.sink self.now.from (self.now.piped.opened.given - (self.now.from + length self.now.pending)) }
+        ensures all { self.now.pending ≡ [] → IsUsedUp S.meaning self.now.piped.opened → SentAll S.meaning self.now.piped.opened self.now.from (self.now.piped.opened.given - (self.now.from + length self.now.pending)) }
         ensures bound { PullsAtMost S.meaning self.now.piped.opened }
         ensures not_probed { self.now.piped.probed ≡ false → TakesAtMost S.meaning self.now.piped.opened self.now.piped.opened.limit }
     {

@@ -14,5 +14,4 @@ pub mod Requests
 pub mod Runs
 pub mod Sendable
 pub mod Serving
-pub mod Shielding
 pub mod StreamLemmas

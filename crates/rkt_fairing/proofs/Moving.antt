@@ -39,3 +39,9 @@ pub handed_on : {T U E : Type 0} (a : Result T (Want E)) (b : Result U (Want E))
 handed_on a (Err f) (Refused r) P Q was also so said = rw also (so (rw was at said))
 handed_on a (Err f) NoMemory P Q was also so said = rw also tt
 handed_on a (Ok x) e P Q was also so said = absurd also
+
+-- the same of one call
+pub refused_so : {T E : Type 0} (a : Result T (Want E)) (P Q : Type 0) → (P → Q) → IfRefused a (λ _. P) → IfRefused a (λ _. Q)
+refused_so (Ok x) P Q so said = tt
+refused_so (Err (Refused e)) P Q so said = so said
+refused_so (Err NoMemory) P Q so said = tt

@@ -1,5 +1,5 @@
 //! Fairings of one kind of a rocket's life, each over a change that the caller made.
-ghost use Rattle.std.specs.Prelude.{◌≡◌, None, Ok, Some, ⊤};
+ghost use Rattle.std.specs.Prelude.{◌≡◌, IfOk, None, Ok, OnOk, Some, ⊤};
 ghost use Rattle.rkt_router.specs.Answers.{StepsTo};
 ghost use Rattle.rkt_turn.specs.HandsBack.{HandsBack};
 ghost use Rattle.rkt_fairing.specs.LifeChanges.{once, tried_once};
@@ -94,10 +94,7 @@ impl<A: Parts, G, C: ChangesBuilding<A, G> + Drop> TriesBuilding<A, G> for OnIgn
         alloc: Global,
         building: &mut Building<A, G>,
     ) -> Result<Result<(), ()>, NoMemory> {
-        let Some(mut change) = self.change.take() else {
-            return Ok(Ok(()));
-        };
-        change.on_ignite(alloc, building)?;
+        change_once(alloc, &mut self.change, building)?;
         Ok(Ok(()))
     }
 }
@@ -123,12 +120,28 @@ impl<C> OnIgnite<C> {
     ) -> Step<Result<(), ()>>
     where
         C: ChangesBuilding<A, G> + Drop,
-        ensures { StepsTo result (λ answer. once C.may self.old.change building.old self.new.change building.new × (answer ≡ Ok tt)) ⊤ }
+        ensures name { self.new.name.now ≡ self.old.name.now }
+        ensures key { self.new.key ≡ self.old.key }
+        ensures changes { StepsTo result (λ answer. once C.may self.old.change building.old self.new.change building.new × (answer ≡ Ok tt)) ⊤ }
     {
-        match self.try_on_ignite(alloc, building) {
-            Ok(answer) => Step::Done(answer),
+        match change_once(alloc, &mut self.change, building) {
+            Ok(()) => Step::Done(Ok(())),
             Err(_) => Step::Starved,
         }
+    }
+}
+
+// Makes a change of the builder, unless it was made before.
+fn change_once<A: Parts, G, C: ChangesBuilding<A, G> + Drop>(
+    alloc: Global,
+    change: &mut Option<C>,
+    building: &mut Building<A, G>,
+) -> Result<(), NoMemory>
+    ensures { OnOk result (once C.may change.old building.old change.new building.new) }
+{
+    match change.take() {
+        Some(mut change) => change.on_ignite(alloc, building),
+        None => Ok(()),
     }
 }
 
@@ -170,10 +183,7 @@ impl<A: Parts, G, C: TriesBuilding<A, G> + Drop> TriesBuilding<A, G> for TryOnIg
         alloc: Global,
         building: &mut Building<A, G>,
     ) -> Result<Result<(), ()>, NoMemory> {
-        match self.change.take() {
-            Some(mut change) => change.try_on_ignite(alloc, building),
-            None => Ok(Ok(())),
-        }
+        try_once(alloc, &mut self.change, building)
     }
 }
 
@@ -198,12 +208,28 @@ impl<C> TryOnIgnite<C> {
     ) -> Step<Result<(), ()>>
     where
         C: TriesBuilding<A, G> + Drop,
-        ensures { StepsTo result (λ answer. tried_once C.may self.old.change building.old answer self.new.change building.new) ⊤ }
+        ensures name { self.new.name.now ≡ self.old.name.now }
+        ensures key { self.new.key ≡ self.old.key }
+        ensures changes { StepsTo result (λ answer. tried_once C.may self.old.change building.old answer self.new.change building.new) ⊤ }
     {
-        match self.try_on_ignite(alloc, building) {
+        match try_once(alloc, &mut self.change, building) {
             Ok(answer) => Step::Done(answer),
             Err(_) => Step::Starved,
         }
+    }
+}
+
+// The same of a change that may refuse.
+fn try_once<A: Parts, G, C: TriesBuilding<A, G> + Drop>(
+    alloc: Global,
+    change: &mut Option<C>,
+    building: &mut Building<A, G>,
+) -> Result<Result<(), ()>, NoMemory>
+    ensures { IfOk result (λ answer. tried_once C.may change.old building.old answer change.new building.new) }
+{
+    match change.take() {
+        Some(mut change) => change.try_on_ignite(alloc, building),
+        None => Ok(Ok(())),
     }
 }
 
@@ -246,10 +272,7 @@ impl<A: Parts, C: SeesLiftoff<A> + Drop> SeesLiftoff<A> for OnLiftoff<C> {
         view: &View<'_, A>,
         shutdown: &mut Shutdown<A::Reason>,
     ) -> Result<(), NoMemory> {
-        match self.change.take() {
-            Some(mut change) => change.on_liftoff(alloc, view, shutdown),
-            None => Ok(()),
-        }
+        see_once(alloc, &mut self.change, view, shutdown)
     }
 }
 
@@ -275,13 +298,31 @@ impl<C> OnLiftoff<C> {
     ) -> Step<()>
     where
         C: SeesLiftoff<A> + Drop,
+        ensures name { self.new.name.now ≡ self.old.name.now }
+        ensures key { self.new.key ≡ self.old.key }
         ensures changes { StepsTo result (λ _. once (λ change. C.may change view.now) self.old.change shutdown.old self.new.change shutdown.new) ⊤ }
         ensures hands_back { HandsBack shutdown.old shutdown.new }
     {
-        match self.on_liftoff(alloc, view, shutdown) {
+        match see_once(alloc, &mut self.change, view, shutdown) {
             Ok(()) => Step::Done(()),
             Err(_) => Step::Starved,
         }
+    }
+}
+
+// Makes a call at liftoff, unless it was made before.
+fn see_once<A: Parts, C: SeesLiftoff<A> + Drop>(
+    alloc: Global,
+    change: &mut Option<C>,
+    view: &View<'_, A>,
+    shutdown: &mut Shutdown<A::Reason>,
+) -> Result<(), NoMemory>
+    ensures changes { OnOk result (once (λ change. C.may change view.now) change.old shutdown.old change.new shutdown.new) }
+    ensures hands_back { HandsBack shutdown.old shutdown.new }
+{
+    match change.take() {
+        Some(mut change) => change.on_liftoff(alloc, view, shutdown),
+        None => Ok(()),
     }
 }
 

@@ -2,7 +2,7 @@
 ghost use Rattle.std.specs.Prelude.{◌≡◌, ◌++◌, All, IfOk, OnOk, map, string_bytes};
 ghost use Rattle.rkt_base.specs.Want.{IfRefused};
 ghost use Rattle.rkt_uri.specs.Origin.{IsOrigin, IsTarget, target_of};
-ghost use Rattle.rkt_fairing.specs.Below.{CanStandBehind, catcher_below, route_below};
+ghost use Rattle.rkt_fairing.specs.Below.{CanStandBehind, IsBase, catcher_below, route_below};
 
 use crate::InvalidBase;
 use rkt_base::{NoMemory, Want};
@@ -11,7 +11,7 @@ use rkt_route::{Catcher, Route};
 use std::alloc::Global;
 
 /// The origin that a base spells.
-pub(crate) fn read_base(alloc: Global, text: &str) -> Result<Origin, Want<InvalidBase>>
+fn read_base(alloc: Global, text: &str) -> Result<Origin, Want<InvalidBase>>
     ensures spelled { IfOk result (λ base. base ≡ target_of text.now) }
     ensures fits { IfOk result (IsTarget Profile.Request) }
     ensures origin { OnOk result (IsOrigin Profile.Request text.now) }
@@ -74,7 +74,7 @@ fn catcher_below<C: Drop>(
 }
 
 /// Routes below the base of a path, in order.
-pub(crate) fn routes_below<H: Drop, S: Drop>(
+fn routes_below<H: Drop, S: Drop>(
     alloc: Global,
     path: &str,
     routes: Vec<Route<H, S>>,
@@ -89,8 +89,22 @@ pub(crate) fn routes_below<H: Drop, S: Drop>(
     Ok(moved)
 }
 
+/// Routes below a base, in order.
+pub(crate) fn routes_at<H: Drop, S: Drop>(
+    alloc: Global,
+    base: &str,
+    routes: Vec<Route<H, S>>,
+) -> Result<Vec<Route<H, S>>, Want<InvalidBase>>
+    ensures ok { IfOk result (λ moved. moved.items ≡ map (route_below (target_of base.now).path) routes.items) }
+    ensures origin { OnOk result (IsOrigin Profile.Request base.now) }
+    ensures refused { IfRefused result (λ _. ¬ (IsOrigin Profile.Request base.now × All (λ route. IsBase route.uri.base) routes.items)) }
+{
+    let base = read_base(alloc, base)?;
+    routes_below(alloc, base.path(), routes)
+}
+
 /// Catchers below the base of a path, in order.
-pub(crate) fn catchers_below<C: Drop>(
+fn catchers_below<C: Drop>(
     alloc: Global,
     path: &str,
     catchers: Vec<Catcher<C>>,
@@ -103,4 +117,18 @@ pub(crate) fn catchers_below<C: Drop>(
         moved.push(catcher_below(alloc, path, catcher)?)?;
     }
     Ok(moved)
+}
+
+/// Catchers below a base, in order.
+pub(crate) fn catchers_at<C: Drop>(
+    alloc: Global,
+    base: &str,
+    catchers: Vec<Catcher<C>>,
+) -> Result<Vec<Catcher<C>>, Want<InvalidBase>>
+    ensures ok { IfOk result (λ moved. moved.items ≡ map (catcher_below (target_of base.now).path) catchers.items) }
+    ensures origin { OnOk result (IsOrigin Profile.Request base.now) }
+    ensures refused { IfRefused result (λ _. ¬ (IsOrigin Profile.Request base.now × All (λ catcher. IsBase catcher.base) catchers.items)) }
+{
+    let base = read_base(alloc, base)?;
+    catchers_below(alloc, base.path(), catchers)
 }

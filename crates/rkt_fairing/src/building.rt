@@ -8,7 +8,7 @@ ghost use Rattle.rkt_fairing.specs.Below.{IsBase, catcher_below, route_below};
 ghost use Rattle.rkt_fairing.specs.Building.{building_of};
 ghost use Rattle.rkt_fairing.specs.Fairings.{added};
 
-use crate::below::{catchers_below, read_base, routes_below};
+use crate::below::{catchers_at, routes_at};
 use crate::{Attach, Fairings, Slot};
 use rkt_base::{NoMemory, Want};
 use rkt_http::{Key, Profile};
@@ -89,8 +89,7 @@ impl<H: Drop, K: Drop, N: Drop, V: Drop, F: Drop> BuildingOf<H, K, N, V, F> {
         ensures refused { IfRefused result (λ _. ¬ (IsOrigin Profile.Request base.now × All (λ route. IsBase route.uri.base) routes.items)) }
         ensures err { OnErr result (self.new ≡ self.old) }
     {
-        let base = read_base(alloc, base)?;
-        let mut below = routes_below(alloc, base.path(), routes)?;
+        let mut below = routes_at(alloc, base, routes)?;
         self.routes.append(&mut below)?;
         Ok(())
     }
@@ -108,8 +107,7 @@ impl<H: Drop, K: Drop, N: Drop, V: Drop, F: Drop> BuildingOf<H, K, N, V, F> {
         ensures refused { IfRefused result (λ _. ¬ (IsOrigin Profile.Request base.now × All (λ catcher. IsBase catcher.base) catchers.items)) }
         ensures err { OnErr result (self.new ≡ self.old) }
     {
-        let base = read_base(alloc, base)?;
-        let mut below = catchers_below(alloc, base.path(), catchers)?;
+        let mut below = catchers_at(alloc, base, catchers)?;
         self.catchers.append(&mut below)?;
         Ok(())
     }

@@ -52,6 +52,13 @@ impl Header {
         })
     }
 
+    /// The value, which takes no memory.
+    pub(crate) fn into_value(self) -> Text
+        ensures { result ≡ self.value }
+    {
+        self.value
+    }
+
     /// The name and the value, which takes no memory.
     pub(crate) fn into_parts(self) -> (Uncased, Text)
         ensures name { result.0 ≡ self.name }

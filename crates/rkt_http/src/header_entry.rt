@@ -38,12 +38,11 @@ impl Entry {
         Entry { name, values }
     }
 
-    /// The name and the values, which takes no memory.
-    pub(crate) fn into_parts(self) -> (Uncased, Vec<Text>)
-        ensures name { result.0 ≡ self.name }
-        ensures values { result.1.items ≡ self.values }
+    /// The values, which takes no memory.
+    pub(crate) fn into_values(self) -> Vec<Text>
+        ensures { result.items ≡ self.values }
     {
-        (self.name, self.values)
+        self.values
     }
 
     pub(crate) fn name(&self) -> &str
@@ -72,11 +71,11 @@ impl Entry {
         Ok(())
     }
 
-    pub(crate) fn append(&mut self, values: &mut Vec<Text>) -> Result<(), NoMemory>
-        ensures ok { OnOk result (self.new ≡ record self.old { values = self.old.values ++ values.old.items }) }
+    pub(crate) fn append(&mut self, mut values: Vec<Text>) -> Result<(), NoMemory>
+        ensures ok { OnOk result (self.new ≡ record self.old { values = self.old.values ++ values.items }) }
         ensures err { OnErr result (self.new ≡ self.old) }
     {
-        self.values.append(values)
+        self.values.append(&mut values)
     }
 
     pub(crate) fn set(&mut self, values: Vec<Text>)

@@ -3,6 +3,7 @@ ghost use Rattle.std.specs.Option.{ForSome, option_copied};
 ghost use Rattle.rkt_http.specs.HeaderPlaces.{Tells, changed_at};
 ghost use Rattle.rkt_http.specs.Headers.{Group, is_named};
 
+use crate::header::Header;
 use crate::header_entry::{Entry, one_value};
 use crate::header_places::Places;
 use crate::uncased::Uncased;
@@ -130,9 +131,9 @@ impl Groups {
         self.entries[at].push(value)
     }
 
-    pub(crate) fn append(&mut self, at: usize, values: &mut Vec<Text>) -> Result<(), NoMemory>
+    pub(crate) fn append(&mut self, at: usize, values: Vec<Text>) -> Result<(), NoMemory>
         requires { at < length self.old }
-        ensures ok { OnOk result (self.new ≡ changed_at at (λ group. record group { values = group.values ++ values.old.items }) self.old) }
+        ensures ok { OnOk result (self.new ≡ changed_at at (λ group. record group { values = group.values ++ values.items }) self.old) }
         ensures err { OnErr result (self.new ≡ self.old) }
     {
         self.entries[at].append(values)
@@ -143,6 +144,16 @@ impl Groups {
         ensures { self.new ≡ changed_at at (λ group. record group { values = values.items }) self.old }
     {
         self.entries[at].set(values)
+    }
+
+    pub(crate) fn set_one(&mut self, alloc: Global, at: usize, value: Text) -> Result<(), NoMemory>
+        requires { at < length self.old }
+        ensures ok { OnOk result (self.new ≡ changed_at at (λ group. record group { values = value ∷ [] }) self.old) }
+        ensures err { OnErr result (self.new ≡ self.old) }
+    {
+        let values = one_value(alloc, value)?;
+        self.set(at, values);
+        Ok(())
     }
 
     /// Puts a group behind the others.
@@ -158,15 +169,11 @@ impl Groups {
     }
 
     /// Puts a group of one value behind the others.
-    pub(crate) fn insert_one(
-        &mut self,
-        alloc: Global,
-        name: Uncased,
-        value: Text,
-    ) -> Result<(), NoMemory>
-        ensures ok { OnOk result (self.new ≡ self.old ++ record { name = name; values = value ∷ [] } ∷ []) }
+    pub(crate) fn insert_one(&mut self, alloc: Global, header: Header) -> Result<(), NoMemory>
+        ensures ok { OnOk result (self.new ≡ self.old ++ record { name = header.name; values = header.value ∷ [] } ∷ []) }
         ensures err { OnErr result (self.new ≡ self.old) }
     {
+        let (name, value) = header.into_parts();
         let values = one_value(alloc, value)?;
         self.insert(alloc, Entry::new(name, values))
     }

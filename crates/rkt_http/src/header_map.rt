@@ -2,7 +2,7 @@ ghost use Rattle.std.specs.Prelude.{◌≡◌, ◌∷◌, ◌++◌, [], ◌↔�
 ghost use Rattle.rkt_http.specs.Headers.{Field, Group, is_named, group_of, values_of, fields_of, added, replaced, added_all, appended, overwritten, replaced_all, removed};
 
 use crate::header::Header;
-use crate::header_entry::{Entry, one_value};
+use crate::header_entry::Entry;
 use crate::header_groups::Groups;
 use crate::header_iter::{HeaderIter, HeaderValues};
 use rkt_base::{NoMemory, Text};
@@ -106,14 +106,10 @@ impl HeaderMap {
         ensures ok { OnOk result (self.new ≡ added self.old header) }
         ensures err { OnErr result (self.new ≡ self.old) }
     {
-        let (name, value) = header.into_parts();
-        match self.groups.locate(self.alloc, name.as_str())? {
-            Some(at) => self.groups.push(at, value)?,
-            None => {
-                self.groups.insert_one(self.alloc, name, value)?;
-            }
+        match self.groups.locate(self.alloc, header.name().as_str())? {
+            Some(at) => self.groups.push(at, header.into_value()),
+            None => self.groups.insert_one(self.alloc, header),
         }
-        Ok(())
     }
 
     /// Puts the values at the end of their group, or into a group of their own behind the others, be it an empty one.
@@ -121,12 +117,11 @@ impl HeaderMap {
         ensures ok { OnOk result (self.new ≡ added_all self.old name.now (map string_bytes values.items)) }
         ensures err { OnErr result (self.new ≡ self.old) }
     {
-        let mut values = texts(self.alloc, values)?;
+        let values = texts(self.alloc, values)?;
         match self.groups.locate(self.alloc, name)? {
-            Some(at) => self.groups.append(at, &mut values)?,
-            None => self.groups.insert_all(self.alloc, name, values)?,
+            Some(at) => self.groups.append(at, values),
+            None => self.groups.insert_all(self.alloc, name, values),
         }
-        Ok(())
     }
 
     /// Leaves this value alone in its group, which keeps its place and its spelling. Answers whether the group was
@@ -136,15 +131,13 @@ impl HeaderMap {
         ensures there { IfOk result (λ there. there ≡ is_some (group_of self.old header.name)) }
         ensures err { OnErr result (self.new ≡ self.old) }
     {
-        let (name, value) = header.into_parts();
-        match self.groups.locate(self.alloc, name.as_str())? {
+        match self.groups.locate(self.alloc, header.name().as_str())? {
             Some(at) => {
-                let values = one_value(self.alloc, value)?;
-                self.groups.set(at, values);
+                self.groups.set_one(self.alloc, at, header.into_value())?;
                 Ok(true)
             }
             None => {
-                self.groups.insert_one(self.alloc, name, value)?;
+                self.groups.insert_one(self.alloc, header)?;
                 Ok(false)
             }
         }
@@ -157,10 +150,12 @@ impl HeaderMap {
     {
         let values = texts(self.alloc, values)?;
         match self.groups.locate(self.alloc, name)? {
-            Some(at) => self.groups.set(at, values),
-            None => self.groups.insert_all(self.alloc, name, values)?,
+            Some(at) => {
+                self.groups.set(at, values);
+                Ok(())
+            }
+            None => self.groups.insert_all(self.alloc, name, values),
         }
-        Ok(())
     }
 
     /// Puts the values of each group of another map at the end of the group of that name, or the group behind the others.
@@ -189,23 +184,22 @@ impl HeaderMap {
     fn append_group(&mut self, group: Entry) -> Result<(), NoMemory>
         ensures { OnOk result (self.new ≡ added_all self.old group.name group.values) }
     {
-        let (name, mut values) = group.into_parts();
-        match self.groups.locate(self.alloc, name.as_str())? {
-            Some(at) => self.groups.append(at, &mut values)?,
-            None => self.groups.insert(self.alloc, Entry::new(name, values))?,
+        match self.groups.locate(self.alloc, group.name())? {
+            Some(at) => self.groups.append(at, group.into_values()),
+            None => self.groups.insert(self.alloc, group),
         }
-        Ok(())
     }
 
     fn overwrite_group(&mut self, group: Entry) -> Result<(), NoMemory>
         ensures { OnOk result (self.new ≡ replaced_all self.old group.name group.values) }
     {
-        let (name, values) = group.into_parts();
-        match self.groups.locate(self.alloc, name.as_str())? {
-            Some(at) => self.groups.set(at, values),
-            None => self.groups.insert(self.alloc, Entry::new(name, values))?,
+        match self.groups.locate(self.alloc, group.name())? {
+            Some(at) => {
+                self.groups.set(at, group.into_values());
+                Ok(())
+            }
+            None => self.groups.insert(self.alloc, group),
         }
-        Ok(())
     }
 
     /// Takes the group out, and closes up.

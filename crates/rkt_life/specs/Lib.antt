@@ -1,3 +1,2 @@
 pub mod DefaultCatcher
-pub mod NoFairing
 pub mod Rocket

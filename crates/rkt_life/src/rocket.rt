@@ -3,8 +3,7 @@ ghost use Rattle.std.specs.Prelude.{◌≡◌, IfOk};
 ghost use Rattle.rkt_turn.specs.Shutdown.{fresh};
 
 use rkt_base::NoMemory;
-use rkt_fairing::{App, Fairings};
-use rkt_lifecycle::{Tables, TablesOf};
+use rkt_exchange::{Parts, Tables, TablesOf};
 use rkt_request::{Config, Managed};
 use rkt_router::Router;
 use rkt_turn::{Shutdown, TripWire};
@@ -16,36 +15,34 @@ pub struct Ignite;
 
 /// An application in one of its phases, with a handle of its wire.
 #[derive(Drop)]
-pub struct Rocket<P, A: App> {
+pub struct Rocket<P, A: Parts> {
     tables: Tables<A>,
     handle: Shutdown<A::Reason>,
     phase: PhantomData<P>,
 }
 
-impl<P, A: App> Model for Rocket<P, A> {
+impl<P, A: Parts> Model for Rocket<P, A> {
     ghost use Rattle.rkt_life.specs.Rocket.{SeenRocket};
 
-    ghost Value = { SeenRocket A.Fairing A.Handler A.Catch A.Sentinel A.Value };
+    ghost Value = { SeenRocket A.Handler A.Catch A.Sentinel A.Value };
 
     ghost view = { λ r. record { tables = r.tables; handle = r.handle } };
 }
 
-impl<A: App> Rocket<Ignite, A> {
+impl<A: Parts> Rocket<Ignite, A> {
     /// A rocket with these tables, and a wire of its own.
     pub fn assemble(
         alloc: Global,
         router: Router<A::Handler, A::Catch, A::Sentinel>,
-        fairings: Fairings<A::Fairing>,
         config: Config,
         managed: Managed<A::Value>,
     ) -> Result<Rocket<Ignite, A>, NoMemory>
-        ensures tables { IfOk result (λ rocket. rocket.tables ≡ record { router = router; fairings = fairings; config = config; managed = managed }) }
+        ensures tables { IfOk result (λ rocket. rocket.tables ≡ record { router = router; config = config; managed = managed }) }
         ensures fresh { IfOk result (λ rocket. rocket.handle ≡ fresh rocket.handle.wire) }
     {
         let (_wire, handle) = TripWire::new(alloc)?;
         let tables = TablesOf {
             router,
-            fairings,
             config,
             managed,
         };

@@ -1,5 +1,5 @@
 -- What is kept beside headers, when a field is added or put in place of others.
-use Rattle.std.proofs.Common.{◌≡◌, ℕ, List, Option, Some, codes}
+use Rattle.std.proofs.Common.{◌≡◌, ℕ, List, Option, Some, Result, Ok, Err, OnOk, OnErr, codes}
 use Rattle.rkt_media.specs.Accept.{Weighed}
 use Rattle.rkt_media.specs.AcceptText.{SpellsAccept}
 use Rattle.rkt_http.specs.Headers.{Group}
@@ -14,6 +14,11 @@ content_type = codes "Content-Type"
 
 abbrev pub accept : List ℕ
 accept = codes "Accept"
+
+-- what holds of both answers
+pub both_ways : {T E P P' Q Q' R : Type 0} (r : Result T E) → OnOk r P → OnOk r P' → OnErr r Q → OnErr r Q' → (P → P' → R) → (Q → Q' → R) → R
+both_ways (Ok x) p p' q q' on_ok on_err = on_ok p p'
+both_ways (Err e) p p' q q' on_ok on_err = on_err q q'
 
 module _ {before : List Group} {kept : Option Media} {accepted : Option (List Weighed)} {any : Media} (was : IsRead before kept accepted any) (after : List Group) where
   pub all_stay : first_value after content_type ≡ first_value before content_type → first_value after accept ≡ first_value before accept → IsRead after kept accepted any

@@ -1,9 +1,9 @@
 //! The parts of a head, each as it is read.
-ghost use Rattle.std.specs.Prelude.{◌≡◌, ◌∷◌, [], IfOk, OnOk, IsUtf8, MatchOption, codes, unwrap_or};
+ghost use Rattle.std.specs.Prelude.{◌≡◌, ◌∷◌, [], IfOk, OnOk, IsUtf8, MatchOption, Option, codes, unwrap_or};
 ghost use Rattle.rkt_cookie.specs.Reading.{Reads};
 ghost use Rattle.rkt_http.specs.Headers.{values_of};
 ghost use Rattle.rkt_uri.specs.Host.{SpellsHost};
-ghost use Rattle.rkt_uri.specs.Origin.{Spells};
+ghost use Rattle.rkt_uri.specs.Origin.{Spells, Target};
 ghost use Rattle.rkt_uri.specs.declared.origin_place.Profile.TheVariants.{Request as OfRequest};
 ghost use Rattle.rkt_request.specs.Incoming.{AddsCookies, IsJar, cookie_pieces, faults_of, headers_of, root};
 ghost use Rattle.rkt_request.specs.Seen.{MaybeReadAs, ReadAs, first_value};
@@ -16,7 +16,7 @@ use rkt_http::{Header, HeaderMap, Host, Method, Origin};
 use std::alloc::{AllocError, Global};
 
 /// The origin that a target spells.
-pub(crate) fn read_target(alloc: Global, target: &str) -> Result<Option<Origin>, NoMemory>
+fn read_target(alloc: Global, target: &str) -> Result<Option<Origin>, NoMemory>
     ensures { IfOk result (ReadAs (Spells OfRequest) target.now) }
 {
     match Origin::parse(alloc, target) {
@@ -27,7 +27,7 @@ pub(crate) fn read_target(alloc: Global, target: &str) -> Result<Option<Origin>,
 }
 
 /// An origin, or else `/`.
-pub(crate) fn or_root(alloc: Global, target: Option<Origin>) -> Result<Origin, NoMemory>
+fn or_root(alloc: Global, target: Option<Origin>) -> Result<Origin, NoMemory>
     ensures { IfOk result (λ origin. origin ≡ unwrap_or target root) }
 {
     match target {
@@ -40,7 +40,7 @@ pub(crate) fn or_root(alloc: Global, target: Option<Origin>) -> Result<Origin, N
 }
 
 /// What is wrong with a head of which these were read.
-pub(crate) fn faults_of(
+fn faults_of(
     alloc: Global,
     method: Option<Method>,
     target: &Option<Origin>,
@@ -55,6 +55,20 @@ pub(crate) fn faults_of(
         faults.push(Bad::InvalidUri)?;
     }
     Ok(faults)
+}
+
+/// The origin that a target spells, or else `/`, and what is wrong with a head of this method and this target.
+pub(crate) fn read_origin(
+    alloc: Global,
+    method: Option<Method>,
+    target: &str,
+) -> Result<(Origin, Seq<Bad>), NoMemory>
+    ensures { IfOk result (λ read. (found : Option Target) × ReadAs (Spells OfRequest) target.now found × (read.0 ≡ unwrap_or found root) × (read.1 ≡ faults_of method found)) }
+{
+    let target = read_target(alloc, target)?;
+    let faults = faults_of(alloc, method, &target)?;
+    let origin = or_root(alloc, target)?;
+    Ok((origin, faults))
 }
 
 /// The bytes as a text, where they are UTF-8.

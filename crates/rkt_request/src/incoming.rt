@@ -2,7 +2,7 @@
 ghost use Rattle.std.specs.Prelude.{IfOk};
 ghost use Rattle.rkt_request.specs.Incoming.{IsIncoming};
 
-use crate::asked::{faults_of, or_root, read_fields, read_target};
+use crate::asked::{read_fields, read_origin};
 use crate::bad::Bad;
 use crate::head::Head;
 use crate::request::Request;
@@ -33,9 +33,7 @@ impl<'a, T: Types> Request<'a, T> {
         ensures { IfOk result (λ incoming. IsIncoming head.now config.now managed.now incoming.request incoming.jar incoming.faults) }
     {
         let method = Method::from_wire(head.method.as_str());
-        let target = read_target(alloc, head.target.as_str())?;
-        let faults = faults_of(alloc, method, &target)?;
-        let uri = or_root(alloc, target)?;
+        let (uri, faults) = read_origin(alloc, method, head.target.as_str())?;
         let (headers, host, jar) = read_fields(alloc, head.headers.as_slice())?;
         let method = method.unwrap_or(Method::Get);
         let request = Request::of_parts(config, managed, method, uri, host, head.remote, headers);

@@ -1,12 +1,16 @@
-ghost use Rattle.std.specs.Prelude.{◌≡◌, [], Some, None, IfOk, OnOk, OnErr, drop, slice_get, option_copied};
-ghost use Rattle.rkt_http.specs.Headers.{added, replaced};
+ghost use Rattle.std.specs.Net.Grammar.{IsIpText};
+ghost use Rattle.std.specs.Net.Socket.{socket_ip};
+ghost use Rattle.std.specs.Option.{option_or};
+ghost use Rattle.std.specs.Prelude.{◌≡◌, [], Some, None, IfOk, OnOk, OnErr, drop, slice_get, option_and_then, option_copied, option_map};
+ghost use Rattle.rkt_http.specs.Headers.{added, first_value, replaced};
+ghost use Rattle.rkt_http.specs.Reading.{MaybeReadAs};
 ghost use Rattle.rkt_uri.specs.Origin.{fields_of};
 ghost use Rattle.rkt_request.specs.Seen.{IsAccept, IsClientIp, IsContentType, IsFormat, IsRealIp, base_segments, routed};
 
 use crate::head::Mounted;
 use crate::request_headers::RequestHeaders;
 use crate::types::Types;
-use rkt_base::NoMemory;
+use rkt_base::{NoMemory, Text};
 use rkt_config::{Config, Limits, Managed};
 use rkt_http::{
     Accept, ContentType, Header, HeaderMap, Host, MediaType, Method, Origin, QueryFields, Segments,
@@ -15,6 +19,25 @@ use std::alloc::Global;
 use std::marker::Model;
 use std::net::{IpAddr, SocketAddr};
 use std::ops::RangeFrom;
+
+/// The address that the header of this name says.
+fn address_in(headers: &HeaderMap, name: Option<&Text>) -> Option<IpAddr>
+    ensures { MaybeReadAs IsIpText (option_and_then (first_value headers.now) (option_copied name.entry)) result }
+{
+    let name = name?;
+    let text = headers.get_one(name.as_str())?;
+    text.parse().ok()
+}
+
+/// An address, or else that of who sent the request.
+fn or_sender(said: Option<IpAddr>, remote: Option<SocketAddr>) -> Option<IpAddr>
+    ensures { result ≡ option_or said (option_map socket_ip remote) }
+{
+    match said {
+        Some(address) => Some(address),
+        None => Some(remote?.ip()),
+    }
+}
 
 /// What a client asks, apart from the body, with what the server lends.
 #[derive(Drop)]
@@ -157,19 +180,14 @@ impl<'a, T: Types> Request<'a, T> {
     pub fn real_ip(&self) -> Option<IpAddr>
         ensures { IsRealIp self.now result }
     {
-        let name = self.config.ip_header.as_ref()?;
-        let text = self.headers.map().get_one(name.as_str())?;
-        text.parse().ok()
+        address_in(self.headers.map(), self.config.ip_header.as_ref())
     }
 
     /// The address that the configured header says, or else that of who sent the request.
     pub fn client_ip(&self) -> Option<IpAddr>
         ensures { IsClientIp self.now result }
     {
-        match self.real_ip() {
-            Some(address) => Some(address),
-            None => Some(self.remote?.ip()),
-        }
+        or_sender(self.real_ip(), self.remote)
     }
 
     pub fn headers(&self) -> &HeaderMap

@@ -76,6 +76,53 @@ fn first_accept(alloc: Global, headers: &HeaderMap) -> Result<Option<Accept>, No
     }
 }
 
+/// What the first Content-Type and the first Accept spell.
+fn read_firsts(
+    alloc: Global,
+    headers: &HeaderMap,
+) -> Result<(Option<ContentType>, Option<Accept>), NoMemory>
+    ensures content_type { IfOk result (λ read. IsContentType headers.now read.0) }
+    ensures accept { IfOk result (λ read. IsAccept headers.now read.1) }
+{
+    let content_type = first_content_type(alloc, headers)?;
+    let accept = first_accept(alloc, headers)?;
+    Ok((content_type, accept))
+}
+
+/// Adds a header, and keeps what it spells.
+fn add_with<V: Drop>(
+    map: &mut HeaderMap,
+    header: Header,
+    kept: &mut Option<V>,
+    read: Option<V>,
+) -> Result<(), NoMemory>
+    ensures added { OnOk result (map.new ≡ added map.old header) }
+    ensures read { OnOk result (kept.new ≡ read) }
+    ensures stays { OnErr result (map.new ≡ map.old) }
+    ensures kept { OnErr result (kept.new ≡ kept.old) }
+{
+    map.add(header)?;
+    *kept = read;
+    Ok(())
+}
+
+/// Puts a header in place of those of its name, and keeps what it spells.
+fn replace_with<V: Drop>(
+    map: &mut HeaderMap,
+    header: Header,
+    kept: &mut Option<V>,
+    read: Option<V>,
+) -> Result<(), NoMemory>
+    ensures replaced { OnOk result (map.new ≡ replaced map.old header) }
+    ensures read { OnOk result (kept.new ≡ read) }
+    ensures stays { OnErr result (map.new ≡ map.old) }
+    ensures kept { OnErr result (kept.new ≡ kept.old) }
+{
+    map.replace(header)?;
+    *kept = read;
+    Ok(())
+}
+
 fn is_named(header: &Header, name: &str) -> bool
     ensures { result ≡ str_eq_ignore_ascii_case header.now.name name.now }
 {
@@ -98,12 +145,14 @@ impl RequestHeaders {
     pub(crate) fn new(alloc: Global, map: HeaderMap) -> Result<RequestHeaders, NoMemory>
         ensures { IfOk result (λ headers. headers ≡ map) }
     {
+        let any = ContentType::known(alloc, Known::Any)?;
+        let (content_type, accept) = read_firsts(alloc, &map)?;
         Ok(RequestHeaders {
             alloc,
-            content_type: first_content_type(alloc, &map)?,
-            accept: first_accept(alloc, &map)?,
-            any: ContentType::known(alloc, Known::Any)?,
             map,
+            content_type,
+            accept,
+            any,
         })
     }
 
@@ -155,9 +204,7 @@ impl RequestHeaders {
         ensures err { OnErr result (self.new ≡ self.old) }
     {
         let content_type = read_content_type(self.alloc, header.value())?;
-        self.map.add(header)?;
-        self.content_type = content_type;
-        Ok(())
+        add_with(&mut self.map, header, &mut self.content_type, content_type)
     }
 
     /// Adds a header that becomes the first Accept.
@@ -168,9 +215,7 @@ impl RequestHeaders {
         ensures err { OnErr result (self.new ≡ self.old) }
     {
         let accept = read_accept(self.alloc, header.value())?;
-        self.map.add(header)?;
-        self.accept = accept;
-        Ok(())
+        add_with(&mut self.map, header, &mut self.accept, accept)
     }
 
     /// Puts a header in place of those of its name.
@@ -195,9 +240,7 @@ impl RequestHeaders {
         ensures err { OnErr result (self.new ≡ self.old) }
     {
         let content_type = read_content_type(self.alloc, header.value())?;
-        self.map.replace(header)?;
-        self.content_type = content_type;
-        Ok(())
+        replace_with(&mut self.map, header, &mut self.content_type, content_type)
     }
 
     /// Puts a header in place of those that are called Accept, as it is.
@@ -207,8 +250,6 @@ impl RequestHeaders {
         ensures err { OnErr result (self.new ≡ self.old) }
     {
         let accept = read_accept(self.alloc, header.value())?;
-        self.map.replace(header)?;
-        self.accept = accept;
-        Ok(())
+        replace_with(&mut self.map, header, &mut self.accept, accept)
     }
 }

@@ -88,12 +88,21 @@ fn read_segments(alloc: Global, path: &str) -> Result<Seq<Text>, NoMemory>
     ensures { IfOk result (λ v. v ≡ map decoded (pieces 47 path.now)) }
 {
     let mut segments = Seq::new(alloc);
+    push_segments(alloc, &mut segments, path)?;
+    Ok(segments)
+}
+
+/// Adds the segments of a path where there is none yet.
+fn push_segments(alloc: Global, segments: &mut Seq<Text>, path: &str) -> Result<(), NoMemory>
+    requires { segments.old ≡ [] }
+    ensures { OnOk result (segments.new ≡ map decoded (pieces 47 path.now)) }
+{
     for piece in path.split('/') {
         if !piece.is_empty() {
-            push_segment(alloc, &mut segments, piece)?;
+            push_segment(alloc, segments, piece)?;
         }
     }
-    Ok(segments)
+    Ok(())
 }
 
 /// Adds the field that a piece of a query says.
@@ -108,12 +117,21 @@ fn read_fields(alloc: Global, query: &str) -> Result<Vec<(Text, Text)>, NoMemory
     ensures { IfOk result (λ v. v.items ≡ map field_of (pieces 38 query.now)) }
 {
     let mut fields = Vec::new(alloc);
+    push_fields(alloc, &mut fields, query)?;
+    Ok(fields)
+}
+
+/// Adds the fields of a query where there is none yet.
+fn push_fields(alloc: Global, fields: &mut Vec<(Text, Text)>, query: &str) -> Result<(), NoMemory>
+    requires { fields.old.items ≡ [] }
+    ensures { OnOk result (fields.new.items ≡ map field_of (pieces 38 query.now)) }
+{
     for piece in query.split('&') {
         if !piece.is_empty() {
-            push_field(alloc, &mut fields, piece)?;
+            push_field(alloc, fields, piece)?;
         }
     }
-    Ok(fields)
+    Ok(())
 }
 
 pub(crate) fn path_of_text(text: &str) -> &str
@@ -164,13 +182,23 @@ fn led_pieces(alloc: Global, text: &str, separator: char) -> Result<String, NoMe
     ensures { IfOk result (λ t. string_bytes t ≡ led separator (pieces separator text.now)) }
 {
     let mut led = String::new(alloc);
+    push_led(&mut led, text, separator)?;
+    Ok(led)
+}
+
+/// Adds them to an empty text.
+fn push_led(out: &mut String, text: &str, separator: char) -> Result<(), NoMemory>
+    requires separator { separator < 128 }
+    requires empty { string_bytes out.old ≡ [] }
+    ensures { OnOk result (string_bytes out.new ≡ led separator (pieces separator text.now)) }
+{
     for piece in text.split(separator) {
         if !piece.is_empty() {
-            led.push(separator)?;
-            led.push_str(piece)?;
+            out.push(separator)?;
+            out.push_str(piece)?;
         }
     }
-    Ok(led)
+    Ok(())
 }
 
 /// The path of the normal form.

@@ -3,6 +3,7 @@ ghost use Rattle.std.specs.List.{join_with_byte};
 ghost use Rattle.rkt_base.specs.Want.{Gives};
 ghost use Rattle.rkt_uri.specs.PathBuf.{is_here as is_here_of, name_fault as name_fault_of, fault_of, fault_in, with_segment, names_behind, path_of_names};
 ghost use Rattle.rkt_uri.specs.FileNames.{GoesDown};
+ghost use Rattle.rkt_uri.specs.Origin.{led};
 
 use rkt_base::{NoMemory, Text, Want};
 use std::alloc::Global;
@@ -136,11 +137,19 @@ fn join(alloc: Global, names: &[&str]) -> Result<Text, NoMemory>
         return Text::new(alloc, "");
     };
     let mut text = Text::new(alloc, first)?;
-    for name in others {
+    push_behind(&mut text, others)?;
+    Ok(text)
+}
+
+/// Adds the names, each behind a slash.
+fn push_behind(text: &mut Text, names: &[&str]) -> Result<(), NoMemory>
+    ensures { OnOk result (text.new ≡ text.old ++ led 47 (map (λ name. name.now) names.now)) }
+{
+    for name in names {
         text.push_str("/")?;
         text.push_str(name)?;
     }
-    Ok(text)
+    Ok(())
 }
 
 /// The path of these segments.

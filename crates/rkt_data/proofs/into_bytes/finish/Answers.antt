@@ -1,5 +1,6 @@
 use Rattle.std.proofs.Common.{Ok, Err}
 use Rattle.rkt_base.specs.declared.poll.Poll.TheVariants.{Ready, Pending}
+use Rattle.rkt_data.proofs.Drains.{Follows-trans}
 use Rattle.rkt_data.proofs.Taps.{ByGate-caused, ByGate-trans}
 use Rattle.rkt_data.proofs.into_bytes.finish.Goals as goal
 
@@ -31,3 +32,12 @@ returns-in-Ready-Ok-clause-by_gate g c =
     let draws = rw c.in-End.is at c.drain-count.ensures.draws in
     let closed = rw c.in-Ready-Ok.field-0-is at c.in-Ready-Ok.ensures.by_gate in
     ByGate-trans g.S.Source.polled c.args.gate (Ready (Ok tt)) _ c.drain-count.new.pipe.opened.tap _ draws.by_gate closed
+
+pub returns-in-Pending-clause-follows : goal.returns-in-Pending-clause-follows
+returns-in-Pending-clause-follows g c = Follows-trans c.drain-count.ensures.draws.follows c.close.ensures.follows
+
+pub returns-in-Ready-Err-clause-follows : goal.returns-in-Ready-Err-clause-follows
+returns-in-Ready-Err-clause-follows g c = Follows-trans c.drain-count.ensures.draws.follows c.close.ensures.follows
+
+pub returns-in-Ready-Ok-clause-follows : goal.returns-in-Ready-Ok-clause-follows
+returns-in-Ready-Ok-clause-follows g c = Follows-trans c.drain-count.ensures.draws.follows c.close.ensures.follows

@@ -1,7 +1,7 @@
 use Rattle.std.proofs.Common.{◌≡◌, ◌≤◌, ◌∙◌, Ok, Err, false, length, ap, refl, arith}
 use Rattle.rkt_base.specs.declared.poll.Poll.TheVariants.{Ready, Pending}
 use Rattle.std.specs.Prelude.{string_bytes}
-use Rattle.rkt_data.proofs.Drains.{Gathered-drawn, Gathered-same, IsUsedUp-same, Completes-gathered, whole_same}
+use Rattle.rkt_data.proofs.Drains.{Follows-trans, Gathered-drawn, Gathered-same, IsUsedUp-same, Completes-gathered, whole_same}
 use Rattle.rkt_data.proofs.Taps.{ByGate-caused, ByGate-trans, TapErrs-after}
 use Rattle.rkt_data.proofs.TextLemmas.{resumed_bytes, TextErr-failed, TextErr-closed}
 use Rattle.rkt_data.proofs.into_string.IntoString.poll.Goals as goal
@@ -78,3 +78,18 @@ returns-in-Ready-Ok-clause-answer g c = λ unfailed.
       Completes-gathered (string_bytes c.in-Text.text) record { written = length c.as_str.result.now; complete = c.in-Ready-Ok.complete } refl (ap length c.as_str.ensures.value) (Gathered-drawn held.0 texts.0) texts.0.follows texts.1 within
           (λ b t. rw (← texts.0.follows.limit) (closes b (whole_same texts.0.follows ∙ t))),
     )
+
+pub returns-in-Pending-clause-follows : goal.returns-in-Pending-clause-follows
+returns-in-Pending-clause-follows g c =
+    let texts = rw c.in-Text.is at c.read_text.ensures.texts in
+    rw (← c.self.view_is) (Follows-trans texts.0.follows c.close.ensures.follows)
+
+pub returns-in-Ready-Err-clause-follows : goal.returns-in-Ready-Err-clause-follows
+returns-in-Ready-Err-clause-follows g c =
+    let texts = rw c.in-Text.is at c.read_text.ensures.texts in
+    rw (← c.self.view_is) (Follows-trans texts.0.follows c.close.ensures.follows)
+
+pub returns-in-Ready-Ok-clause-follows : goal.returns-in-Ready-Ok-clause-follows
+returns-in-Ready-Ok-clause-follows g c =
+    let texts = rw c.in-Text.is at c.read_text.ensures.texts in
+    rw (← c.self.view_is) (Follows-trans texts.0.follows c.close.ensures.follows)

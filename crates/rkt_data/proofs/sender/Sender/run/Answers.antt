@@ -2,7 +2,8 @@ use Rattle.std.proofs.Common.{◌≡◌, ◌∙◌, length, take, ap, arith}
 use Rattle.std.proofs.lemmas.List.{with_items_is}
 use Rattle.rkt_source.specs.Buffer.{items_of}
 use Rattle.rkt_data.specs.Sending.{between}
-use Rattle.rkt_data.proofs.Sends.{SentOf-pumped, HasRoom-resumed, between-same}
+use Rattle.rkt_data.proofs.Drains.{Follows-refl}
+use Rattle.rkt_data.proofs.Sends.{SentOf-pumped, SinkKeeps-refl, HasRoom-resumed, between-same}
 use Rattle.rkt_data.proofs.Taps.{ByGate-refl}
 use Rattle.rkt_data.proofs.sender.Sender.run.Goals as goal
 
@@ -22,3 +23,9 @@ invariant_of-self-2 g c =
       c.pump-at.ensures.room,
       omega (arith, some, same),
     )
+
+pub returns-in-Err-clause-follows : goal.returns-in-Err-clause-follows
+returns-in-Err-clause-follows g c = rw (← c.self.view_is) (Follows-refl g.S.Source.meaning c.args.gate.tripped c.self.inside.pipe.opened)
+
+pub returns-in-Err-clause-keeps : goal.returns-in-Err-clause-keeps
+returns-in-Err-clause-keeps g c = rw (← c.self.view_is) (SinkKeeps-refl (g.K.Sink.meaning c.self.inside.sink))

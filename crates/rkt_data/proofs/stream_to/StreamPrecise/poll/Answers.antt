@@ -1,3 +1,4 @@
+use Rattle.std.proofs.Common.{◌≡◌, ◌∙◌, Some, false, ap, refl}
 use Rattle.rkt_data.proofs.stream_to.StreamPrecise.poll.Goals as goal
 
 pub returns-in-Waiting-clause-by_gate : goal.returns-in-Waiting-clause-by_gate
@@ -8,3 +9,15 @@ returns-in-Failed-clause-by_gate g c = λ none. let pumped = rw c.in-Failed.is a
 
 pub returns-in-Done-clause-by_gate : goal.returns-in-Done-clause-by_gate
 returns-in-Done-clause-by_gate g c = λ none. let pumped = rw c.in-Done.is at c.run-pumped.ensures.by_gate in rw (← c.self.view_is) pumped
+
+pub returns-in-Waiting-clause-answer : goal.returns-in-Waiting-clause-answer
+returns-in-Waiting-clause-answer g c = λ none.
+    let undone : c.self.inside.done ≡ false = ap (λ s. s.done) c.self.view_is ∙ c.requires in
+    let stops = rw c.in-Waiting.is at c.run-pumped.ensures.stops in
+    rw (← c.self.view_is) (c.in_default.is, undone, stops)
+
+pub returns-in-Failed-clause-answer : goal.returns-in-Failed-clause-answer
+returns-in-Failed-clause-answer g c = λ none.
+    let undone : c.self.inside.done ≡ false = ap (λ s. s.done) c.self.view_is ∙ c.requires in
+    let stops = rw c.in-Failed.is at c.run-pumped.ensures.stops in
+    rw (← c.self.view_is) (refl {a = Some c.in-Failed.e}, undone, stops)

@@ -1,5 +1,6 @@
-use Rattle.std.proofs.Common.{◌≡◌, ◌∙◌, Ok, Err, ap, inl}
+use Rattle.std.proofs.Common.{Ok, Err, inl}
 use Rattle.rkt_base.specs.declared.poll.Poll.TheVariants.{Ready, Pending}
+use Rattle.rkt_data.proofs.Drains.{Follows-trans}
 use Rattle.rkt_data.proofs.Taps.{ByGate-caused, ByGate-trans}
 use Rattle.rkt_data.proofs.stream_to.StreamTo.poll.Goals as goal
 
@@ -29,3 +30,12 @@ returns-in-Ready-Ok-clause-by_gate g c = λ none.
     let answered = rw c.in-Ready-Ok.is at c.close-closed.ensures.by_gate in
     let closed = rw field at answered in
     rw (← c.self.view_is) (ByGate-trans g.S.Source.polled c.args.gate (Ready (Ok tt)) _ c.run.new.self.piped.opened.tap _ c.in-Done.ensures.by_gate closed)
+
+pub returns-in-Pending-clause-follows : goal.returns-in-Pending-clause-follows
+returns-in-Pending-clause-follows g c = rw (← c.self.view_is) (Follows-trans c.in-Done.ensures.follows c.close-closed.ensures.follows)
+
+pub returns-in-Ready-Err-clause-follows : goal.returns-in-Ready-Err-clause-follows
+returns-in-Ready-Err-clause-follows g c = rw (← c.self.view_is) (Follows-trans c.in-Done.ensures.follows c.close-closed.ensures.follows)
+
+pub returns-in-Ready-Ok-clause-follows : goal.returns-in-Ready-Ok-clause-follows
+returns-in-Ready-Ok-clause-follows g c = rw (← c.self.view_is) (Follows-trans c.in-Done.ensures.follows c.close-closed.ensures.follows)

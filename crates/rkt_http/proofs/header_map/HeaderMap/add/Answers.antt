@@ -1,4 +1,5 @@
-use Rattle.std.proofs.Common.{◌∙◌, ◌∷◌, ◌++◌, [], List, ℕ}
+use Rattle.std.proofs.Common.{◌∙◌, ◌∷◌, ◌++◌, [], ap, List, ℕ}
+use Rattle.std.proofs.lemmas.Result.{on_ok_weaker}
 use Rattle.rkt_http.specs.Headers.{Group, added}
 use Rattle.rkt_http.proofs.Groups.{changed_there, put_last}
 use Rattle.rkt_http.proofs.header_map.HeaderMap.add.Goals as goal
@@ -9,16 +10,19 @@ grown value group = record group { values = group.values ++ value ∷ [] }
 alone : List ℕ → List (List ℕ) → Group
 alone name values = record { name = name; values = values }
 
-pub returns-in_ok-push-in-Some-clause-ok : goal.returns-in_ok-push-in-Some-clause-ok
+pub returns-in-Some-clause-ok : goal.returns-in-Some-clause-ok
 unfolding grown alone
-returns-in_ok-push-in-Some-clause-ok c =
-    let header = c.into_parts-name.result in
-    changed_there (grown header.1) (alone header.0 (header.1 ∷ [])) _ _ _ _ _ _ _ c.in_ok-at.ensures.place c.self.view_is c.locate.ensures.same c.as_str.ensures c.in-Some.is c.in_ok-push-in-Some.ensures.ok
-    ∙ (λ i. added c.args.self.now (record { name = c.into_parts-name.ensures.name i; value = c.into_parts-name.ensures.value i }))
+returns-in-Some-clause-ok c =
+    let value = c.into_value.result in
+    on_ok_weaker c.push.result
+    (λ pushed. changed_there (grown value) (alone c.args.header.name (value ∷ [])) _ _ _ _ _ _ _ c.in_ok-at.ensures.place c.self.view_is c.locate.ensures.same (c.as_str.ensures ∙ c.name.ensures) c.in-Some.is pushed
+    ∙ ap (λ (value : List ℕ). added c.args.self.now (record { name = c.args.header.name; value = value })) c.into_value.ensures)
+    c.push.ensures.ok
 
-pub returns-in_ok-insert_one-in-None-clause-ok : goal.returns-in_ok-insert_one-in-None-clause-ok
+pub returns-in-None-clause-ok : goal.returns-in-None-clause-ok
 unfolding grown alone
-returns-in_ok-insert_one-in-None-clause-ok c =
-    let header = c.into_parts-name.result in
-    put_last (grown header.1) (alone header.0 (header.1 ∷ [])) _ _ _ _ _ _ c.in_ok-at.ensures.place c.self.view_is c.locate.ensures.same c.as_str.ensures c.in-None.is c.in_ok-insert_one-in-None.ensures.ok
-    ∙ (λ i. added c.args.self.now (record { name = c.into_parts-name.ensures.name i; value = c.into_parts-name.ensures.value i }))
+returns-in-None-clause-ok c =
+    let header = c.args.header in
+    on_ok_weaker c.insert_one.result
+    (put_last (grown header.value) (alone header.name (header.value ∷ [])) _ _ _ _ _ _ c.in_ok-at.ensures.place c.self.view_is c.locate.ensures.same (c.as_str.ensures ∙ c.name.ensures) c.in-None.is)
+    c.insert_one.ensures.ok

@@ -1,4 +1,5 @@
 use Rattle.std.proofs.Common.{◌∙◌, ◌++◌, ap, refl, List, ℕ}
+use Rattle.std.proofs.lemmas.Result.{on_ok_weaker}
 use Rattle.rkt_http.specs.Headers.{Group, added_all}
 use Rattle.rkt_http.proofs.Groups.{changed_there, put_last}
 use Rattle.rkt_http.proofs.header_map.HeaderMap.add_all.Goals as goal
@@ -9,16 +10,20 @@ grown values group = record group { values = group.values ++ values }
 group_of : List ℕ → List (List ℕ) → Group
 group_of name values = record { name = name; values = values }
 
-pub returns-in_ok-append-in-Some-clause-ok : goal.returns-in_ok-append-in-Some-clause-ok
+pub returns-in-Some-clause-ok : goal.returns-in-Some-clause-ok
 unfolding grown group_of
-returns-in_ok-append-in-Some-clause-ok c =
+returns-in-Some-clause-ok c =
     let values = c.in_ok-values.values.items in
-    changed_there (grown values) (group_of c.args.name.now values) _ _ _ _ _ _ _ c.in_ok-at.ensures.place c.self.view_is c.locate.ensures.same refl c.in-Some.is c.in_ok-append-in-Some.ensures.ok
-    ∙ ap (added_all c.args.self.now c.args.name.now) c.in_ok-values.ensures
+    on_ok_weaker c.append.result
+    (λ appended. changed_there (grown values) (group_of c.args.name.now values) _ _ _ _ _ _ _ c.in_ok-at.ensures.place c.self.view_is c.locate.ensures.same refl c.in-Some.is appended
+    ∙ ap (added_all c.args.self.now c.args.name.now) c.in_ok-values.ensures)
+    c.append.ensures.ok
 
-pub returns-in_ok-insert_all-in-None-clause-ok : goal.returns-in_ok-insert_all-in-None-clause-ok
+pub returns-in-None-clause-ok : goal.returns-in-None-clause-ok
 unfolding grown group_of
-returns-in_ok-insert_all-in-None-clause-ok c =
+returns-in-None-clause-ok c =
     let values = c.in_ok-values.values.items in
-    put_last (grown values) (group_of c.args.name.now values) _ _ _ _ _ _ c.in_ok-at.ensures.place c.self.view_is c.locate.ensures.same refl c.in-None.is c.in_ok-insert_all-in-None.ensures.ok
-    ∙ ap (added_all c.args.self.now c.args.name.now) c.in_ok-values.ensures
+    on_ok_weaker c.insert_all.result
+    (λ put. put_last (grown values) (group_of c.args.name.now values) _ _ _ _ _ _ c.in_ok-at.ensures.place c.self.view_is c.locate.ensures.same refl c.in-None.is put
+    ∙ ap (added_all c.args.self.now c.args.name.now) c.in_ok-values.ensures)
+    c.insert_all.ensures.ok

@@ -1,4 +1,5 @@
 use Rattle.std.proofs.Common.{◌∙◌, ap, refl, List, ℕ}
+use Rattle.std.proofs.lemmas.Result.{on_ok_weaker}
 use Rattle.rkt_http.specs.Headers.{Group, replaced_all}
 use Rattle.rkt_http.proofs.Groups.{changed_there, put_last}
 use Rattle.rkt_http.proofs.header_map.HeaderMap.replace_all.Goals as goal
@@ -16,9 +17,11 @@ returns-in-Some-clause-ok c =
     changed_there (with_values values) (group_of c.args.name.now values) _ _ _ _ _ _ _ c.in_ok-at.ensures.place c.self.view_is c.locate.ensures.same refl c.in-Some.is c.set.ensures
     ∙ ap (replaced_all c.args.self.now c.args.name.now) c.in_ok-values.ensures
 
-pub returns-in_ok-insert_all-in-None-clause-ok : goal.returns-in_ok-insert_all-in-None-clause-ok
+pub returns-in-None-clause-ok : goal.returns-in-None-clause-ok
 unfolding with_values group_of
-returns-in_ok-insert_all-in-None-clause-ok c =
+returns-in-None-clause-ok c =
     let values = c.in_ok-values.values.items in
-    put_last (with_values values) (group_of c.args.name.now values) _ _ _ _ _ _ c.in_ok-at.ensures.place c.self.view_is c.locate.ensures.same refl c.in-None.is c.in_ok-insert_all-in-None.ensures.ok
-    ∙ ap (replaced_all c.args.self.now c.args.name.now) c.in_ok-values.ensures
+    on_ok_weaker c.insert_all.result
+    (λ put. put_last (with_values values) (group_of c.args.name.now values) _ _ _ _ _ _ c.in_ok-at.ensures.place c.self.view_is c.locate.ensures.same refl c.in-None.is put
+    ∙ ap (replaced_all c.args.self.now c.args.name.now) c.in_ok-values.ensures)
+    c.insert_all.ensures.ok

@@ -1,9 +1,17 @@
-use Rattle.std.proofs.Common.{◌≡◌, ◌∙◌, arith, ap, inl, inr, refl}
+use Rattle.std.proofs.Common.{◌≡◌, ◌∙◌, ℕ, arith, ap, inl, inr, refl, Option}
+use Rattle.rkt_source.specs.Source.{Meaning}
+use Rattle.rkt_message.specs.Body.{preset_of}
+use Rattle.rkt_message.specs.Reading.{Follows}
+use Rattle.rkt_message.specs.Response.{ResponseOf}
+use Rattle.rkt_message.specs.Sending.{ReadsOnUnder}
 use Rattle.rkt_message.specs.declared.stage.Stage.TheVariants as stage
 use Rattle.rkt_message.proofs.ReadOnLemmas.{never_waited, reads_more, sends_on, waited_more, waited_still}
 use Rattle.rkt_message.proofs.Readings.{ByGate-refl}
 use Rattle.rkt_message.proofs.SendingLemmas.{gives_chunk, takes_full}
 use Rattle.rkt_message.proofs.pieces.Pieces.chunk.Goals as goal
+
+reads_under : {S : Type 0} (meaning : S → Meaning) (trip : Option ℕ) (p q : ResponseOf S) → q.status ≡ p.status → q.headers ≡ p.headers → Follows meaning trip p.body q.body → preset_of q.body.content ≡ preset_of p.body.content → ReadsOnUnder meaning trip p q
+reads_under meaning trip p q status headers follows preset = record { status = status; headers = headers; body = follows; size = inl preset }
 
 pub returns-in-Err-clause-by_gate : goal.returns-in-Err-clause-by_gate
 returns-in-Err-clause-by_gate g c = rw (c.in-Err.ensures.err, ← c.self.view_is) (ByGate-refl _ _ _)
@@ -79,3 +87,21 @@ returns-in-Bytes-clause-answer g c =
 
 pub returns-in-Bytes-clause-full : goal.returns-in-Bytes-clause-full
 returns-in-Bytes-clause-full g c = let reads = rw c.in-Bytes.is at c.in-Ok.ensures.reads in rw (← c.self.view_is) (takes_full g.S.Source.meaning c.self.inside.response.body c.next_chunk.new.response.body c.in-Bytes.bytes reads)
+
+pub returns-in-Err-clause-reads : goal.returns-in-Err-clause-reads
+returns-in-Err-clause-reads g c = let r = c.next_chunk.ensures in rw (← c.self.view_is) (reads_under _ _ _ _ r.status r.headers r.follows r.preset)
+
+pub returns-in-Bytes-clause-reads : goal.returns-in-Bytes-clause-reads
+returns-in-Bytes-clause-reads g c = let r = c.next_chunk.ensures in rw (← c.self.view_is) (reads_under _ _ _ _ r.status r.headers r.follows r.preset)
+
+pub returns-in-End-clause-reads : goal.returns-in-End-clause-reads
+returns-in-End-clause-reads g c = let r = c.next_chunk.ensures in rw (← c.self.view_is) (reads_under _ _ _ _ r.status r.headers r.follows r.preset)
+
+pub returns-then-waits-self-clause-reads : goal.returns-then-waits-self-clause-reads
+returns-then-waits-self-clause-reads g c = let r = c.next_chunk.ensures in rw (← c.self.view_is) (reads_under _ _ _ _ r.status r.headers r.follows r.preset)
+
+pub returns-else-waits-self-clause-reads : goal.returns-else-waits-self-clause-reads
+returns-else-waits-self-clause-reads g c = let r = c.next_chunk.ensures in rw (← c.self.view_is) (reads_under _ _ _ _ r.status r.headers r.follows r.preset)
+
+pub returns-in-Refused-clause-reads : goal.returns-in-Refused-clause-reads
+returns-in-Refused-clause-reads g c = let r = c.next_chunk.ensures in rw (← c.self.view_is) (reads_under _ _ _ _ r.status r.headers r.follows r.preset)

@@ -12,14 +12,15 @@ use Rattle.rkt_request.proofs.request.Request.from_incoming.Goals as goal
 pub returns : goal.returns
 returns g c =
     let method = c.from_wire-method.ensures ∙ ap method_of c.as_str.ensures in
+    let read = c.in_ok-uri.ensures in
     let headers = c.in_ok-headers.ensures.headers ∙ ap headers_of c.as_slice.ensures in
     rw c.of_parts-request.ensures
     (record {
       method = c.unwrap_or-method.ensures ∙ ap (λ found. unwrap_or found Get) method;
-      target = c.in_ok-target.target;
-      target_read = subst (λ text. ReadAs (Spells OfRequest) text c.in_ok-target.target) c.as_str-2.ensures c.in_ok-target.ensures;
-      uri = c.in_ok-uri.ensures;
-      faults_are = c.in_ok-faults.ensures ∙ ap (λ found. faults_of found c.in_ok-target.target) method;
+      target = read.0;
+      target_read = subst (λ text. ReadAs (Spells OfRequest) text read.0) c.as_str-2.ensures read.1;
+      uri = read.2;
+      faults_are = read.3 ∙ ap (λ found. faults_of found read.0) method;
       headers = headers;
       host = subst (λ headers. MaybeReadAs SpellsHost (first_value headers (codes "Host")) c.in_ok-headers.host) (sym c.in_ok-headers.ensures.headers) c.in_ok-headers.ensures.host;
       remote = refl;

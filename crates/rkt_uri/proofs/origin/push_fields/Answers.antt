@@ -2,7 +2,7 @@ use Rattle.std.proofs.Common.{length, ◌==◌, not, filter, map, ap, ◌∙◌,
 use Rattle.std.proofs.lemmas.Iterator.Consumers.{YieldsList-end}
 use Rattle.std.proofs.lemmas.Iterator.Splits.{YieldsList-from_str_split}
 use Rattle.rkt_uri.specs.Origin.{field_of}
-use Rattle.rkt_uri.proofs.origin.read_fields.Goals as goal
+use Rattle.rkt_uri.proofs.origin.push_fields.Goals as goal
 
 pub returns : goal.returns
 returns c =
