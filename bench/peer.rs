@@ -233,7 +233,25 @@ fn page(code: u16, reason: &str, description: &str) -> Response {
     typed(code, "text/html; charset=utf-8", text)
 }
 
-/// One exchange: the request of a head, the first route that matches, and its answer or a default page.
+/// What is added to each answer but that of a bad request, where it has no header of the name: the server's name, and the
+/// headers of the shield.
+const DRESS: [(&str, &str); 4] = [
+    ("Server", "Rocket"),
+    ("Permissions-Policy", "interest-cohort=()"),
+    ("X-Content-Type-Options", "nosniff"),
+    ("X-Frame-Options", "SAMEORIGIN"),
+];
+
+fn dressed(mut response: Response) -> Response {
+    for (name, value) in DRESS {
+        if !response.headers.iter().any(|(other, _)| other.eq_ignore_ascii_case(name)) {
+            response.headers.push((name.to_owned(), vec![value.to_owned()]));
+        }
+    }
+    response
+}
+
+/// One exchange: the request of a head, the first route that matches, and its answer or a default page, dressed.
 fn exchange(routes: &[Route], head: &Head, moment: u64) -> (Run, Response) {
     let (request, jar) = read_head(head);
     let mut run = Run { calls: Vec::new(), jar, cache: Vec::new(), moment };
@@ -244,10 +262,10 @@ fn exchange(routes: &[Route], head: &Head, moment: u64) -> (Run, Response) {
     for (position, route) in routes.iter().enumerate() {
         if route.origin.segments == request.origin.segments {
             run.calls.push(position);
-            return (run, typed(200, "text/plain; charset=utf-8", (route.handler)(&request)));
+            return (run, dressed(typed(200, "text/plain; charset=utf-8", (route.handler)(&request))));
         }
     }
-    (run, page(404, "Not Found", "The requested resource could not be found."))
+    (run, dressed(page(404, "Not Found", "The requested resource could not be found.")))
 }
 
 fn send(response: &Response, held: &mut Vec<Piece>) {

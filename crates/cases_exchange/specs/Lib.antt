@@ -1,2 +1,3 @@
+pub mod Changers
 pub mod Pages
 pub mod PageLaws

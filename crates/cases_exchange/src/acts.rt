@@ -24,7 +24,8 @@ pub enum Said {
     Fault,
 }
 
-fn add_cookie(alloc: Global, name: &str, ctx: &mut Ctx<Site>) -> Result<(), NoMemory>
+/// Adds a cookie of this name, with the value 1.
+pub fn add_cookie(alloc: Global, name: &str, ctx: &mut Ctx<Site>) -> Result<(), NoMemory>
     ensures grows { MayGrow ctx.old ctx.new }
 {
     let cookie = Cookie::new(alloc, name, "1")?;
@@ -145,20 +146,30 @@ fn streams(
     responds(alloc, request, ctx, stream)
 }
 
+fn tell_length(response: &mut Response<MemorySource>) -> Result<(), NoMemory> {
+    response.set_raw_header("Content-Length", "5")?;
+    response.set_raw_header("Transfer-Encoding", "chunked")?;
+    Ok(())
+}
+
+fn say_hello(alloc: Global, response: &mut Response<MemorySource>) -> Result<(), NoMemory> {
+    let bytes = b"hello".to_vec(alloc)?;
+    response.set_sized_body(None, bytes);
+    tell_length(response)
+}
+
 /// A response with the text `hello`, and with the headers of one that tells its length itself.
 fn with_length(alloc: Global, status: Status) -> Result<Response<MemorySource>, NoMemory> {
     let mut response = Response::new(alloc);
     response.set_status(status);
-    response.set_raw_header("Content-Length", "5")?;
-    response.set_raw_header("Transfer-Encoding", "chunked")?;
-    response.set_sized_body(None, b"hello".to_vec(alloc)?);
+    say_hello(alloc, &mut response)?;
     Ok(response)
 }
 
-/// An empty response with a header whose value no response may have.
-fn broken(alloc: Global) -> Result<Response<MemorySource>, NoMemory> {
+/// An empty response with one header.
+fn with_header(alloc: Global, name: &str, value: &str) -> Result<Response<MemorySource>, NoMemory> {
     let mut response = Response::new(alloc);
-    response.set_raw_header("X-Bad", "\n")?;
+    response.set_raw_header(name, value)?;
     Ok(response)
 }
 
@@ -166,7 +177,9 @@ fn made_alone(alloc: Global, made: Made) -> Result<Response<MemorySource>, NoMem
     match made {
         Made::NoContent => with_length(alloc, Status::NoContent),
         Made::NotModified => with_length(alloc, Status::NotModified),
-        _ => broken(alloc),
+        Made::Served => with_header(alloc, "Server", "own"),
+        // No response may have a header with a line feed.
+        _ => with_header(alloc, "X-Bad", "\n"),
     }
 }
 
@@ -179,20 +192,43 @@ fn removal(alloc: Global, ctx: &mut Ctx<Site>) -> Result<&'static str, NoMemory>
     Ok("removed")
 }
 
+/// Caches a value, where none is cached yet, and answers which one is.
+fn cached(value: u8, ctx: &mut Ctx<Site>) -> Result<u8, NoMemory>
+    ensures grows { MayGrow ctx.old ctx.new }
+{
+    ctx.local_cache(Key(1), move || value)
+}
+
 /// Caches a value, and asks for it once more.
 fn caching(ctx: &mut Ctx<Site>) -> Result<&'static str, NoMemory>
     ensures grows { MayGrow ctx.old ctx.new }
 {
-    let first = ctx.local_cache(Key(1), || 5)?;
-    let again = ctx.local_cache(Key(1), || 6)?;
+    let first = cached(5, ctx)?;
+    let again = cached(6, ctx)?;
     Ok(if first == again { "cached" } else { "changed" })
 }
 
-fn notice(ctx: &mut Ctx<Site>) -> &'static str
+/// Caches a value, where none is cached yet.
+pub fn cache(ctx: &mut Ctx<Site>) -> Result<(), NoMemory>
+    ensures grows { MayGrow ctx.old ctx.new }
+{
+    let _cached = cached(5, ctx)?;
+    Ok(())
+}
+
+/// Notifies the wire, of the one reason.
+pub fn notify(ctx: &mut Ctx<Site>) -> Result<(), NoMemory>
     ensures grows { MayGrow ctx.old ctx.new }
 {
     ctx.shutdown().notify(Stopped);
-    "notified"
+    Ok(())
+}
+
+fn notice(ctx: &mut Ctx<Site>) -> Result<&'static str, NoMemory>
+    ensures grows { MayGrow ctx.old ctx.new }
+{
+    notify(ctx)?;
+    Ok("notified")
 }
 
 /// What is said when what is lent was changed.
@@ -202,7 +238,7 @@ fn changed(alloc: Global, made: Made, ctx: &mut Ctx<Site>) -> Result<&'static st
     match made {
         Made::Removal => removal(alloc, ctx),
         Made::Cached => caching(ctx),
-        _ => Ok(notice(ctx)),
+        _ => notice(ctx),
     }
 }
 
@@ -264,7 +300,7 @@ fn makes(
     ensures grows { MayGrow ctx.old ctx.new }
 {
     match made {
-        Made::Broken | Made::NoContent | Made::NotModified => {
+        Made::Broken | Made::NoContent | Made::NotModified | Made::Served => {
             Ok(Said::Response(made_alone(alloc, made)?))
         }
         Made::Removal | Made::Cached | Made::Notice => changes(alloc, made, request, ctx),

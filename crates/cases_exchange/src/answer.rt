@@ -1,9 +1,9 @@
 use crate::app::{Site, made_tables};
 use crate::asked::read_asked;
 use crate::exchanged::answer;
-use crate::told::{finalize, push_catcher, push_route, set_config};
+use crate::told::{finalize, push_catcher, push_route, set_config, set_fairings};
 use cases::{Answers, CaseError, first_word};
-use rkt_exchange::Tables;
+use rkt_lifecycle::Tables;
 use std::alloc::Global;
 
 /// What each exchange goes by.
@@ -58,6 +58,7 @@ impl Answers for Program {
     fn answer(&mut self, alloc: Global, line: &str, out: &mut String) -> Result<(), CaseError> {
         match first_word(line) {
             ("config", text) => set_config(alloc, &mut self.tables, text, out),
+            ("fairings", text) => set_fairings(alloc, &mut self.tables, text, out),
             _ => answer_told(alloc, &self.tables, line, out),
         }
     }

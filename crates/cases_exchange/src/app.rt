@@ -1,11 +1,13 @@
 //! The application that is asked, by its types, and what its exchanges go by.
+use crate::changer::Changer;
 use crate::page::Page;
 use crate::routes::{CATCHERS, CatcherRow, ROUTES, RouteRow};
 use cases::CaseError;
 use rkt_base::{NoMemory, Want};
 use rkt_data::MemorySource;
-use rkt_exchange::{Parts, Tables, TablesOf};
+use rkt_fairing::{App, Fairings, Parts};
 use rkt_http::{InvalidUri, Origin};
+use rkt_lifecycle::{Tables, TablesOf};
 use rkt_request::{Config, Managed, Types};
 use rkt_router::{Catcher, Catching, Route, Router};
 use sample_app::Stopped;
@@ -32,6 +34,10 @@ impl Parts for Site {
     type Catch = Page;
 
     type Sentinel = u8;
+}
+
+impl App for Site {
+    type Fairing = Changer;
 }
 
 type SiteRouter = Router<Page, Page, u8>;
@@ -84,23 +90,29 @@ fn register_all(alloc: Global, router: &mut SiteRouter) -> Result<(), CaseError>
     Ok(())
 }
 
+fn fill(alloc: Global, router: &mut SiteRouter) -> Result<(), CaseError> {
+    mount_all(alloc, router)?;
+    register_all(alloc, router)
+}
+
 fn made_router(alloc: Global) -> Result<SiteRouter, CaseError> {
     let mut router = SiteRouter::new(alloc);
-    mount_all(alloc, &mut router)?;
-    register_all(alloc, &mut router)?;
+    fill(alloc, &mut router)?;
     Ok(router)
 }
 
-fn default_config(alloc: Global) -> Result<Config, NoMemory> {
-    Config::default(alloc)
-}
-
-/// All routes and catchers, the default configuration, and nothing managed.
-pub fn made_tables(alloc: Global) -> Result<Tables<Site>, CaseError> {
-    let config = default_config(alloc)?;
+fn tables_of(alloc: Global, router: SiteRouter) -> Result<Tables<Site>, NoMemory> {
+    let config = Config::default(alloc)?;
     Ok(TablesOf {
-        router: made_router(alloc)?,
+        router,
+        fairings: Fairings::new(alloc),
         config,
         managed: Managed::new(alloc),
     })
+}
+
+/// All routes and catchers, no fairings, the default configuration, and nothing managed.
+pub fn made_tables(alloc: Global) -> Result<Tables<Site>, CaseError> {
+    let router = made_router(alloc)?;
+    Ok(tables_of(alloc, router)?)
 }

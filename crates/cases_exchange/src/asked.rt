@@ -1,6 +1,6 @@
 //! Requests, as lines say them.
 use crate::app::Site;
-use cases::{CaseError, cut, first_word, numbers, pair, parsed};
+use cases::{CaseError, cut, first_word, numbers, pair, parsed, written};
 use rkt_base::{NoMemory, Seq, Text};
 use rkt_data::{CancellableIo, Data, MemorySource};
 use rkt_request::{Body0, Head};
@@ -9,44 +9,66 @@ use std::alloc::Global;
 /// What is asked, and when.
 #[derive(Drop)]
 pub struct Asked {
-    pub head: Head,
+    head: Head,
     bytes: Vec<u8>,
     /// The reads of the body that are refused.
     fails: Vec<u64>,
+    pub when: When,
+}
+
+/// When an exchange begins, and whether the jar is shown behind it.
+#[derive(Clone, Copy, Debug, PartialEq, Eq, Drop)]
+pub struct When {
     pub moment: u64,
+    pub shows_jar: bool,
 }
 
 /// The head of `METHOD TARGET`, without headers.
 fn first(alloc: Global, text: &str) -> Result<Head, NoMemory> {
     let (method, target) = first_word(text);
+    let method = Text::new(alloc, method)?;
+    let target = Text::new(alloc, target)?;
     Ok(Head {
-        method: Text::new(alloc, method)?,
-        target: Text::new(alloc, target)?,
+        method,
+        target,
         headers: Seq::new(alloc),
         remote: None,
     })
 }
 
+fn push_field(alloc: Global, head: &mut Head, name: Text, value: &str) -> Result<(), NoMemory> {
+    let value = value.as_bytes().to_vec(alloc)?;
+    head.headers.push((name, Seq::from_vec(value)))
+}
+
 fn push_header(alloc: Global, head: &mut Head, text: &str) -> Result<(), CaseError> {
     let (name, value) = pair(text, ": ")?;
     let name = Text::new(alloc, name)?;
-    let value = Seq::from_vec(value.as_bytes().to_vec(alloc)?);
-    Ok(head.headers.push((name, value))?)
+    written(push_field(alloc, head, name, value))
 }
 
-/// Takes `body TEXT`, `fails N,..`, `at MOMENT`, or a header.
+fn set_fails(alloc: Global, asked: &mut Asked, text: &str) -> Result<(), CaseError> {
+    asked.fails = numbers(alloc, text)?;
+    Ok(())
+}
+
+fn set_moment(when: &mut When, text: &str) -> Result<(), CaseError> {
+    when.moment = parsed::<u64>(text)?;
+    Ok(())
+}
+
+fn show_jar(when: &mut When) -> Result<(), CaseError> {
+    when.shows_jar = true;
+    Ok(())
+}
+
+/// Takes `body TEXT`, `fails N,..`, `at MOMENT`, `jar`, or a header.
 fn take(alloc: Global, asked: &mut Asked, piece: &str) -> Result<(), CaseError> {
-    let (word, rest) = first_word(piece);
-    match word {
-        "body" => Ok(asked.bytes.extend_from_slice(rest.as_bytes())?),
-        "fails" => {
-            asked.fails = numbers(alloc, rest)?;
-            Ok(())
-        }
-        "at" => {
-            asked.moment = parsed::<u64>(rest)?;
-            Ok(())
-        }
+    match first_word(piece) {
+        ("body", text) => written(asked.bytes.extend_from_slice(text.as_bytes())),
+        ("fails", text) => set_fails(alloc, asked, text),
+        ("at", text) => set_moment(&mut asked.when, text),
+        ("jar", "") => show_jar(&mut asked.when),
         _ => push_header(alloc, &mut asked.head, piece),
     }
 }
@@ -58,23 +80,35 @@ fn take_all(alloc: Global, asked: &mut Asked, text: &str) -> Result<(), CaseErro
     Ok(())
 }
 
-/// Reads `METHOD TARGET | PIECE | ..`. The moment is 1000 where none is said.
-pub fn read_asked(alloc: Global, text: &str) -> Result<Asked, CaseError> {
-    let mut asked = Asked {
-        head: first(alloc, cut(text, " | ").0)?,
+/// What is asked without a body, at the moment 1000.
+fn plain(alloc: Global, text: &str) -> Result<Asked, NoMemory> {
+    let head = first(alloc, cut(text, " | ").0)?;
+    Ok(Asked {
+        head,
         bytes: Vec::new(alloc),
         fails: Vec::new(alloc),
-        moment: 1000,
-    };
+        when: When {
+            moment: 1000,
+            shows_jar: false,
+        },
+    })
+}
+
+/// Reads `METHOD TARGET | PIECE | ..`. The moment is 1000 where none is said.
+pub fn read_asked(alloc: Global, text: &str) -> Result<Asked, CaseError> {
+    let mut asked = plain(alloc, text)?;
     take_all(alloc, &mut asked, text)?;
     Ok(asked)
 }
 
 impl Asked {
-    /// The body, which a source gives four bytes at a time, and what else is asked.
-    pub fn parts(self, alloc: Global) -> Result<(Head, Body0<Site>, u64), NoMemory> {
-        let source = MemorySource::new(self.bytes, 4, self.fails);
-        let body = Data::from_source(alloc, CancellableIo::new(source))?;
-        Ok((self.head, body, self.moment))
+    /// What is asked beside the body, and the source of this, which gives four bytes at a time.
+    pub fn parts(self) -> (Head, MemorySource) {
+        (self.head, MemorySource::new(self.bytes, 4, self.fails))
     }
+}
+
+/// The body that a source gives.
+pub fn body_of(alloc: Global, source: MemorySource) -> Result<Body0<Site>, NoMemory> {
+    Data::from_source(alloc, CancellableIo::new(source))
 }

@@ -1,13 +1,13 @@
 //! One exchange.
-ghost use Rattle.std.specs.Prelude.{IfNone, IfOk, IsSome};
+ghost use Rattle.std.specs.Prelude.{IfNone, IsSome};
 
 use crate::app::Site;
-use crate::asked::Asked;
+use crate::asked::{Asked, When, body_of};
 use crate::shown::push_ended;
 use cases::CaseError;
 use rkt_base::{NoMemory, Poll};
-use rkt_data::Gate;
-use rkt_exchange::{Ended, Exchange, Tables};
+use rkt_data::{Gate, MemorySource};
+use rkt_lifecycle::{Ended, Exchange, Tables};
 use rkt_request::{Body0, Head, Incoming, Request};
 use rkt_turn::{Shutdown, TripWire};
 use sample_app::{Stopped, gate_at};
@@ -23,8 +23,8 @@ fn handle(alloc: Global) -> Result<Shutdown<Stopped>, NoMemory> {
 
 /// One poll. Where it is Pending, there may be another.
 fn polled(exchange: &mut Exchange<'_, Site>, gate: Gate) -> Option<Ended<Site>>
-    requires { IsSome exchange.old.live }
-    ensures { IfNone result (IsSome exchange.new.live) }
+    requires { IsSome exchange.old.phase }
+    ensures { IfNone result (IsSome exchange.new.phase) }
 {
     match exchange.poll(gate) {
         Poll::Ready(ended) => Some(ended),
@@ -32,44 +32,73 @@ fn polled(exchange: &mut Exchange<'_, Site>, gate: Gate) -> Option<Ended<Site>>
     }
 }
 
-/// The end, and how many polls it took, each of them a second behind the one before. One that takes too many makes no case.
-fn driven(mut exchange: Exchange<'_, Site>, moment: u64) -> Result<(u64, Ended<Site>), CaseError>
-    requires { IsSome exchange.live }
+/// Polls it until it ends, each time a second behind the one before, and adds its end. One that takes too many polls makes
+/// no case.
+fn drive(
+    alloc: Global,
+    exchange: &mut Exchange<'_, Site>,
+    when: When,
+    out: &mut String,
+) -> Result<(), CaseError>
+    requires { IsSome exchange.old.phase }
 {
     for before in 0..POLLS {
-        let gate = gate_at(moment.saturating_add(before));
-        if let Some(ended) = polled(&mut exchange, gate) {
-            return Ok((before + 1, ended));
+        let gate = gate_at(when.moment.saturating_add(before));
+        if let Some(ended) = polled(exchange, gate) {
+            return push_ended(alloc, before + 1, ended, when, out);
         }
     }
     Err(CaseError::Line)
 }
 
-fn begin<'a>(
+fn push_exchange(
     alloc: Global,
-    tables: &'a Tables<Site>,
-    incoming: Incoming<'a, Site>,
+    tables: &Tables<Site>,
+    incoming: Incoming<'_, Site>,
     body: Body0<Site>,
-    moment: u64,
-) -> Result<Exchange<'a, Site>, NoMemory>
-    ensures { IfOk result (λ exchange. IsSome exchange.live) }
-{
-    let shutdown = handle(alloc)?;
-    Ok(Exchange::new(alloc, tables, incoming, body, shutdown, gate_at(moment)))
+    shutdown: Shutdown<Stopped>,
+    when: When,
+    out: &mut String,
+) -> Result<(), CaseError> {
+    let gate = gate_at(when.moment);
+    let mut exchange = Exchange::<Site>::new(alloc, tables, incoming, body, shutdown, gate);
+    drive(alloc, &mut exchange, when, out)
 }
 
-fn push_exchange(
+fn push_incoming(
+    alloc: Global,
+    tables: &Tables<Site>,
+    incoming: Incoming<'_, Site>,
+    body: Body0<Site>,
+    when: When,
+    out: &mut String,
+) -> Result<(), CaseError> {
+    let shutdown = handle(alloc)?;
+    push_exchange(alloc, tables, incoming, body, shutdown, when, out)
+}
+
+fn push_head(
     alloc: Global,
     tables: &Tables<Site>,
     head: &Head,
     body: Body0<Site>,
-    moment: u64,
+    when: When,
     out: &mut String,
 ) -> Result<(), CaseError> {
     let incoming = Request::from_incoming(alloc, head, &tables.config, &tables.managed)?;
-    let exchange = begin(alloc, tables, incoming, body, moment)?;
-    let (polls, ended) = driven(exchange, moment)?;
-    push_ended(alloc, polls, ended, out)
+    push_incoming(alloc, tables, incoming, body, when, out)
+}
+
+fn push_source(
+    alloc: Global,
+    tables: &Tables<Site>,
+    head: &Head,
+    source: MemorySource,
+    when: When,
+    out: &mut String,
+) -> Result<(), CaseError> {
+    let body = body_of(alloc, source)?;
+    push_head(alloc, tables, head, body, when, out)
 }
 
 /// Adds what an exchange answers.
@@ -79,6 +108,7 @@ pub fn answer(
     asked: Asked,
     out: &mut String,
 ) -> Result<(), CaseError> {
-    let (head, body, moment) = asked.parts(alloc)?;
-    push_exchange(alloc, tables, &head, body, moment, out)
+    let when = asked.when;
+    let (head, source) = asked.parts();
+    push_source(alloc, tables, &head, source, when, out)
 }

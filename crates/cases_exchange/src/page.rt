@@ -24,6 +24,8 @@ pub enum Made {
     NoContent,
     /// 304, with a body.
     NotModified,
+    /// With the name of a server of its own.
+    Served,
     /// With a body that a source gives.
     Stream,
     /// A cookie is added and removed.

@@ -1,7 +1,7 @@
 //! The routes of the application, in mounting order, and its catchers, in the order in which they are registered.
 use crate::page::Act::{Echoes, Errs, Faults, Greets, Makes, Passes, Peeks, Says};
 use crate::page::Made::{
-    Broken, Cached, Facts, Flash, Missing, NoContent, NotModified, Notice, Removal, Stream,
+    Broken, Cached, Facts, Flash, Missing, NoContent, NotModified, Notice, Removal, Served, Stream,
 };
 use crate::page::Page;
 use crate::page::Page::{Does, Marks, Waits};
@@ -15,7 +15,7 @@ pub type RouteRow = (Method, &'static str, &'static str, Option<i64>, Page);
 /// A catcher: its base, its code, and what answers, if it is not the default page.
 pub type CatcherRow = (&'static str, Option<u16>, Option<Page>);
 
-pub const ROUTES: [RouteRow; 43] = [
+pub static ROUTES: [RouteRow; 43] = [
     (Get, "/hello", "/<name>/<age>", None, Does(Greets)),
     (Get, "/", "/page", None, Does(Says("hello"))),
     (Head, "/", "/page", None, Does(Passes(422))),
@@ -61,7 +61,7 @@ pub const ROUTES: [RouteRow; 43] = [
     (Get, "/", "/a/own", None, Does(Makes(Missing))),
 ];
 
-pub const CATCHERS: [CatcherRow; 14] = [
+pub static CATCHERS: [CatcherRow; 15] = [
     ("/a", Some(404), Some(Does(Says("404 at /a")))),
     ("/a/b", None, Some(Does(Says("default at /a/b")))),
     ("/bad", Some(404), Some(Does(Errs(418)))),
@@ -76,4 +76,5 @@ pub const CATCHERS: [CatcherRow; 14] = [
     ("/torn", Some(404), Some(Does(Faults))),
     ("/torn/up", Some(500), Some(Does(Faults))),
     ("/told", None, Some(Does(Makes(Facts)))),
+    ("/served", None, Some(Does(Makes(Served)))),
 ];

@@ -1,17 +1,22 @@
 //! What is shown of an exchange that has ended.
 use crate::app::Site;
-use cases::CaseError;
+use crate::asked::When;
+use cases::{CaseError, written};
 use rkt_base::{NoMemory, Poll};
+use rkt_cookie::Change;
 use rkt_data::{DataError, MemorySource};
-use rkt_exchange::{Answer, Call, Ended, EndedOf, Run, Which};
+use rkt_lifecycle::{Ended, EndedOf, Run};
 use rkt_response::{Body, Response};
+use rkt_routing::{Answer, Call, Which};
 use sample_app::gate_at;
 use std::alloc::Global;
 
 fn push_which(which: Which, out: &mut String) -> Result<(), NoMemory> {
     match which {
+        Which::Request(place) => write!(out, "request {place}"),
         Which::Route(position) => write!(out, "route {position}"),
         Which::Catcher(position) => write!(out, "catcher {position}"),
+        Which::Response(place) => write!(out, "response {place}"),
     }
 }
 
@@ -26,6 +31,7 @@ fn push_route_answer(answer: Answer, out: &mut String) -> Result<(), NoMemory> {
 
 fn push_answer(answer: Answer, out: &mut String) -> Result<(), NoMemory> {
     match answer {
+        Answer::Done => out.push_str(" done"),
         Answer::Caught => out.push_str(" caught"),
         Answer::Refused(status) => write!(out, " refused {}", status.code),
         _ => push_route_answer(answer, out),
@@ -66,7 +72,7 @@ fn push_calls(calls: &[Call], out: &mut String) -> Result<(), NoMemory> {
     Ok(())
 }
 
-/// Adds how many polls there were, and the moment of the last, where they were several.
+/// Adds how many polls there were, and the moment of the run, where they were several.
 fn push_polls(polls: u64, moment: u64, out: &mut String) -> Result<(), NoMemory> {
     if polls == 1 {
         return Ok(());
@@ -145,15 +151,34 @@ fn push_response(
     push_body(alloc, response.body_mut().take(), out)
 }
 
+/// Adds the name of a cookie that was added to the jar, or removed from it.
+fn push_change(change: &Change, out: &mut String) -> Result<(), NoMemory> {
+    out.push_str(if change.removal { " -" } else { " +" })?;
+    out.push_str(change.cookie.name())
+}
+
+fn push_log(log: &[Change], out: &mut String) -> Result<(), NoMemory> {
+    out.push_str("; jar")?;
+    for change in log {
+        push_change(change, out)?;
+    }
+    Ok(())
+}
+
 fn push_finished(
     alloc: Global,
     polls: u64,
     run: &Run<Site>,
     response: &mut Response<MemorySource>,
+    when: When,
     out: &mut String,
-) -> Result<(), CaseError> {
+) -> Result<(), NoMemory> {
     push_run(run, polls, out)?;
-    Ok(push_response(alloc, response, out)?)
+    push_response(alloc, response, out)?;
+    if when.shows_jar {
+        return push_log(run.jar.log(), out);
+    }
+    Ok(())
 }
 
 /// Adds the calls, how many polls there were where they were several, and the response.
@@ -161,6 +186,7 @@ pub fn push_ended(
     alloc: Global,
     polls: u64,
     ended: Ended<Site>,
+    when: When,
     out: &mut String,
 ) -> Result<(), CaseError> {
     match ended {
@@ -168,7 +194,7 @@ pub fn push_ended(
             run,
             mut response,
             ..
-        } => push_finished(alloc, polls, &run, &mut response, out),
+        } => written(push_finished(alloc, polls, &run, &mut response, when, out)),
         EndedOf::Starved { .. } => Err(CaseError::NoMemory),
     }
 }

@@ -1,8 +1,10 @@
 //! What the application has, and how it is set.
 use crate::app::Site;
-use cases::{CaseError, pair, parsed};
+use crate::changer::{Changer, read_fairings};
+use cases::{CaseError, pair, parsed, written};
 use rkt_base::{NoMemory, Want};
-use rkt_exchange::Tables;
+use rkt_fairing::{Callback, Fairings};
+use rkt_lifecycle::Tables;
 use rkt_request::{Config, ConfigTable};
 use std::alloc::Global;
 
@@ -22,11 +24,15 @@ fn set_entries(table: &mut ConfigTable, text: &str) -> Result<(), CaseError> {
     Ok(())
 }
 
+fn config_of(alloc: Global, table: &ConfigTable) -> Result<Config, CaseError> {
+    Ok(Config::from_table(alloc, table)?)
+}
+
 /// The configuration of `NAME=TEXT; ..`.
 fn read_config(alloc: Global, text: &str) -> Result<Config, CaseError> {
     let mut table = ConfigTable::new(alloc);
     set_entries(&mut table, text)?;
-    Ok(Config::from_table(alloc, &table)?)
+    config_of(alloc, &table)
 }
 
 /// Sets the configuration of `NAME=TEXT; ..`.
@@ -37,7 +43,25 @@ pub fn set_config(
     out: &mut String,
 ) -> Result<(), CaseError> {
     tables.config = read_config(alloc, text)?;
-    Ok(out.push_str("done")?)
+    written(out.push_str("done"))
+}
+
+/// Adds how many fairings are called for requests, and how many for responses.
+fn push_counts(fairings: &Fairings<Changer>, out: &mut String) -> Result<(), NoMemory> {
+    let requests = fairings.count(Callback::Request);
+    let responses = fairings.count(Callback::Response);
+    write!(out, "{requests} for requests, {responses} for responses")
+}
+
+/// Attaches the fairings of `FAIRING; ..`, and no others.
+pub fn set_fairings(
+    alloc: Global,
+    tables: &mut Tables<Site>,
+    text: &str,
+    out: &mut String,
+) -> Result<(), CaseError> {
+    tables.fairings = read_fairings(alloc, text)?;
+    written(push_counts(&tables.fairings, out))
 }
 
 /// Adds the route at a position.
@@ -63,7 +87,7 @@ pub fn push_catcher(tables: &Tables<Site>, text: &str, out: &mut String) -> Resu
 /// Adds whether the tables are taken.
 pub fn finalize(alloc: Global, tables: &Tables<Site>, out: &mut String) -> Result<(), CaseError> {
     match tables.router.finalize(alloc) {
-        Ok(()) => Ok(out.push_str("ok")?),
+        Ok(()) => written(out.push_str("ok")),
         Err(Want::Refused(_)) => Err(CaseError::Refused),
         Err(Want::NoMemory) => Err(CaseError::NoMemory),
     }

@@ -4,7 +4,7 @@ use crate::setting::Pair;
 use rkt_base::{NoMemory, Want};
 use rkt_data::{MemorySource, Source};
 use rkt_http::{InvalidUri, Method, Outcome, Status};
-use rkt_life::{App, DefaultCatcher, Ignite, Rocket};
+use rkt_life::{App, DefaultCatcher, Fairings, Ignite, NoFairing, Parts, Rocket};
 use rkt_message::Response;
 use rkt_request::{Body0, Config, Ctx, Managed, Request, Types};
 use rkt_router::{Handler, Route, RouteOutcome, Router, Step};
@@ -81,12 +81,16 @@ impl Types for Site {
     type Reason = Stopped;
 }
 
-impl App for Site {
+impl Parts for Site {
     type Handler = Saying;
 
     type Catch = DefaultCatcher;
 
     type Sentinel = u8;
+}
+
+impl App for Site {
+    type Fairing = NoFairing;
 }
 
 type SiteRouter = Router<Saying, DefaultCatcher, u8>;
@@ -113,7 +117,13 @@ fn router_of(alloc: Global, pairs: &[Pair]) -> Result<SiteRouter, CaseError> {
 
 fn assembled(alloc: Global, router: SiteRouter) -> Result<Rocket<Ignite, Site>, NoMemory> {
     let config = Config::default(alloc)?;
-    Rocket::assemble(alloc, router, config, Managed::new(alloc))
+    Rocket::assemble(
+        alloc,
+        router,
+        Fairings::new(alloc),
+        config,
+        Managed::new(alloc),
+    )
 }
 
 /// A rocket with these routes.

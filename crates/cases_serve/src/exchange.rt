@@ -39,11 +39,12 @@ pub fn cookies(alloc: Global, jar: &CookieJar) -> Result<String, AllocError> {
     Ok(list)
 }
 
-/// The status and the content type of a response, and the size of its body.
+/// The status, the content type and the server of a response, and the size of its body.
 fn answered(alloc: Global, mut response: Response<MemorySource>) -> Result<String, AllocError> {
     let size = response.body_mut().size().unwrap_or(0);
     let media = response.headers().get_one("Content-Type").unwrap_or("-");
-    format!(in alloc; "{} {media}, {size} bytes", response.status().code)
+    let server = response.headers().get_one("Server").unwrap_or("-");
+    format!(in alloc; "{} {media}, {size} bytes, by {server}", response.status().code)
 }
 
 /// What a run did.
@@ -75,7 +76,7 @@ fn no_body(alloc: Global) -> Result<Body0<Site>, NoMemory> {
 
 /// The end of an exchange that waits for nothing.
 fn polled(mut exchange: Exchange<'_, Site>, moment: u64) -> Option<Ended<Site>>
-    requires { IsSome exchange.live }
+    requires { IsSome exchange.phase }
 {
     match exchange.poll(gate(moment)) {
         Poll::Ready(ended) => Some(ended),

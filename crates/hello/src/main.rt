@@ -9,8 +9,9 @@ mod site;
 
 use crate::site::{Site, rocket};
 use rkt_base::{NoMemory, Seq, Text, Want};
+use rkt_data::MemorySource;
 use rkt_http::InvalidUri;
-use rkt_life::{Ignite, Rocket};
+use rkt_life::{App, Ignite, Rocket};
 use rkt_message::Piece;
 use rkt_request::Head;
 use rkt_serve::{Entry, History, Launch, ListClock, ListListener, MemoryLink};
@@ -41,12 +42,12 @@ fn listener(alloc: Global) -> Result<ListListener, NoMemory>
     ListListener::new(alloc, links, Vec::new(alloc))
 }
 
-fn launched<R: Wait + Threads>(
+fn launched<A: App<Source = MemorySource>, R: Wait + Threads>(
     rt: &R,
     alloc: Global,
-    rocket: Rocket<Ignite, Site>,
+    rocket: Rocket<Ignite, A>,
     listener: ListListener,
-) -> Result<History<Site, MemoryLink>, NoMemory>
+) -> Result<History<A, MemoryLink>, NoMemory>
     requires { IsFresh (listener_meaning listener) }
 {
     let clock = ListClock::new(Vec::new(alloc));
@@ -59,13 +60,21 @@ fn launched<R: Wait + Threads>(
     }
 }
 
+fn listened<A: App<Source = MemorySource>, R: Wait + Threads>(
+    rt: &R,
+    alloc: Global,
+    rocket: Rocket<Ignite, A>,
+) -> Result<History<A, MemoryLink>, NoMemory> {
+    let listener = listener(alloc)?;
+    launched(rt, alloc, rocket, listener)
+}
+
 fn served<R: Wait + Threads>(
     rt: &R,
     alloc: Global,
 ) -> Result<History<Site, MemoryLink>, Want<InvalidUri>> {
-    let listener = listener(alloc)?;
     let rocket = rocket(alloc)?;
-    Ok(launched(rt, alloc, rocket, listener)?)
+    Ok(listened(rt, alloc, rocket)?)
 }
 
 fn push_piece(text: &mut String, alloc: Global, piece: &Piece) -> Result<(), NoMemory> {

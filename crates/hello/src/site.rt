@@ -1,7 +1,7 @@
 use rkt_base::{NoMemory, Want};
 use rkt_data::MemorySource;
 use rkt_http::{InvalidUri, Method};
-use rkt_life::{App, DefaultCatcher, Ignite, Rocket};
+use rkt_life::{App, DefaultCatcher, Fairings, Ignite, NoFairing, Parts, Rocket};
 use rkt_request::{Config, Managed, Request, Types};
 use rkt_router::{Answering, Answers, Route, Router};
 use rkt_turn::Reason;
@@ -46,12 +46,16 @@ impl<T: Types> Answers<T> for Page {
     }
 }
 
-impl App for Site {
+impl Parts for Site {
     type Handler = Answering<Page>;
 
     type Catch = DefaultCatcher;
 
     type Sentinel = u8;
+}
+
+impl App for Site {
+    type Fairing = NoFairing;
 }
 
 type SiteRouter = Router<Answering<Page>, DefaultCatcher, u8>;
@@ -73,10 +77,11 @@ fn made_router(alloc: Global) -> Result<SiteRouter, Want<InvalidUri>> {
     Ok(router)
 }
 
-/// The site's rocket, with the default configuration and no managed value.
+/// The site's rocket, with no fairing, the default configuration and no managed value.
 pub fn rocket(alloc: Global) -> Result<Rocket<Ignite, Site>, Want<InvalidUri>> {
     let router = made_router(alloc)?;
+    let fairings = Fairings::new(alloc);
     let config = Config::default(alloc)?;
     let managed = Managed::new(alloc);
-    Ok(Rocket::<Ignite, Site>::assemble(alloc, router, config, managed)?)
+    Ok(Rocket::<Ignite, Site>::assemble(alloc, router, fairings, config, managed)?)
 }

@@ -6,17 +6,18 @@ use Rattle.std.proofs.lemmas.Bool.{false≢true}
 use Rattle.std.proofs.lemmas.Option.{none-some}
 use Rattle.rkt_config.specs.declared.config.Config.{Config}
 use Rattle.rkt_cookie.specs.Jar.{JarParts}
-use Rattle.rkt_exchange.specs.Dressed.{with_body_rule}
-use Rattle.rkt_exchange.specs.Lifecycle.{is_head}
 use Rattle.rkt_http.specs.DefaultPage.{html_page}
 use Rattle.rkt_http.specs.Headers.{Group}
 use Rattle.rkt_http.specs.Method.{method_of}
 use Rattle.rkt_http.specs.declared.method.Method.{Method}
 use Rattle.rkt_http.specs.declared.method.Method.TheVariants.{Get}
+use Rattle.rkt_lifecycle.specs.Dressed.{with_body_rule}
 use Rattle.rkt_media.specs.Accept.{Weighed}
 use Rattle.rkt_media.specs.Media.{Media, is_kind}
+use Rattle.rkt_message.specs.Body.{BodyOf, body_of, left_of}
 use Rattle.rkt_message.specs.Response.{ResponseOf}
 use Rattle.rkt_message.specs.Sent.{Sent, head_of}
+use Rattle.rkt_message.specs.declared.content.Content.TheVariants.{Sized}
 use Rattle.rkt_message.specs.declared.piece.Piece.{Piece}
 use Rattle.rkt_message.specs.declared.piece.Piece.TheVariants.{Chunk, End}
 use Rattle.rkt_request.specs.Incoming.{IsIncoming, faults_of, headers_of, root}
@@ -24,14 +25,15 @@ use Rattle.rkt_request.specs.Seen.{Seen, ReadAs, IsAccepted}
 use Rattle.rkt_request.specs.declared.bad.Bad.{Bad}
 use Rattle.rkt_request.specs.declared.head.Head.{Head}
 use Rattle.rkt_router.specs.Page.{typed, page_of, IsDefaultPage, PrefersJson}
+use Rattle.rkt_routing.specs.Routed.{is_head}
 use Rattle.rkt_source.specs.Memory.{SourceInMemory, source_meaning}
 use Rattle.rkt_uri.specs.Origin.{Target, Spells, SaysWhatItSpells, target_of}
 use Rattle.rkt_uri.specs.declared.origin_place.Profile.TheVariants.{Request}
-use Rattle.rkt_demo.proofs.Exchanges.{Answers, Finds, Meets}
+use Rattle.rkt_demo.proofs.Exchanges.{Answers, FindsPage, Meets, with_shield}
 use Rattle.rkt_demo.proofs.Origins.{is_origin-read, second_of_both}
 use Rattle.rkt_demo.proofs.PageRoute.{is_page, page_matches}
-use Rattle.rkt_demo.specs.Output.{head_text, body_bytes, sent_section}
-use Rattle.rkt_demo.specs.Printed.{asks_page, is_good, page_section, typed_section, printed_section}
+use Rattle.rkt_demo.specs.Output.{answered_section, head_text, body_bytes, sent_section}
+use Rattle.rkt_demo.specs.Printed.{asks_page, is_good, page_section, shield_lines, typed_section, printed_section}
 use Rattle.rkt_demo.specs.Sample.{hello}
 use Rattle.rkt_demo.specs.Script.{IsServed}
 use Rattle.rkt_demo.specs.declared.sample.Page.{Page}
@@ -48,15 +50,23 @@ bodies_of_chunks [] = refl
 bodies_of_chunks (c ∷ cs) = ap (λ (l : List ℕ). c ++ l) (bodies_of_chunks cs)
 
 -- however a body is cut, its section is one text
-section_of_typed : (k code : ℕ) (content_type body : List ℕ) (pieces : List Piece) → Sent source_meaning (typed code content_type body) pieces → sent_section k pieces ≡ typed_section k code content_type body
-section_of_typed k code content_type body pieces sent =
-    let response : Response = typed code content_type body in
+section_of_sized : (k : ℕ) (response : Response) (body : List ℕ) (pieces : List Piece) → response.body ≡ body_of (Sized body None) → Sent source_meaning response pieces
+    → sent_section k pieces ≡ answered_section k (head_text (head_of response)) body
+section_of_sized k response body pieces sized sent =
     let head : Piece = head_of response in
     let chunks : List (List ℕ) = sent.2.0 in
     let is : pieces ≡ head ∷ (map Chunk chunks ++ End ∷ []) = sent.3 ∙ ap (λ (rest : List Piece). head ∷ rest) sent.2.3 in
     let heads : flat_map head_text pieces ≡ head_text head = ap (flat_map head_text) is ∙ ap (λ (l : List ℕ). head_text head ++ l) (heads_of_chunks chunks) ∙ append-nil (head_text head) in
-    let bytes : flat_map body_bytes pieces ≡ body = ap (flat_map body_bytes) is ∙ bodies_of_chunks chunks ∙ sent.2.2 body refl in
+    let left : left_of source_meaning response.body.content ≡ Some body = ap (λ (b : BodyOf SourceInMemory). left_of source_meaning b.content) sized in
+    let bytes : flat_map body_bytes pieces ≡ body = ap (flat_map body_bytes) is ∙ bodies_of_chunks chunks ∙ sent.2.2 body left in
     rw (heads, bytes) refl
+
+section_of_typed : (k code : ℕ) (content_type body : List ℕ) (pieces : List Piece) → Sent source_meaning (typed code content_type body) pieces → sent_section k pieces ≡ typed_section k code content_type [] body
+section_of_typed k code content_type body pieces sent = section_of_sized k (typed code content_type body) body pieces refl sent
+
+section_of_shielded : (k code : ℕ) (content_type body : List ℕ) (pieces : List Piece) → Sent source_meaning (with_shield (typed code content_type body)) pieces
+    → sent_section k pieces ≡ typed_section k code content_type shield_lines body
+section_of_shielded k code content_type body pieces sent = section_of_sized k (with_shield (typed code content_type body)) body pieces refl sent
 
 abbrev page : ℕ → Response
 page code = page_of false code
@@ -77,14 +87,14 @@ page_without_headers code request response none is =
 
 -- whether the head is good, and whether it asks for the page
 abbrev pub sample_response : Bool → Bool → Response
-sample_response true true = hello
-sample_response true false = page 404
+sample_response true true = with_shield hello
+sample_response true false = with_shield (page 404)
 sample_response false _ = page 400
 
 section_by_tests : (good asks : Bool) (k : ℕ) (pieces : List Piece) → Sent source_meaning (sample_response good asks) pieces
-    → sent_section k pieces ≡ (if good then (if asks then typed_section k 200 (codes "text/plain; charset=utf-8") (codes "hello") else page_section k 404) else page_section k 400)
-section_by_tests true true k pieces sent = section_of_typed k 200 (codes "text/plain; charset=utf-8") (codes "hello") pieces sent
-section_by_tests true false k pieces sent = section_of_typed k 404 (codes "text/html; charset=utf-8") (html_page 404) pieces sent
+    → sent_section k pieces ≡ (if good then (if asks then typed_section k 200 (codes "text/plain; charset=utf-8") shield_lines (codes "hello") else page_section k 404 shield_lines) else page_section k 400 [])
+section_by_tests true true k pieces sent = section_of_shielded k 200 (codes "text/plain; charset=utf-8") (codes "hello") pieces sent
+section_by_tests true false k pieces sent = section_of_shielded k 404 (codes "text/html; charset=utf-8") (html_page 404) pieces sent
 section_by_tests false _ k pieces sent = section_of_typed k 400 (codes "text/html; charset=utf-8") (html_page 400) pieces sent
 
 -- the body rule leaves what answers a GET request as it is
@@ -100,15 +110,15 @@ module _ {V : Type 0} (one : Page) (request : Seen V) (get : request.method ≡ 
   not_met other (inl matching) = false≢true (sym other ∙ ((page_matches one request).0 matching).1)
   not_met other (inr again) = false≢true (sym not_head ∙ again.0)
 
-  found_as : (asks : Bool) (found : Response) → is_page request.uri ≡ asks → Finds one request found → found ≡ sample_response true asks
-  found_as true found asks (inl met) = met.1
+  found_as : (asks : Bool) (found : Response) → is_page request.uri ≡ asks → FindsPage one request found → with_shield found ≡ sample_response true asks
+  found_as true found asks (inl met) = ap with_shield met.1
   found_as true found asks (inr other) = absurd (other.0 (inl ((page_matches one request).1 (get, asks))))
   found_as false found asks (inl met) = absurd (not_met asks met.0)
-  found_as false found asks (inr other) = page_without_headers 404 request found none other.1
+  found_as false found asks (inr other) = ap with_shield (page_without_headers 404 request found none other.1)
 
   answered_as : (asks : Bool) (response : Response) → is_page request.uri ≡ asks → Answers one [] request response → response ≡ sample_response true asks
   answered_as asks response is answers =
-      answers.2 ∙ ap (λ (head : Bool). with_body_rule head answers.0) not_head ∙ ap (with_body_rule false) (found_as asks answers.0 is answers.1) ∙ unruled asks
+      answers.2 ∙ ap (λ (head : Bool). with_body_rule head (with_shield answers.0)) not_head ∙ ap (with_body_rule false) (found_as asks answers.0 is answers.1) ∙ unruled asks
 
   -- a head without faults is served, and any other is answered by the page of 400
   good_answers : (method : Option Method) (target : Option Target) (response : Response) → (is_some method && is_some target) ≡ true → Answers one (faults_of method target) request response → Answers one [] request response

@@ -1,16 +1,18 @@
 -- What an exchange of the sample comes to.
-use Rattle.std.proofs.Common.{◌≡◌, ◌≤◌, ◌⊎◌, inl, inr, ℕ, List, [], ◌∷◌, Bool, true, false, Option, Some, None, Result, refl, ap, ◌∙◌, subst, arith}
+use Rattle.std.proofs.Common.{◌≡◌, ◌≤◌, ◌⊎◌, inl, inr, ℕ, List, [], ◌∷◌, Bool, true, false, Option, Some, None, Result, codes, max, refl, ap, ◌∙◌, subst, arith}
 use Rattle.std.specs.Prelude.{MatchBool, MatchOption}
-use Rattle.rkt_exchange.proofs.Making.{some_turns}
-use Rattle.rkt_exchange.specs.Beginning.{Over, RequestAt}
-use Rattle.rkt_exchange.specs.Dressed.{settled, with_body_rule}
-use Rattle.rkt_exchange.specs.Lifecycle.{Bares, Chooses, Dresses, Errors, Fails, Goes, Lives, Retries, Settles, Walks, is_head, turns_of}
-use Rattle.rkt_exchange.specs.Relations.{Relations, relations}
-use Rattle.rkt_exchange.specs.Tables.{SeenTables}
-use Rattle.rkt_exchange.specs.declared.run.Call.{Call}
+use Rattle.rkt_config.specs.Config.{IsConfig}
+use Rattle.rkt_fairing.specs.Callbacks.{RequestAt, ResponseAt, quiet}
+use Rattle.rkt_fairing.specs.InSlot.{shielded, slot_request, slot_response}
 use Rattle.rkt_http.specs.declared.method.Method.TheVariants.{Get}
 use Rattle.rkt_http.specs.declared.outcome.Outcome.TheVariants.{Success, Forward}
 use Rattle.rkt_http.specs.declared.status.Status.{Status}
+use Rattle.rkt_life.specs.declared.no_fairing.NoFairing.{NoFairing}
+use Rattle.rkt_lifecycle.specs.Beginning.{Over}
+use Rattle.rkt_lifecycle.specs.Dressed.{dressed, with_body_rule, with_server}
+use Rattle.rkt_lifecycle.specs.Lifecycle.{Ends, Lives, Refuses}
+use Rattle.rkt_lifecycle.specs.Relations.{Relations, callbacks, relations}
+use Rattle.rkt_lifecycle.specs.Tables.{SeenTables, table_of}
 use Rattle.rkt_message.specs.Response.{ResponseOf}
 use Rattle.rkt_request.specs.Lent.{Kept}
 use Rattle.rkt_request.specs.Seen.{Seen}
@@ -23,9 +25,16 @@ use Rattle.rkt_router.specs.Page.{IsDefaultPage}
 use Rattle.rkt_router.specs.Tries.{Matches}
 use Rattle.rkt_router.specs.declared.turn.Final.{Final}
 use Rattle.rkt_router.specs.declared.turn.Final.TheVariants.{Done, FailedTurn, Starved}
+use Rattle.rkt_routing.specs.Found.{Found}
+use Rattle.rkt_routing.specs.Relations.{Relations as Callbacks}
+use Rattle.rkt_routing.specs.Routed.{Chooses, Errors, Fails, Finds, Following, Goes, Retries, Routes, Settles, Walks, is_head, settled, turns_of}
+use Rattle.rkt_routing.specs.Table.{SeenTable}
+use Rattle.rkt_routing.specs.declared.run.Call.{Call}
+use Rattle.rkt_shield.specs.Shield.{default_headers}
 use Rattle.rkt_demo.proofs.Dressing.{dressed_alone}
 use Rattle.rkt_demo.proofs.OneRoute.{tried_matches, untried_differs}
-use Rattle.rkt_demo.specs.Sample.{hello, page_calling, page_route}
+use Rattle.rkt_demo.proofs.Shielding.{answered_shielded, asked_nothing}
+use Rattle.rkt_demo.specs.Sample.{hello, page_calling, page_route, shield_alone}
 use Rattle.rkt_demo.specs.declared.sample.Page.{Page}
 
 -- the same request as a GET request, which a HEAD request becomes
@@ -39,13 +48,17 @@ again_at at = record at { request = as_get at.request }
 abbrev pub Meets : {V : Type 0} → Page → Seen V → Type 0
 Meets page request = Matches (page_route page) request ⊎ ((is_head request.method ≡ true) × Matches (page_route page) (as_get request))
 
--- a request without faults finds the text of the page, or the default page of 404
-abbrev pub Finds : {S V : Type 0} → Page → Seen V → ResponseOf S → Type 0
-Finds page request found = (Meets page request × (found ≡ hello)) ⊎ ((¬ Meets page request) × IsDefaultPage 404 request found)
+-- a request without faults is routed to the text of the page, or to the default page of 404
+abbrev pub FindsPage : {S V : Type 0} → Page → Seen V → ResponseOf S → Type 0
+FindsPage page request found = (Meets page request × (found ≡ hello)) ⊎ ((¬ Meets page request) × IsDefaultPage 404 request found)
+
+-- a response with the server's name and the headers of the shield
+abbrev pub with_shield : {S : Type 0} → ResponseOf S → ResponseOf S
+with_shield response = shielded default_headers (with_server (codes "Rocket") response)
 
 -- what a request is answered with, by its faults
 abbrev pub Answers : {S V : Type 0} → Page → List Bad → Seen V → ResponseOf S → Type 0
-Answers {S} page [] request response = (found : ResponseOf S) × Finds page request found × (response ≡ with_body_rule (is_head request.method) found)
+Answers {S} page [] request response = (found : ResponseOf S) × FindsPage page request found × (response ≡ with_body_rule (is_head request.method) (with_shield found))
 Answers page (fault ∷ faults) request response = IsDefaultPage 400 request response
 
 -- what follows a choice between two
@@ -58,35 +71,27 @@ by_bool true P Q X is at_true at_false = at_true refl is
 by_bool false P Q X is at_true at_false = at_false refl is
 
 -- no catcher is chosen where there is none
-none_chosen : {H K N V : Type 0} (tables : SeenTables H K N V) (status : ℕ) (request : Seen V) (chosen : Option ℕ) → tables.router.catchers ≡ [] → IsChosen tables.router.catchers status request chosen → chosen ≡ None
-none_chosen tables status request None none is = refl
-none_chosen tables status request (Some position) none is = absurd (rw none at is.catches)
+none_chosen : {H K N V : Type 0} (table : SeenTable H K N) (status : ℕ) (request : Seen V) (chosen : Option ℕ) → table.router.catchers ≡ [] → IsChosen table.router.catchers status request chosen → chosen ≡ None
+none_chosen table status request None none is = refl
+none_chosen table status request (Some position) none is = absurd (rw none at is.catches)
 
--- a response is dressed by the body rule alone
-dressed_page : {C S : Type 0} (head : Bool) (over : Over C S) (response : ResponseOf S) (kept : Kept C) (calls : List Call) → kept.jar.log ≡ [] → Dresses head over response kept calls
-    → over.response ≡ with_body_rule head response
-dressed_page head over response kept calls none dresses = dresses.2 ∙ dressed_alone head kept over.moment response none
-
--- what may follow a walk, and an answer
+-- what may follow a walk
 abbrev Next : Type 0 → Type 0 → Type 0 → Type 0 → Type 1
 Next V B C S = Reply S B → Seen V → Kept C → List Call → Type 0
 
-abbrev Then : Type 0 → Type 0 → Type 1
-Then C S = ResponseOf S → Kept C → List Call → Type 0
-
-module _ {V B C S K KTask : Type 0} (catchers : Calling K (Refused V) (Kept C) (Result (ResponseOf S) Status) KTask) (rule : GateRule) (tables : SeenTables Page K ℕ V) where
-  abbrev Rel : Relations V B C S Page (Unit {0}) K KTask
-  Rel = relations page_calling catchers rule
+module _ {V B C S K KTask : Type 0} (catchers : Calling K (Refused V) (Kept C) (Result (ResponseOf S) Status) KTask) (rule : GateRule) (table : SeenTable Page K ℕ) where
+  abbrev Rel : Callbacks V B C S Page (Unit {0}) K KTask
+  Rel = record { handlers = page_calling; catchers = catchers; gates = rule }
 
   -- a whole call of a page
-  called : (page : Page) (handed : Handed V B) (before after : Kept C) (reply : Final (Reply S B)) → Made page_calling rule (turns_of tables) page handed before reply after
+  called : (page : Page) (handed : Handed V B) (before after : Kept C) (reply : Final (Reply S B)) → Made page_calling rule (turns_of table) page handed before reply after
       → (reply ≡ Done (Success hello)) × (after ≡ before)
   called page handed before after (Done reply) made = (ap Done made.gives.0, made.gives.1)
   called page handed before after FailedTurn made = absurd (never made.gives.cause)
     where
-      never : ⊥ ⊎ (turns_of tables ≤ 0) → ⊥
+      never : ⊥ ⊎ (turns_of table ≤ 0) → ⊥
       never (inl fault) = fault
-      never (inr last) = omega (arith, last, some_turns tables.config.turns)
+      never (inr last) = omega (arith, last)
   called page handed before after Starved made = absurd (made.ended refl)
 
   goes_on : (reply : Final (Reply S B)) (on : B → Status → Type 0) (stop : Reply S B → Type 0) → reply ≡ Done (Success hello) → Goes reply on stop → stop (Success hello)
@@ -98,7 +103,7 @@ module _ {V B C S K KTask : Type 0} (catchers : Calling K (Refused V) (Kept C) (
       (Matches (page_route page) at.request × ((request : Seen V) × (rest : List Call) × then_ (Success hello) request at.kept rest))
       ⊎ ((¬ Matches (page_route page) at.request) × then_ (Forward (at.body, status)) at.request at.kept calls)
 
-  walked : (page : Page) (at : RequestAt V B C) (status : Status) (calls : List Call) (then_ : Next V B C S) → tables.router.routes ≡ page_route page ∷ [] → Walks Rel tables None at status calls then_
+  walked : (page : Page) (at : RequestAt V B C) (status : Status) (calls : List Call) (then_ : Next V B C S) → table.router.routes ≡ page_route page ∷ [] → Walks Rel table None at status calls then_
       → Comes page at status calls then_
   walked page at status [] then_ routes walks =
       inr (untried_differs (page_route page) at.request (rw routes at walks.0), walks.1)
@@ -111,53 +116,78 @@ module _ {V B C S K KTask : Type 0} (catchers : Calling K (Refused V) (Kept C) (
       inl (matching, (_, calls, rw made.1 at (goes_on tried.0 _ _ made.0 tried.3))))
 
   -- so a status is answered by its default page
-  paged : (status : Status) (request : Seen V) (kept : Kept C) (calls : List Call) (answered : Then C S) → tables.router.catchers ≡ [] → Errors Rel tables status request kept calls answered
-      → (page : ResponseOf S) × IsDefaultPage status.code request page × answered page (settled kept) calls
+  paged : (status : Status) (request : Seen V) (kept : Kept C) (calls : List Call) (answered : Following V C S) → table.router.catchers ≡ [] → Errors Rel table status request kept calls answered
+      → (page : ResponseOf S) × IsDefaultPage status.code request page × answered page request (settled kept) calls
   paged status request kept calls answered none errors =
-      subst (λ (chosen : Option ℕ). Chooses Rel tables chosen status request (settled kept) calls answered (Fails Rel tables status request answered))
-      (none_chosen tables status.code request errors.0 none errors.1) errors.2
+      subst (λ (chosen : Option ℕ). Chooses Rel table chosen status request (settled kept) calls answered (Fails Rel table status request answered))
+      (none_chosen table status.code request errors.0 none errors.1) errors.2
 
-  module _ (page : Page) (routes : tables.router.routes ≡ page_route page ∷ []) (none : tables.router.catchers ≡ []) where
-    abbrev Found : RequestAt V B C → Over C S → Type 0
-    Found at over = Answers page [] at.request over.response
+  module _ (page : Page) (routes : table.router.routes ≡ page_route page ∷ []) (none : table.router.catchers ≡ []) where
+    -- a request is routed so, and no cookie is pending
+    abbrev Comes_to : Seen V → Found V C S → Type 0
+    Comes_to request found = FindsPage page request found.response × (found.kept.jar.log ≡ [])
 
     -- a HEAD request that was forwarded
-    again : (at : RequestAt V B C) (calls : List Call) (over : Over C S) → at.kept.jar.log ≡ [] → (¬ Matches (page_route page) at.request) → is_head at.request.method ≡ true
-        → Walks Rel tables None (again_at at) (record { code = 404 }) calls (Settles Rel tables (Dresses (is_head at.request.method) over)) → Found at over
-    again at calls over empty first head walks =
-        by_end (walked page (again_at at) (record { code = 404 }) calls (Settles Rel tables (Dresses (is_head at.request.method) over)) routes walks)
+    again : (at : RequestAt V B C) (calls : List Call) (found : Found V C S) → at.kept.jar.log ≡ [] → (¬ Matches (page_route page) at.request) → is_head at.request.method ≡ true
+        → Walks Rel table None (again_at at) (record { code = 404 }) calls (Settles Rel table (Finds found)) → Comes_to at.request found
+    again at calls found empty first head walks = by_end (walked page (again_at at) (record { code = 404 }) calls (Settles Rel table (Finds found)) routes walks)
       where
-        by_end : Comes page (again_at at) (record { code = 404 }) calls (Settles Rel tables (Dresses (is_head at.request.method) over)) → Found at over
-        by_end (inl found) = (hello, inl (inr (head, found.0), refl), dressed_page (is_head at.request.method) over hello at.kept found.1.1 empty found.1.2)
+        by_end : Comes page (again_at at) (record { code = 404 }) calls (Settles Rel table (Finds found)) → Comes_to at.request found
+        by_end (inl met) = rw met.1.2.1 (inl (inr (head, met.0), refl), empty)
         by_end (inr forwarded) =
-            let answer = paged (record { code = 404 }) (as_get at.request) at.kept calls (Dresses (is_head at.request.method) over) none forwarded.1 in
-            (answer.0, inr (neither, answer.1), dressed_page (is_head at.request.method) over answer.0 (settled at.kept) calls empty answer.2)
+            let answer = paged (record { code = 404 }) (as_get at.request) at.kept calls (Finds found) none forwarded.1 in
+            rw answer.2.1 (inr (neither, answer.1), empty)
           where
             neither : Meets page at.request → ⊥
             neither (inl matching) = first matching
             neither (inr matching) = forwarded.0 matching.1
 
-    served : (at : RequestAt V B C) (calls : List Call) (over : Over C S) → at.kept.jar.log ≡ [] → Walks Rel tables None at (record { code = 404 }) calls (Retries Rel tables (Dresses (is_head at.request.method) over))
-        → Found at over
-    served at calls over empty walks = by_end (walked page at (record { code = 404 }) calls (Retries Rel tables (Dresses (is_head at.request.method) over)) routes walks)
+    routed : (at : RequestAt V B C) (calls : List Call) (found : Found V C S) → at.kept.jar.log ≡ [] → Walks Rel table None at (record { code = 404 }) calls (Retries Rel table (Finds found))
+        → Comes_to at.request found
+    routed at calls found empty walks = by_end (walked page at (record { code = 404 }) calls (Retries Rel table (Finds found)) routes walks)
       where
-        by_end : Comes page at (record { code = 404 }) calls (Retries Rel tables (Dresses (is_head at.request.method) over)) → Found at over
-        by_end (inl found) = (hello, inl (inl found.0, refl), dressed_page (is_head at.request.method) over hello at.kept found.1.1 empty found.1.2)
+        by_end : Comes page at (record { code = 404 }) calls (Retries Rel table (Finds found)) → Comes_to at.request found
+        by_end (inl met) = rw met.1.2.1 (inl (inl met.0, refl), empty)
         by_end (inr forwarded) =
             by_bool (is_head at.request.method) _ _ _ forwarded.1
-            (λ head walks. again at calls over empty forwarded.0 head walks)
+            (λ head walks. again at calls found empty forwarded.0 head walks)
             (λ other errors.
-            let answer = paged (record { code = 404 }) at.request at.kept calls (Dresses (is_head at.request.method) over) none errors in
-            (answer.0, inr (neither other, answer.1), dressed_page (is_head at.request.method) over answer.0 (settled at.kept) calls empty answer.2))
+            let answer = paged (record { code = 404 }) at.request at.kept calls (Finds found) none errors in
+            rw answer.2.1 (inr (neither other, answer.1), empty))
           where
             neither : is_head at.request.method ≡ false → Meets page at.request → ⊥
             neither other (inl matching) = forwarded.0 matching
             neither other (inr matching) = cc (other, matching.0)
 
+    refused : (fault : Bad) (faults : List Bad) (at : RequestAt V B C) (calls : List Call) (found : Found V C S) → Routes Rel table (fault ∷ faults) at calls (Finds found) → IsDefaultPage 400 at.request found.response
+    refused fault faults at calls found routes' =
+        let answer = paged (record { code = 400 }) at.request at.kept calls (Finds found) none routes' in
+        rw answer.2.1 answer.1
+
+module _ {V B C S K KTask : Type 0} (catchers : Calling K (Refused V) (Kept C) (Result (ResponseOf S) Status) KTask) (rule : GateRule) (tables : SeenTables NoFairing Page K ℕ V) where
+  abbrev Whole : Relations V B C S NoFairing (Unit {0}) (Unit {0}) Page (Unit {0}) K KTask
+  Whole = relations (slot_request quiet) (slot_response quiet) page_calling catchers rule
+
+  module _ (page : Page) (routes : tables.router.routes ≡ page_route page ∷ []) (none : tables.router.catchers ≡ []) (fairings : tables.fairings ≡ shield_alone) (config : IsConfig [] tables.config) where
+    served : (at : RequestAt V B C) (calls : List Call) (over : Over C S) → at.kept.jar.log ≡ [] → Lives Whole tables at calls over → Answers page [] at.request over.response
+    served at calls over empty lives =
+        let asked : lives.asked ≡ at = asked_nothing rule tables.config.turns tables.fairings at lives.asked lives.before fairings lives.asks in
+        let finds : Routes (callbacks Whole) (table_of tables) [] at lives.between (Finds lives.found) =
+        subst (λ (a : RequestAt V B C). Routes (callbacks Whole) (table_of tables) [] a lives.between (Finds lives.found)) asked lives.finds in
+        let found = routed catchers rule (table_of tables) page routes none at lives.between lives.found empty finds in
+        let left = answered_shielded rule tables.config.turns tables.fairings (dressed tables.config.ident over.moment lives.found) lives.left lives.behind fairings lives.answers in
+        let named : (dressed tables.config.ident over.moment lives.found).at.response ≡ with_server (codes "Rocket") lives.found.response =
+        dressed_alone tables.config.ident over.moment lives.found found.1 ∙ ap (λ (ident : List ℕ). with_server ident lives.found.response) config.ident in
+        let dressed_so : lives.left.response ≡ with_shield lives.found.response = left ∙ ap (λ (response : ResponseOf S). shielded default_headers response) named in
+        let head : is_head lives.asked.request.method ≡ is_head at.request.method = ap (λ (a : RequestAt V B C). is_head a.request.method) asked in (
+          lives.found.response,
+          found.0,
+          lives.response ∙ ap (λ (b : Bool). with_body_rule b lives.left.response) head ∙ ap (with_body_rule (is_head at.request.method)) dressed_so,
+        )
+
     -- whatever came in, an exchange with an empty log is answered so
-    pub lived : (faults : List Bad) (at : RequestAt V B C) (calls : List Call) (over : Over C S) → at.kept.jar.log ≡ [] → Lives Rel tables faults at calls over
+    pub lived : (faults : List Bad) (at : RequestAt V B C) (calls : List Call) (over : Over C S) → at.kept.jar.log ≡ [] → Ends Whole tables faults at calls over
         → Answers page faults at.request over.response
     lived [] at calls over empty lives = served at calls over empty lives
-    lived (fault ∷ faults) at calls over empty lives =
-        let answer = paged (record { code = 400 }) at.request at.kept calls (Bares over) none lives in
-        rw answer.2.2 answer.1
+    lived (fault ∷ faults) at calls over empty refuses =
+        rw refuses.response (refused catchers rule (table_of tables) page routes none fault faults at calls refuses.found refuses.finds)

@@ -14,4 +14,5 @@ pub mod Requests
 pub mod Runs
 pub mod Sendable
 pub mod Serving
+pub mod Shielding
 pub mod StreamLemmas

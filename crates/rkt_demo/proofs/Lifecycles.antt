@@ -2,8 +2,8 @@
 use Rattle.std.proofs.Common.{◌≡◌, ℕ, List, [], Option, ◌∙◌, sym, ap}
 use Rattle.std.proofs.lemmas.Bool.{false≢true}
 use Rattle.rkt_cookie.specs.Jar.{JarParts}
-use Rattle.rkt_exchange.specs.Beginning.{beginning}
-use Rattle.rkt_exchange.specs.declared.run.RunOf.{RunOf}
+use Rattle.rkt_lifecycle.specs.Beginning.{beginning}
+use Rattle.rkt_lifecycle.specs.declared.ended.RunOf.{RunOf}
 use Rattle.rkt_message.specs.Response.{ResponseOf}
 use Rattle.rkt_message.specs.declared.piece.Piece.{Piece}
 use Rattle.rkt_serve.specs.Asked.{Asked}
@@ -24,7 +24,7 @@ module _ (window : Option (ℕ × ℕ)) (tables : SampleTables) (sample : IsSamp
   pub answered : (response : ResponseOf SourceInMemory) → (life : LeadsTo window tables asked run response) → Answers sample.page life.faults life.request response
   answered response life =
       let empty : life.jar.log ≡ [] = ap (λ (jar : JarParts). jar.log) life.incoming.cookies.added_are in
-      lived default_calling (gates_of window tables) tables sample.page sample.routes sample.catchers life.faults
+      lived default_calling (gates_of window tables) tables sample.page sample.routes sample.catchers sample.fairings sample.config life.faults
       (beginning life.request life.jar life.faults (body_from life.source) life.before).at run.calls (over_as run response life.after) empty life.leads
 
   sendable : (response : ResponseOf SourceInMemory) → LeadsTo window tables asked run response → CanBeSent response

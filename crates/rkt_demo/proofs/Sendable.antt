@@ -1,7 +1,6 @@
 -- Every response of the sample can be sent.
 use Rattle.std.proofs.Common.{◌≡◌, inl, inr, ◌⊎◌, ℕ, List, [], ◌∷◌, Bool, true, false, refl, sym, subst}
-use Rattle.rkt_exchange.specs.Dressed.{with_body_rule}
-use Rattle.rkt_exchange.specs.Lifecycle.{is_head}
+use Rattle.rkt_lifecycle.specs.Dressed.{with_body_rule}
 use Rattle.rkt_message.specs.Response.{ResponseOf}
 use Rattle.rkt_message.specs.Reading.{StreamErrs}
 use Rattle.rkt_message.specs.Sending.{MayWait}
@@ -11,9 +10,10 @@ use Rattle.rkt_message.specs.declared.content.Content.TheVariants as content
 use Rattle.rkt_request.specs.Seen.{Seen}
 use Rattle.rkt_request.specs.declared.bad.Bad.{Bad}
 use Rattle.rkt_router.specs.Page.{page_of}
+use Rattle.rkt_routing.specs.Routed.{is_head}
 use Rattle.rkt_source.specs.Memory.{SourceInMemory, source_meaning}
 use Rattle.rkt_source.specs.declared.source.SourceError.{SourceError}
-use Rattle.rkt_demo.proofs.Exchanges.{Answers, Finds}
+use Rattle.rkt_demo.proofs.Exchanges.{Answers, FindsPage, with_shield}
 use Rattle.rkt_demo.specs.Sample.{hello}
 use Rattle.rkt_demo.specs.declared.sample.Page.{Page}
 
@@ -29,11 +29,11 @@ IsAtHand _ = Unit {0}
 abbrev pub CanBeSent : Response → Type 0
 CanBeSent response = (has_head response ≡ true) × IsAtHand response.body.content
 
-hello_sent : (head : Bool) → CanBeSent (with_body_rule head hello)
+hello_sent : (head : Bool) → CanBeSent (with_body_rule head (with_shield hello))
 hello_sent true = (refl, tt)
 hello_sent false = (refl, tt)
 
-page_sent-404 : (head json : Bool) → CanBeSent (with_body_rule head (page_of json 404))
+page_sent-404 : (head json : Bool) → CanBeSent (with_body_rule head (with_shield (page_of json 404)))
 page_sent-404 true true = (refl, tt)
 page_sent-404 true false = (refl, tt)
 page_sent-404 false true = (refl, tt)
@@ -44,9 +44,9 @@ page_sent-400 true = (refl, tt)
 page_sent-400 false = (refl, tt)
 
 module _ {V : Type 0} (page : Page) (request : Seen V) where
-  found_sent : (head : Bool) (found : Response) → Finds page request found → CanBeSent (with_body_rule head found)
-  found_sent head found (inl met) = subst (λ (r : Response). CanBeSent (with_body_rule head r)) (sym met.1) (hello_sent head)
-  found_sent head found (inr other) = subst (λ (r : Response). CanBeSent (with_body_rule head r)) (sym other.1.2) (page_sent-404 head other.1.0)
+  found_sent : (head : Bool) (found : Response) → FindsPage page request found → CanBeSent (with_body_rule head (with_shield found))
+  found_sent head found (inl met) = subst (λ (r : Response). CanBeSent (with_body_rule head (with_shield r))) (sym met.1) (hello_sent head)
+  found_sent head found (inr other) = subst (λ (r : Response). CanBeSent (with_body_rule head (with_shield r))) (sym other.1.2) (page_sent-404 head other.1.0)
 
   pub answer_sent : (faults : List Bad) (response : Response) → Answers page faults request response → CanBeSent response
   answer_sent [] response answers = subst CanBeSent (sym answers.2) (found_sent (is_head request.method) answers.0 answers.1)

@@ -1,10 +1,11 @@
 -- The one text that a script is printed as.
-use Rattle.std.specs.Prelude.{ℕ, ◌+◌, ◌++◌, ◌&&◌, List, [], ◌∷◌, Bool, false, codes, flat_map, is_some, length, nat_eq, slice_index, ◌==◌, unwrap_or, if◌then◌else◌}
+use Rattle.std.specs.Prelude.{ℕ, ◌+◌, ◌++◌, ◌&&◌, List, [], ◌∷◌, Bool, false, codes, flat_map, is_some, length, map, nat_eq, slice_index, ◌==◌, unwrap_or, if◌then◌else◌}
 use Rattle.std.specs.Cmp.Lexicographic.{pointwise}
 use Rattle.std.specs.Fmt.{decimal}
 use Rattle.std.specs.List.{list_all}
 use Rattle.rkt_http.specs.DefaultPage.{html_page}
 use Rattle.rkt_http.specs.Method.{method_of}
+use Rattle.rkt_shield.specs.Shield.{default_headers}
 use Rattle.rkt_uri.specs.Origin.{Target, is_path_byte, is_query_byte, target_of, segments_of}
 use Rattle.rkt_uri.specs.declared.origin_place.Profile.TheVariants.{Request}
 use Rattle.rkt_request.specs.declared.head.Head.{Head}
@@ -28,23 +29,27 @@ is_good head = is_some (method_of head.method) && is_origin head.target
 abbrev pub asks_page : Head → Bool
 asks_page head = pointwise (pointwise nat_eq) (segments_of page_target) (segments_of (target_of head.target))
 
--- the section of an answer with this status, type and body
-abbrev pub typed_section : ℕ → ℕ → List ℕ → List ℕ → List ℕ
-typed_section k status content_type body =
+-- the headers that each answer has behind its type: the server's name, and those of the shield
+abbrev pub shield_lines : List (List ℕ × List ℕ)
+shield_lines = (codes "Server", codes "Rocket") ∷ map (λ field. (field.name, field.value)) default_headers
+
+-- the section of an answer with this status, this type, these headers behind it, and this body
+abbrev pub typed_section : ℕ → ℕ → List ℕ → List (List ℕ × List ℕ) → List ℕ → List ℕ
+typed_section k status content_type more body =
     answered_section k
-    (decimal status ++ codes "\n" ++ flat_map header_line ((codes "Content-Type", content_type) ∷ (codes "Content-Length", decimal (length body)) ∷ []))
+    (decimal status ++ codes "\n" ++ flat_map header_line ((codes "Content-Type", content_type) ∷ more ++ (codes "Content-Length", decimal (length body)) ∷ []))
     body
 
--- the section of a default page
-abbrev pub page_section : ℕ → ℕ → List ℕ
-page_section k status = typed_section k status (codes "text/html; charset=utf-8") (html_page status)
+-- the section of a default page, with these headers behind its type
+abbrev pub page_section : ℕ → ℕ → List (List ℕ × List ℕ) → List ℕ
+page_section k status more = typed_section k status (codes "text/html; charset=utf-8") more (html_page status)
 
--- a bad head is answered by the page of 400, `/page` by its text, and everything else by the page of 404
+-- a bad head is answered by the page of 400 alone, `/page` by its text, and everything else by the page of 404
 unfoldable pub printed_section : ℕ → Head → List ℕ
 printed_section k head =
     if is_good head
-    then (if asks_page head then typed_section k 200 (codes "text/plain; charset=utf-8") (codes "hello") else page_section k 404)
-    else page_section k 400
+    then (if asks_page head then typed_section k 200 (codes "text/plain; charset=utf-8") shield_lines (codes "hello") else page_section k 404 shield_lines)
+    else page_section k 400 []
 
 -- the sections of these heads, from the number k on, and the last line; the starved numbers have their own section
 abbrev pub printed_from : (ℕ → Bool) → ℕ → List Head → List ℕ

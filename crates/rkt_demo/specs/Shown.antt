@@ -1,8 +1,9 @@
 -- What the program writes of the requests that it served.
 use Rattle.std.specs.Prelude.{◌≡◌, ◌⊎◌, ℕ, ◌+◌, ◌++◌, List, [], ◌∷◌, true, Option, Some, take}
-use Rattle.rkt_exchange.specs.Tables.{SeenTables}
-use Rattle.rkt_exchange.specs.declared.run.RunOf.{RunOf}
+use Rattle.rkt_fairing.specs.Callbacks.{quiet}
 use Rattle.rkt_http.specs.declared.status.Status.{Status}
+use Rattle.rkt_lifecycle.specs.Tables.{SeenTables}
+use Rattle.rkt_lifecycle.specs.declared.ended.RunOf.{RunOf}
 use Rattle.rkt_message.specs.Response.{ResponseOf}
 use Rattle.rkt_message.specs.Sent.{Sent}
 use Rattle.rkt_message.specs.declared.piece.Piece.{Piece}
@@ -18,14 +19,15 @@ use Rattle.rkt_demo.specs.Sample.{IsSample, page_calling}
 use Rattle.rkt_demo.specs.Script.{lines_of, heads_of}
 use Rattle.rkt_life.specs.DefaultCatcher.{default_calling}
 use Rattle.rkt_life.specs.declared.default_catcher.DefaultCatcher.{DefaultCatcher}
+use Rattle.rkt_life.specs.declared.no_fairing.NoFairing.{NoFairing}
 use Rattle.rkt_demo.specs.declared.sample.Page.{Page}
 
 abbrev pub SampleTables : Type 0
-SampleTables = SeenTables Page DefaultCatcher ℕ ℕ
+SampleTables = SeenTables NoFairing Page DefaultCatcher ℕ ℕ
 
 -- the sample, served over links in memory in this window of moments
-abbrev pub served_in : Option (ℕ × ℕ) → Serving ℕ SourceInMemory ℕ SourceInMemory Page (Unit {0}) DefaultCatcher Status LinkInMemory
-served_in window = serving page_calling default_calling source_meaning source_meaning link_meaning window
+abbrev pub served_in : Option (ℕ × ℕ) → Serving ℕ SourceInMemory ℕ SourceInMemory NoFairing (Unit {0}) (Unit {0}) Page (Unit {0}) DefaultCatcher Status LinkInMemory
+served_in window = serving quiet quiet page_calling default_calling source_meaning source_meaning link_meaning window
 
 -- a head and an empty body, of a link that never fails
 abbrev pub asked_for : Head → Asked

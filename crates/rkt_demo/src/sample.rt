@@ -1,14 +1,15 @@
 //! The sample application.
 ghost use Rattle.std.specs.Prelude.{◌≡◌, IfOk};
-ghost use Rattle.rkt_demo.specs.Sample.{IsSample, hello, page_route};
+ghost use Rattle.rkt_demo.specs.Sample.{IsSample, hello, page_route, shield_alone};
 
 use rkt_base::{NoMemory, Want};
 use rkt_data::{MemorySource, Source};
 use rkt_http::{Method, Outcome, Status};
-use rkt_life::{App, DefaultCatcher, Ignite, Rocket};
+use rkt_life::{App, DefaultCatcher, Fairings, Ignite, NoFairing, Parts, Rocket, Slot};
 use rkt_message::Response;
 use rkt_request::{Body0, Config, Ctx, Managed, Request, Types};
 use rkt_router::{Handler, Route, RouteOutcome, Router, Step};
+use rkt_shield::Shield;
 use rkt_turn::Reason;
 use std::alloc::{AllocError, Global};
 
@@ -81,12 +82,16 @@ impl<T: Types> Handler<T> for Page {
     ghost keeps = { page_keeps _ };
 }
 
-impl App for Sample {
+impl Parts for Sample {
     type Handler = Page;
 
     type Catch = DefaultCatcher;
 
     type Sentinel = u8;
+}
+
+impl App for Sample {
+    type Fairing = NoFairing;
 }
 
 // The one route.
@@ -100,17 +105,28 @@ fn page_route(alloc: Global) -> Result<Route<Page, u8>, NoMemory>
     }
 }
 
+// The shield, with its policies by default.
+fn shield_alone(alloc: Global) -> Result<Fairings<NoFairing>, NoMemory>
+    ensures { IfOk result (λ fairings. fairings ≡ shield_alone) }
+{
+    let shield = Shield::default(alloc)?;
+    let mut fairings = Fairings::new(alloc);
+    fairings.add(Slot::Shield(shield))?;
+    Ok(fairings)
+}
+
 impl Sample {
-    /// The application with the default configuration, ready to be launched.
+    /// The application with the shield and the default configuration, ready to be launched.
     pub fn rocket(alloc: Global) -> Result<Rocket<Ignite, Sample>, NoMemory>
         ensures { IfOk result (λ rocket. IsSample rocket.tables) }
     {
         let route = page_route(alloc)?;
         let mut router = Router::new(alloc);
         router.add_route(route)?;
+        let fairings = shield_alone(alloc)?;
         let config = Config::default(alloc)?;
         let managed = Managed::new(alloc);
-        let rocket = Rocket::<Ignite, Sample>::assemble(alloc, router, config, managed)?;
+        let rocket = Rocket::<Ignite, Sample>::assemble(alloc, router, fairings, config, managed)?;
         Ok(rocket)
     }
 }

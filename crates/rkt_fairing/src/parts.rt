@@ -3,18 +3,19 @@ use rkt_request::{Config, Managed, Types};
 use rkt_router::{CatchHandler, Handler, Router};
 use std::marker::Model;
 
-/// What answers an application's requests and statuses.
+/// The types of what answers an application's requests and statuses. That they answer them is asked where the application is
+/// whole: a fairing is one for every application, whatever answers there.
 pub trait Parts: Types + Sized {
-    type Handler: Handler<Self> + Drop;
+    type Handler: Drop;
 
-    type Catch: CatchHandler<Self> + Drop;
+    type Catch: Drop;
 
     /// What a sentry asks before a rocket may be launched.
     type Sentinel: Drop;
 }
 
-/// An application: its parts, and what may be attached to its rocket.
-pub trait App: Parts {
+/// An application: its parts, of which handlers answer requests and catchers statuses, and what may be attached to its rocket.
+pub trait App: Parts<Handler: Handler<Self>, Catch: CatchHandler<Self>> {
     type Fairing: Fairing<Self> + Drop;
 }
 

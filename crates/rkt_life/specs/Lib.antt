@@ -1,2 +1,3 @@
 pub mod DefaultCatcher
+pub mod NoFairing
 pub mod Rocket

@@ -3,46 +3,62 @@ ghost use Rattle.std.specs.Prelude.{◌≡◌, IfOk};
 ghost use Rattle.rkt_turn.specs.Shutdown.{fresh};
 
 use rkt_base::NoMemory;
-use rkt_exchange::{Parts, Tables, TablesOf};
-use rkt_request::{Config, Managed};
+use rkt_fairing::{App, Fairings, Parts};
+use rkt_lifecycle::{Tables, TablesOf};
+use rkt_request::{Config, Managed, Types};
 use rkt_router::Router;
-use rkt_turn::{Shutdown, TripWire};
+use rkt_turn::{Reason, Shutdown, TripWire};
 use std::alloc::Global;
 use std::marker::{Model, PhantomData};
 
 /// The phase of a rocket that may be launched.
 pub struct Ignite;
 
-/// An application in one of its phases, with a handle of its wire.
+/// An application A in a phase P, with a handle of its wire.
 #[derive(Drop)]
-pub struct Rocket<P, A: Parts> {
-    tables: Tables<A>,
-    handle: Shutdown<A::Reason>,
+pub struct RocketOf<P, A, F, H, K, N, V, W: Reason> {
+    tables: TablesOf<F, H, K, N, V>,
+    handle: Shutdown<W>,
     phase: PhantomData<P>,
+    app: PhantomData<A>,
 }
 
-impl<P, A: Parts> Model for Rocket<P, A> {
+/// The rocket of an application.
+pub type Rocket<P, A> = RocketOf<
+    P,
+    A,
+    <A as App>::Fairing,
+    <A as Parts>::Handler,
+    <A as Parts>::Catch,
+    <A as Parts>::Sentinel,
+    <A as Types>::Value,
+    <A as Types>::Reason,
+>;
+
+impl<P, A, F, H, K, N, V, W: Reason> Model for RocketOf<P, A, F, H, K, N, V, W> {
     ghost use Rattle.rkt_life.specs.Rocket.{SeenRocket};
 
-    ghost Value = { SeenRocket A.Handler A.Catch A.Sentinel A.Value };
+    ghost Value = { SeenRocket F H K N V };
 
     ghost view = { λ r. record { tables = r.tables; handle = r.handle } };
 }
 
-impl<A: Parts> Rocket<Ignite, A> {
+impl<A: App> Rocket<Ignite, A> {
     /// A rocket with these tables, and a wire of its own.
     pub fn assemble(
         alloc: Global,
         router: Router<A::Handler, A::Catch, A::Sentinel>,
+        fairings: Fairings<A::Fairing>,
         config: Config,
         managed: Managed<A::Value>,
     ) -> Result<Rocket<Ignite, A>, NoMemory>
-        ensures tables { IfOk result (λ rocket. rocket.tables ≡ record { router = router; config = config; managed = managed }) }
+        ensures tables { IfOk result (λ rocket. rocket.tables ≡ record { router = router; fairings = fairings; config = config; managed = managed }) }
         ensures fresh { IfOk result (λ rocket. rocket.handle ≡ fresh rocket.handle.wire) }
     {
         let (_wire, handle) = TripWire::new(alloc)?;
         let tables = TablesOf {
             router,
+            fairings,
             config,
             managed,
         };
@@ -53,10 +69,11 @@ impl<A: Parts> Rocket<Ignite, A> {
     pub fn from_parts(tables: Tables<A>, handle: Shutdown<A::Reason>) -> Rocket<Ignite, A>
         ensures { result ≡ record { tables = tables; handle = handle } }
     {
-        Rocket {
+        RocketOf {
             tables,
             handle,
             phase: PhantomData,
+            app: PhantomData,
         }
     }
 

@@ -4,7 +4,7 @@ use Rattle.std.proofs.lemmas.Grind.{common_steps}
 use Rattle.std.proofs.lemmas.Bool.Decides.{nat_tests}
 use Rattle.std.specs.List.{list_any, count_by}
 use Rattle.std.specs.Option.{ForSome}
-use Rattle.rkt_exchange.specs.Tables.{SeenTables}
+use Rattle.rkt_lifecycle.specs.Tables.{SeenTables}
 use Rattle.rkt_serve.proofs.Pushes.{any_push, count_push, any_none, all_push, after_push, nat_cases, get_last, get_within, latest_push, end_of_front, end_of_past, end_of_this}
 use Rattle.rkt_serve.specs.Asked.{Asked}
 use Rattle.rkt_serve.specs.Causes.{Caused, CauseAt}
@@ -43,7 +43,7 @@ pub counted_more : {C R L : Type 0} (events : List (EventOf C R L)) (entry : Ent
 counted_more events entry number count m1 m2 counted =
     (count_push is_admit (events ++ Admit number m1 0 ∷ []) (End number entry m2 0)).1 refl ∙ (count_push is_admit events (Admit number m1 0)).0 refl ∙ ap (λ n. n + 1) (sym counted)
 
-module _ {V S C R H HTask K KTask L N : Type 0} (served : Serving V S C R H HTask K KTask L) (tables : SeenTables H K N V) where
+module _ {V S C R F FTask GTask H HTask K KTask L N : Type 0} (served : Serving V S C R F FTask GTask H HTask K KTask L) (tables : SeenTables F H K N V) where
   abbrev lift : EventOf C R L
   lift = Lift []
 

@@ -1,57 +1,85 @@
 -- What is known of an exchange with a link that has ended.
-use Rattle.std.proofs.Common.{◌≡◌, ℕ, None, Some, Option, Result, refl, sym, subst}
+use Rattle.std.proofs.Common.{◌≡◌, ◌≤◌, ℕ, None, Some, Option, Result, arith, refl, sym, subst}
+use Rattle.rkt_base.specs.declared.poll.Poll.TheVariants.{Pending}
 use Rattle.rkt_cancel.specs.Cancel.{Cancellable}
 use Rattle.rkt_data.specs.Body.{Body}
-use Rattle.rkt_exchange.specs.Beginning.{Beginning, beginning}
-use Rattle.rkt_exchange.specs.Ended.{IfFinished, handle_of}
-use Rattle.rkt_exchange.specs.Relations.{Relations, relations}
-use Rattle.rkt_exchange.specs.Stands.{EndsAt, Holding}
-use Rattle.rkt_exchange.specs.Tables.{SeenTables}
-use Rattle.rkt_exchange.specs.declared.run.EndedOf.{EndedOf}
-use Rattle.rkt_exchange.specs.declared.run.EndedOf.TheVariants.{Finished, Starved}
+use Rattle.rkt_fairing.specs.Callbacks.{RequestAt, ResponseAt}
 use Rattle.rkt_http.specs.declared.status.Status.{Status}
+use Rattle.rkt_lifecycle.specs.Beginning.{beginning}
+use Rattle.rkt_lifecycle.specs.Ended.{IfFinished, handle_of}
+use Rattle.rkt_lifecycle.specs.Relations.{Relations}
+use Rattle.rkt_lifecycle.specs.Stands.{EndsSo, ExchangeGives, SeenExchange, SeenPhase, StandsFor}
+use Rattle.rkt_lifecycle.specs.Tables.{SeenTables}
+use Rattle.rkt_lifecycle.specs.declared.ended.EndedOf.{EndedOf}
+use Rattle.rkt_lifecycle.specs.declared.ended.EndedOf.TheVariants.{Finished, Starved}
 use Rattle.rkt_message.specs.Response.{ResponseOf}
 use Rattle.rkt_request.specs.Incoming.{IsIncoming}
 use Rattle.rkt_request.specs.Lent.{Kept}
+use Rattle.rkt_request.specs.Seen.{Seen}
 use Rattle.rkt_request.specs.declared.head.Head.{Head}
 use Rattle.rkt_router.specs.Callbacks.{Handed, Refused, Reply}
 use Rattle.rkt_router.specs.Calling.{Calling}
-use Rattle.rkt_router.specs.Calls.{GateRule, GateFits, InWindow}
+use Rattle.rkt_router.specs.Calls.{GateRule, InWindow}
+use Rattle.rkt_routing.specs.Beginning.{Beginning}
 use Rattle.rkt_source.specs.Source.{Meaning}
+use Rattle.rkt_source.specs.declared.source.Gate.{Gate}
 use Rattle.rkt_turn.specs.HandsBack.{HandsBack}
 use Rattle.rkt_turn.specs.Shutdown.{Handle}
 use Rattle.rkt_serve.specs.Asked.{Asked, GivesBody, IsUntouched}
-use Rattle.rkt_serve.specs.Begun.{IsBegun}
-use Rattle.rkt_serve.specs.Clock.{IsWithin}
+use Rattle.rkt_serve.specs.Begun.{AllFit, IsBegun}
+use Rattle.rkt_serve.specs.Clock.{ClockMeaning, IsAmid, IsWithin}
 use Rattle.rkt_serve.specs.Lifecycle.{Lifecycle, body_from}
-use Rattle.rkt_serve.specs.Serving.{gates_with}
+use Rattle.rkt_serve.specs.Serving.{callbacks_with, gates_with}
 
 in_window : (window : Option (ℕ × ℕ)) (moment : ℕ) → IsWithin window moment → InWindow window moment
 in_window None moment within = tt
 in_window (Some w) moment within = within w refl
 
--- the Gate of a moment that the clock tells
-pub fits : (window : Option (ℕ × ℕ)) (grace mercy moment : ℕ) → IsWithin window moment → GateFits (gates_with window grace mercy) (record { moment = moment; tripped = None; grace = grace; mercy = mercy })
-fits window grace mercy moment within = record { moment = in_window window moment within; delays = (refl, refl); trip = λ no_trip. refl }
+within_window : (window : Option (ℕ × ℕ)) (moment : ℕ) → InWindow window moment → IsWithin window moment
+within_window None moment within v is = absurd (cc is)
+within_window (Some w) moment within v is = let same : w ≡ v = cc is in subst (λ (u : ℕ × ℕ). (u.0 ≤ moment) × (moment ≤ u.1)) same within
 
-module _ {V B C R H HTask K KTask N : Type 0} (rel : Relations V B C R H HTask K KTask) (first : Beginning V B C) (tables : SeenTables H K N V) (moment : ℕ) where
-  pub ended_back : (ended : EndedOf C R Handle) → EndsAt rel first tables moment ended → HandsBack first.at.kept.shutdown (handle_of ended)
-  ended_back (Finished run response handle) ends = ends.2.hands_back
+-- every Gate of a moment of the clock's window
+pub fit_window : (grace mercy : ℕ) (old new : ClockMeaning) → AllFit (gates_with old.window grace mercy) grace mercy old new
+fit_window grace mercy old new moment amid = record { moment = in_window old.window moment amid.within; delays = (refl, refl); trip = λ no_trip. refl }
+
+-- and every Gate of a moment that the clock has told meanwhile
+pub fit_between : (grace mercy : ℕ) (old new : ClockMeaning) → AllFit (gates_with (Some (old.last, new.last)) grace mercy) grace mercy old new
+fit_between grace mercy old new moment amid = record { moment = (amid.from, amid.to); delays = (refl, refl); trip = λ no_trip. refl }
+
+-- what all Gates fit that may be told up to a moment, those fit that were told before
+pub fit_before : (rule : GateRule) (grace mercy : ℕ) (old now new : ClockMeaning) → now.last ≤ new.last → AllFit rule grace mercy old new → AllFit rule grace mercy old now
+fit_before rule grace mercy old now new rises fit moment amid = fit moment (record { from = amid.from; to = omega (arith, amid.to, rises); within = amid.within })
+
+module _ {V B C R F FTask GTask H HTask K KTask N : Type 0} (rel : Relations V B C R F FTask GTask H HTask K KTask) (first : Beginning V B C) (tables : SeenTables F H K N V) where
+  -- one that was Pending goes on
+  pub goes_on : (gate : Gate) (phase : Option (SeenPhase V B C R F FTask GTask H HTask K KTask N)) → ExchangeGives rel first tables gate phase Pending → StandsFor rel first tables phase
+  goes_on gate None gives = absurd gives
+  goes_on gate (Some now) gives = gives.0
+
+  pub ended_back : (ended : EndedOf C R Handle) → EndsSo rel first tables ended → HandsBack first.at.kept.shutdown (handle_of ended)
+  ended_back (Finished run response handle) ends = ends.backs.hands_back
   ended_back (Starved handle) ends = ends
 
-  pub ended_moment : (window : Option (ℕ × ℕ)) (ended : EndedOf C R Handle) → EndsAt rel first tables moment ended → IsWithin window moment
-      → IfFinished ended (λ run response. (run.moment ≡ moment) × IsWithin window run.moment)
-  ended_moment window (Finished run response handle) ends within = (ends.0, subst (λ m. IsWithin window m) (sym ends.0) within)
-  ended_moment window (Starved handle) ends within = tt
+  pub ended_moment : (ended : EndedOf C R Handle) → EndsSo rel first tables ended → IfFinished ended (λ run response. InWindow rel.gates.window run.moment)
+  ended_moment (Finished run response handle) ends = subst (λ m. InWindow rel.gates.window m) ends.moment.2 ends.moment.1.moment
+  ended_moment (Starved handle) ends = tt
 
-module _ {V S C R H HTask K KTask N : Type 0} (handlers : Calling H (Handed V (Body (Cancellable S))) (Kept C) (Reply R (Body (Cancellable S))) HTask) (catchers : Calling K (Refused V) (Kept C) (Result (ResponseOf R) Status) KTask)
-    (rule : GateRule) (tables : SeenTables H K N V) (sources : S → Meaning) where
-  pub ended_lifecycle : (asked : Asked) (head : Head) (source : S) (handle : Handle) (exchange : Holding V (Body (Cancellable S)) C H HTask K KTask N) (moment : ℕ) (ended : EndedOf C R Handle)
-      → asked.head ≡ head → IsUntouched (sources source) → GivesBody asked (sources source) → (begun : IsBegun handlers catchers tables head source handle exchange)
-      → EndsAt (relations handlers catchers rule) (beginning begun.request begun.jar begun.faults (body_from source) handle) tables moment ended
-      → IfFinished ended (Lifecycle (relations handlers catchers rule) tables sources asked)
-  ended_lifecycle asked head source handle exchange moment (Starved back) same untouched gives begun ends = tt
-  ended_lifecycle asked head source handle exchange moment (Finished run response back) same untouched gives begun ends = record {
+-- the moment of a run, which both windows hold
+pub run_amid : {C R : Type 0} (old new : ClockMeaning) (ended : EndedOf C R Handle) → IfFinished ended (λ run response. InWindow old.window run.moment)
+    → IfFinished ended (λ run response. InWindow (Some (old.last, new.last)) run.moment) → IfFinished ended (λ run response. IsAmid old new run.moment)
+run_amid old new (Finished run response handle) within between = record { from = between.0; to = between.1; within = within_window old.window run.moment within }
+run_amid old new (Starved handle) within between = tt
+
+module _ {V S C R F FTask GTask H HTask K KTask N : Type 0} (requests : Calling F (Unit {0}) (RequestAt V (Body (Cancellable S)) C) (Unit {0}) FTask) (responses : Calling F (Seen V) (ResponseAt R C) (Unit {0}) GTask)
+    (handlers : Calling H (Handed V (Body (Cancellable S))) (Kept C) (Reply R (Body (Cancellable S))) HTask) (catchers : Calling K (Refused V) (Kept C) (Result (ResponseOf R) Status) KTask)
+    (rule : GateRule) (tables : SeenTables F H K N V) (sources : S → Meaning) where
+  pub ended_lifecycle : (asked : Asked) (head : Head) (source : S) (handle : Handle) (exchange : SeenExchange V (Body (Cancellable S)) C R F FTask GTask H HTask K KTask N) (ended : EndedOf C R Handle)
+      → asked.head ≡ head → IsUntouched (sources source) → GivesBody asked (sources source) → (begun : IsBegun requests responses handlers catchers tables head source handle exchange)
+      → EndsSo (callbacks_with requests responses handlers catchers rule) (beginning begun.request begun.jar begun.faults (body_from source) handle) tables ended
+      → IfFinished ended (Lifecycle (callbacks_with requests responses handlers catchers rule) tables sources asked)
+  ended_lifecycle asked head source handle exchange (Starved back) same untouched gives begun ends = tt
+  ended_lifecycle asked head source handle exchange (Finished run response back) same untouched gives begun ends = record {
     request = begun.request;
     jar = begun.jar;
     faults = begun.faults;
@@ -61,6 +89,6 @@ module _ {V S C R H HTask K KTask N : Type 0} (handlers : Calling H (Handed V (B
     gives = gives;
     before = handle;
     after = back;
-    leads = ends.1;
-    backs = ends.2;
+    leads = ends.lifecycle;
+    backs = ends.backs;
   }

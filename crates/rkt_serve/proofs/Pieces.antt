@@ -3,13 +3,13 @@ use Rattle.std.proofs.Common.{◌≡◌, ◌++◌, ℕ, arith, subst, List, [], 
 use Rattle.std.proofs.lemmas.Grind.{common_steps}
 use Rattle.std.specs.Option.{ForSome}
 use Rattle.rkt_source.specs.Source.{Meaning}
-use Rattle.rkt_exchange.specs.Lifecycle.{turns_of}
-use Rattle.rkt_exchange.specs.Tables.{SeenTables}
-use Rattle.rkt_exchange.specs.declared.run.RunOf.{RunOf}
+use Rattle.rkt_lifecycle.specs.Tables.{SeenTables, table_of}
+use Rattle.rkt_lifecycle.specs.declared.ended.RunOf.{RunOf}
 use Rattle.rkt_message.specs.Reading.{ReadsOn}
 use Rattle.rkt_message.specs.Response.{ResponseOf}
 use Rattle.rkt_message.specs.Sending.{ReadOn}
 use Rattle.rkt_message.specs.declared.piece.Piece.{Piece}
+use Rattle.rkt_routing.specs.Routed.{turns_of}
 use Rattle.rkt_serve.specs.Causes.{CausedAs, Caused}
 use Rattle.rkt_serve.specs.Lifecycle.{Lifecycle}
 use Rattle.rkt_serve.specs.Link.{LinkMeaning, with_taken}
@@ -39,10 +39,10 @@ held_only None pieces held fresh is = absurd (cc is)
 held_only (Some old) pieces held fresh is = let empty : old ≡ [] = fresh old refl in grind (arith, common_steps, empty, is)
 
 -- a run whose response was sent on a fresh link
-pub caused_sent : {V S C R H HTask K KTask L N : Type 0} (served : Serving V S C R H HTask K KTask L) (tables : SeenTables H K N V) (entry : EntryOf C R L) (old : LinkMeaning) (run : RunOf C)
+pub caused_sent : {V S C R F FTask GTask H HTask K KTask L N : Type 0} (served : Serving V S C R F FTask GTask H HTask K KTask L) (tables : SeenTables F H K N V) (entry : EntryOf C R L) (old : LinkMeaning) (run : RunOf C)
     (first response : ResponseOf R) (ended : Ending) (taken : List Piece) → entry ≡ record { link = entry.link; run = Some run; response = Some response; end = ended }
     → ForSome old.asked (λ asked. Lifecycle (callbacks_of served tables) tables served.sources asked run first) → ForSome old.held (λ held. held ≡ []) → ReadOn served.streams first response
-    → ReadsOn served.streams None first.body.content response.body.content → IsSentAs served.streams (turns_of tables) first response ended taken → served.links entry.link ≡ with_taken old taken → Caused served tables entry
+    → ReadsOn served.streams None first.body.content response.body.content → IsSentAs served.streams (turns_of (table_of tables)) first response ended taken → served.links entry.link ≡ with_taken old taken → Caused served tables entry
 caused_sent served tables entry old run first response Starved taken is lifecycle fresh on untripped sent linked = absurd sent
 caused_sent served tables entry old run first response Answered taken is lifecycle fresh on untripped sent linked =
     subst (CausedAs served tables entry) (sym (ap (λ (e : EntryOf _ _ _). e.end) is)) (record {

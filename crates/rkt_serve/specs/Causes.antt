@@ -1,13 +1,13 @@
 -- What stands behind each event.
 use Rattle.std.specs.Prelude.{◌≡◌, List, [], Some, None}
 use Rattle.std.specs.Option.{ForSome}
-use Rattle.rkt_exchange.specs.Lifecycle.{turns_of}
-use Rattle.rkt_exchange.specs.Tables.{SeenTables}
-use Rattle.rkt_exchange.specs.declared.run.RunOf.{RunOf}
+use Rattle.rkt_lifecycle.specs.Tables.{SeenTables, table_of}
+use Rattle.rkt_lifecycle.specs.declared.ended.RunOf.{RunOf}
 use Rattle.rkt_message.specs.Reading.{ReadsOn}
 use Rattle.rkt_message.specs.Response.{ResponseOf}
 use Rattle.rkt_message.specs.Sending.{ReadOn}
 use Rattle.rkt_message.specs.declared.piece.Piece.{Piece}
+use Rattle.rkt_routing.specs.Routed.{turns_of}
 use Rattle.rkt_serve.specs.After.{AfterFrom}
 use Rattle.rkt_serve.specs.Lifecycle.{Lifecycle}
 use Rattle.rkt_serve.specs.Sent.{IsSentAs}
@@ -18,7 +18,7 @@ use Rattle.rkt_serve.specs.declared.history.EntryOf.{EntryOf}
 use Rattle.rkt_serve.specs.declared.history.EventOf.{EventOf}
 use Rattle.rkt_serve.specs.declared.history.EventOf.TheVariants.{Lift, Admit, End, Close}
 
-module _ {V S C R H HTask K KTask L N : Type 0} (served : Serving V S C R H HTask K KTask L) (tables : SeenTables H K N V) where
+module _ {V S C R F FTask GTask H HTask K KTask L N : Type 0} (served : Serving V S C R F FTask GTask H HTask K KTask L) (tables : SeenTables F H K N V) where
   -- a run and a response are kept, and the response was sent with this end
   pub record Ran (entry : EntryOf C R L) (ended : Ending) : Type 0 where
     pub run : RunOf C
@@ -35,7 +35,7 @@ module _ {V S C R H HTask K KTask L N : Type 0} (served : Serving V S C R H HTas
     pub untripped : ReadsOn served.streams None first.body.content response.body.content
     -- the pieces that were sent, which the link holds
     pub pieces : List Piece
-    pub sent : IsSentAs served.streams (turns_of tables) first response ended pieces
+    pub sent : IsSentAs served.streams (turns_of (table_of tables)) first response ended pieces
     pub held : ForSome (served.links entry.link).held (λ held. held ≡ pieces)
 
   -- Answered and Failed: with a run and a response. Starved: nothing is kept

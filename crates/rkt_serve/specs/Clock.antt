@@ -16,3 +16,9 @@ IsWithin window moment = ForSome window (λ w. (w.0 ≤ moment) × (moment ≤ w
 pub record TellsOn (old new : ClockMeaning) : Type 0 where
   pub rises : old.last ≤ new.last
   pub window : new.window ≡ old.window
+
+-- a moment of the window that is not before what the clock had told, and not after what it has told now
+pub record IsAmid (old new : ClockMeaning) (moment : ℕ) : Type 0 where
+  pub from : old.last ≤ moment
+  pub to : moment ≤ new.last
+  pub within : IsWithin old.window moment

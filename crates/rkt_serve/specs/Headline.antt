@@ -2,7 +2,7 @@
 use Rattle.std.specs.Prelude.{◌≡◌, ◌<◌, ◌≤◌, ℕ, false, List, Option, Some, length, slice_get}
 use Rattle.std.specs.List.{AllByRecursion, list_any}
 use Rattle.std.specs.Option.{ForSome}
-use Rattle.rkt_exchange.specs.Tables.{SeenTables}
+use Rattle.rkt_lifecycle.specs.Tables.{SeenTables}
 use Rattle.rkt_serve.specs.Asked.{Asked}
 use Rattle.rkt_serve.specs.Causes.{Caused, AllCaused}
 use Rattle.rkt_serve.specs.Clock.{IsWithin}
@@ -34,7 +34,7 @@ module _ {C R L : Type 0} where
   IsCallers (End number entry moment by) = by ≡ 0
   IsCallers (Close moment) = Unit {0}
 
-module _ {V S C R H HTask K KTask L N : Type 0} (served : Serving V S C R H HTask K KTask L) (tables : SeenTables H K N V) where
+module _ {V S C R F FTask GTask H HTask K KTask L N : Type 0} (served : Serving V S C R F FTask GTask H HTask K KTask L) (tables : SeenTables F H K N V) where
   -- the number k has an entry with its cause, and its link asks what was given as the k-th
   pub record HasEntry (given : Option (List Asked)) (events : List (EventOf C R L)) (k : ℕ) : Type 0 where
     pub entry : EntryOf C R L

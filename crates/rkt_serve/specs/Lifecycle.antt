@@ -4,16 +4,16 @@ use Rattle.rkt_cancel.specs.Cancel.{Cancellable}
 use Rattle.rkt_cancel.specs.declared.stage.Stage.TheVariants.{Active}
 use Rattle.rkt_cookie.specs.Jar.{JarParts}
 use Rattle.rkt_data.specs.Body.{Body}
-use Rattle.rkt_exchange.specs.Backs.{Backs}
-use Rattle.rkt_exchange.specs.Beginning.{Over, beginning}
-use Rattle.rkt_exchange.specs.Lifecycle.{Lifecycle as Leads}
-use Rattle.rkt_exchange.specs.Relations.{Relations}
-use Rattle.rkt_exchange.specs.Tables.{SeenTables}
-use Rattle.rkt_exchange.specs.declared.run.RunOf.{RunOf}
+use Rattle.rkt_lifecycle.specs.Beginning.{Over, beginning}
+use Rattle.rkt_lifecycle.specs.Lifecycle.{Lifecycle as Leads}
+use Rattle.rkt_lifecycle.specs.Relations.{Relations}
+use Rattle.rkt_lifecycle.specs.Tables.{SeenTables}
+use Rattle.rkt_lifecycle.specs.declared.ended.RunOf.{RunOf}
 use Rattle.rkt_message.specs.Response.{ResponseOf}
 use Rattle.rkt_request.specs.Incoming.{IsIncoming}
 use Rattle.rkt_request.specs.Seen.{Seen}
 use Rattle.rkt_request.specs.declared.bad.Bad.{Bad}
+use Rattle.rkt_routing.specs.Backs.{Backs}
 use Rattle.rkt_source.specs.Source.{Meaning}
 use Rattle.rkt_turn.specs.Shutdown.{Handle}
 use Rattle.rkt_serve.specs.Asked.{Asked, IsUntouched, GivesBody}
@@ -32,8 +32,8 @@ over_as run response handle = record { kept = record { jar = run.jar; cache = ru
 
 -- what is asked leads by this run to this response: the request of the head, where the tables lend what they have, with the
 -- body that an untouched source gives
-pub record Lifecycle {V S C R H HTask K KTask N : Type 0} (rel : Relations V (Body (Cancellable S)) C R H HTask K KTask) (tables : SeenTables H K N V) (sources : S → Meaning)
-    (asked : Asked) (run : RunOf C) (response : ResponseOf R) : Type 0 where
+pub record Lifecycle {V S C R F FTask GTask H HTask K KTask N : Type 0} (rel : Relations V (Body (Cancellable S)) C R F FTask GTask H HTask K KTask) (tables : SeenTables F H K N V)
+    (sources : S → Meaning) (asked : Asked) (run : RunOf C) (response : ResponseOf R) : Type 0 where
   pub request : Seen V
   pub jar : JarParts
   pub faults : List Bad

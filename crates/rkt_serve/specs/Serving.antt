@@ -2,20 +2,27 @@
 use Rattle.std.specs.Prelude.{ℕ, false, Option, Some, Result}
 use Rattle.rkt_cancel.specs.Cancel.{Cancellable}
 use Rattle.rkt_data.specs.Body.{Body}
-use Rattle.rkt_exchange.specs.Relations.{Relations, relations}
-use Rattle.rkt_exchange.specs.Tables.{SeenTables}
+use Rattle.rkt_fairing.specs.Callbacks.{RequestAt, ResponseAt}
+use Rattle.rkt_fairing.specs.InSlot.{slot_request, slot_response}
+use Rattle.rkt_fairing.specs.declared.slot.Slot.{Slot}
 use Rattle.rkt_http.specs.declared.status.Status.{Status}
+use Rattle.rkt_lifecycle.specs.Relations.{Relations, relations}
+use Rattle.rkt_lifecycle.specs.Tables.{SeenTables}
 use Rattle.rkt_message.specs.Response.{ResponseOf}
 use Rattle.rkt_request.specs.Lent.{Kept}
+use Rattle.rkt_request.specs.Seen.{Seen}
 use Rattle.rkt_router.specs.Callbacks.{Handed, Refused, Reply}
 use Rattle.rkt_router.specs.Calling.{Calling}
 use Rattle.rkt_router.specs.Calls.{GateRule}
 use Rattle.rkt_source.specs.Source.{Meaning}
 use Rattle.rkt_serve.specs.Link.{LinkMeaning}
 
--- V is the type of managed values, S that of the sources of bodies, C that of cached values, R that of streams; H and K are
--- those of handlers and of catchers' handlers, with the types of their tasks, and L is that of links
-pub record Serving (V S C R H HTask K KTask L : Type 0) : Type 1 where
+-- V is the type of managed values, S that of the sources of bodies, C that of cached values, R that of streams; F is that of
+-- fairings, with the types of their tasks for requests and for responses; H and K are those of handlers and of catchers'
+-- handlers, with the types of their tasks, and L is that of links
+pub record Serving (V S C R F FTask GTask H HTask K KTask L : Type 0) : Type 1 where
+  pub requests : Calling (Slot F) (Unit {0}) (RequestAt V (Body (Cancellable S)) C) (Unit {0}) (Option FTask)
+  pub responses : Calling (Slot F) (Seen V) (ResponseAt R C) (Unit {0}) (Option GTask)
   pub handlers : Calling H (Handed V (Body (Cancellable S))) (Kept C) (Reply R (Body (Cancellable S))) HTask
   pub catchers : Calling K (Refused V) (Kept C) (Result (ResponseOf R) Status) KTask
   pub sources : S → Meaning
@@ -24,18 +31,29 @@ pub record Serving (V S C R H HTask K KTask L : Type 0) : Type 1 where
   -- the first and the last moment that the clock may tell, where it tells them
   pub window : Option (ℕ × ℕ)
 
-abbrev pub serving : {V S C R H HTask K KTask L : Type 0} → Calling H (Handed V (Body (Cancellable S))) (Kept C) (Reply R (Body (Cancellable S))) HTask
-    → Calling K (Refused V) (Kept C) (Result (ResponseOf R) Status) KTask → (S → Meaning) → (R → Meaning) → (L → LinkMeaning) → Option (ℕ × ℕ) → Serving V S C R H HTask K KTask L
-serving handlers catchers sources streams links window = record { handlers = handlers; catchers = catchers; sources = sources; streams = streams; links = links; window = window }
+-- what is attached is called as its slot says: the shield, or a fairing that means this
+abbrev pub serving : {V S C R F FTask GTask H HTask K KTask L : Type 0} → Calling F (Unit {0}) (RequestAt V (Body (Cancellable S)) C) (Unit {0}) FTask
+    → Calling F (Seen V) (ResponseAt R C) (Unit {0}) GTask → Calling H (Handed V (Body (Cancellable S))) (Kept C) (Reply R (Body (Cancellable S))) HTask
+    → Calling K (Refused V) (Kept C) (Result (ResponseOf R) Status) KTask → (S → Meaning) → (R → Meaning) → (L → LinkMeaning) → Option (ℕ × ℕ)
+    → Serving V S C R F FTask GTask H HTask K KTask L
+serving requests responses handlers catchers sources streams links window =
+    record { requests = slot_request requests; responses = slot_response responses; handlers = handlers; catchers = catchers; sources = sources; streams = streams; links = links; window = window }
+
+-- what the callbacks mean, in their slots, under the Gates of a rule
+abbrev pub callbacks_with : {V B C R F FTask GTask H HTask K KTask : Type 0} → Calling F (Unit {0}) (RequestAt V B C) (Unit {0}) FTask → Calling F (Seen V) (ResponseAt R C) (Unit {0}) GTask
+    → Calling H (Handed V B) (Kept C) (Reply R B) HTask → Calling K (Refused V) (Kept C) (Result (ResponseOf R) Status) KTask → GateRule
+    → Relations V B C R F FTask GTask H HTask K KTask
+callbacks_with requests responses handlers catchers rule = relations (slot_request requests) (slot_response responses) handlers catchers rule
 
 -- Gates of a clock's moments, with these delays and no trip
 abbrev pub gates_with : Option (ℕ × ℕ) → ℕ → ℕ → GateRule
 gates_with window grace mercy = record { window = window; delays = Some (grace, mercy); may_trip = false }
 
 -- the Gates that callbacks are polled under: the delays are the configuration's
-abbrev pub gates_of : {H K N V : Type 0} → Option (ℕ × ℕ) → SeenTables H K N V → GateRule
+abbrev pub gates_of : {F H K N V : Type 0} → Option (ℕ × ℕ) → SeenTables F H K N V → GateRule
 gates_of window tables = gates_with window tables.config.grace tables.config.mercy
 
 -- what the callbacks mean under those
-abbrev pub callbacks_of : {V S C R H HTask K KTask L N : Type 0} → Serving V S C R H HTask K KTask L → SeenTables H K N V → Relations V (Body (Cancellable S)) C R H HTask K KTask
-callbacks_of of_ tables = relations of_.handlers of_.catchers (gates_of of_.window tables)
+abbrev pub callbacks_of : {V S C R F FTask GTask H HTask K KTask L N : Type 0} → Serving V S C R F FTask GTask H HTask K KTask L → SeenTables F H K N V
+    → Relations V (Body (Cancellable S)) C R F FTask GTask H HTask K KTask
+callbacks_of of_ tables = relations of_.requests of_.responses of_.handlers of_.catchers (gates_of of_.window tables)

@@ -39,7 +39,7 @@ impl<A: App, L: Listener, C: Clock> Model for Error<A, L, C> {
     ghost use Rattle.rkt_serve.specs.declared.error.LaunchedOf.{LaunchedOf};
     ghost use Rattle.rkt_serve.specs.declared.history.HistoryOf.{HistoryOf};
 
-    ghost Value = { ErrorKindOf (LaunchedOf (SeenRocket A.Handler A.Catch A.Sentinel A.Value) L C (HistoryOf A.Cached A.Stream L.Link)) };
+    ghost Value = { ErrorKindOf (LaunchedOf (SeenRocket A.Fairing A.Handler A.Catch A.Sentinel A.Value) L C (HistoryOf A.Cached A.Stream L.Link)) };
 
     ghost view = { λ e. e.kind };
 }

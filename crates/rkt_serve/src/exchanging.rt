@@ -1,17 +1,17 @@
 //! One exchange, from what a link asks to its end.
-ghost use Rattle.std.specs.Prelude.{◌≡◌, None, IfErr, IfOk, IsSome};
+ghost use Rattle.std.specs.Prelude.{◌≡◌, IfErr, IfOk, IsSome};
 ghost use Rattle.rkt_cancel.specs.Cancel.{Cancellable};
 ghost use Rattle.rkt_data.specs.Body.{Body};
-ghost use Rattle.rkt_exchange.specs.Beginning.{Beginning};
-ghost use Rattle.rkt_exchange.specs.Ended.{IfFinished, handle_of};
-ghost use Rattle.rkt_exchange.specs.Relations.{relations};
-ghost use Rattle.rkt_exchange.specs.Stands.{EndsAt, StandsFor};
+ghost use Rattle.rkt_lifecycle.specs.Ended.{IfFinished, handle_of};
+ghost use Rattle.rkt_lifecycle.specs.Stands.{EndsSo, StandsFor};
+ghost use Rattle.rkt_router.specs.Calls.{GateRule};
+ghost use Rattle.rkt_routing.specs.Beginning.{Beginning};
 ghost use Rattle.rkt_turn.specs.HandsBack.{HandsBack};
 ghost use Rattle.rkt_serve.specs.Asked.{Asked, GivesBody, IsUntouched};
-ghost use Rattle.rkt_serve.specs.Begun.{IsBegun, gate_at};
-ghost use Rattle.rkt_serve.specs.Clock.{IsWithin, TellsOn};
+ghost use Rattle.rkt_serve.specs.Begun.{AllFit, IsBegun, gate_at, gate_with};
+ghost use Rattle.rkt_serve.specs.Clock.{IsAmid, TellsOn};
 ghost use Rattle.rkt_serve.specs.Lifecycle.{Lifecycle};
-ghost use Rattle.rkt_serve.specs.Serving.{gates_of, gates_with};
+ghost use Rattle.rkt_serve.specs.Serving.{callbacks_with, gates_of};
 
 use crate::Clock;
 use rkt_base::Poll;
@@ -24,7 +24,7 @@ use std::sync::Wait;
 
 // The Gate of a moment, with these delays. There is no trip yet.
 fn gate_with(moment: u64, grace: u32, mercy: u32) -> Gate
-    ensures { result ≡ record { moment = moment; tripped = None; grace = grace; mercy = mercy } }
+    ensures { result ≡ gate_with moment grace mercy }
 {
     Gate {
         moment,
@@ -50,7 +50,7 @@ fn begin<'a, A: App>(
     shutdown: Shutdown<A::Reason>,
     gate: Gate,
 ) -> Result<Exchange<'a, A>, Shutdown<A::Reason>>
-    ensures begun { IfOk result (IsBegun A.Handler.calling A.Catch.calling tables.entry.now head.now source shutdown) }
+    ensures begun { IfOk result (IsBegun A.Fairing.Requests.calling A.Fairing.Responses.calling A.Handler.calling A.Catch.calling tables.entry.now head.now source shutdown) }
     ensures handle { IfErr result (λ back. back ≡ shutdown) }
 {
     let Ok(incoming) = Request::from_incoming(alloc, head, &tables.config, &tables.managed) else {
@@ -62,33 +62,38 @@ fn begin<'a, A: App>(
     Ok(Exchange::new(alloc, tables, incoming, body, shutdown, gate))
 }
 
-// Polls an exchange to its end, each time under the Gate of the next moment.
+// Lets a value go. How that is done is proved once for its type, and not at each way out of a function that has it.
+fn let_go<T: Drop>(_value: T) {}
+
+// Polls an exchange to its end, each time under the Gate of the next moment, and gives the last one beside it.
 fn to_end<A: App, R: Wait, C: Clock>(
     rt: &R,
-    mut exchange: Exchange<'_, A>,
+    exchange: &mut Exchange<'_, A>,
     grace: u32,
     mercy: u32,
     clock: &mut C,
-) -> Ended<A>
-    requires going { IsSome exchange.live }
-    ensures ends { (first : Beginning A.Value (Body (Cancellable A.Source)) A.Cached)
-        → StandsFor (relations A.Handler.calling A.Catch.calling (gates_with (C.meaning clock.old).window grace mercy)) first exchange.entry.tables exchange.entry.live
-        → EndsAt (relations A.Handler.calling A.Catch.calling (gates_with (C.meaning clock.old).window grace mercy)) first exchange.entry.tables (C.meaning clock.new).last result }
-    ensures within { IsWithin (C.meaning clock.old).window (C.meaning clock.new).last }
+) -> (Ended<A>, u64)
+    requires going { IsSome exchange.old.phase }
+    // Whatever rule all Gates fit that it may be polled under.
+    ensures ends { (rule : GateRule) (first : Beginning A.Value (Body (Cancellable A.Source)) A.Cached) → AllFit rule grace mercy (C.meaning clock.old) (C.meaning clock.new)
+        → StandsFor (callbacks_with A.Fairing.Requests.calling A.Fairing.Responses.calling A.Handler.calling A.Catch.calling rule) first exchange.old.tables exchange.old.phase
+        → EndsSo (callbacks_with A.Fairing.Requests.calling A.Fairing.Responses.calling A.Handler.calling A.Catch.calling rule) first exchange.old.tables result.0 }
+    ensures last { result.1 ≡ (C.meaning clock.new).last }
     ensures clock { TellsOn (C.meaning clock.old) (C.meaning clock.new) }
 {
     for _ in rt.forever() {
-        let gate = gate_with(clock.now(), grace, mercy);
+        let moment = clock.now();
+        let gate = gate_with(moment, grace, mercy);
         match exchange.poll(gate) {
-            Poll::Ready(ended) => return ended,
+            Poll::Ready(ended) => return (ended, moment),
             Poll::Pending => {}
         }
     }
     unreachable!()
 }
 
-/// The exchange of what a head asks, with the body that a source gives. It begins at this moment, and ends at the last one
-/// that the clock tells.
+/// The exchange of what a head asks, with the body that a source gives. It begins at this moment, and ends at the one that
+/// stands beside it.
 pub(crate) fn run_exchange<A: App, R: Wait, C: Clock>(
     rt: &R,
     alloc: Global,
@@ -98,16 +103,21 @@ pub(crate) fn run_exchange<A: App, R: Wait, C: Clock>(
     shutdown: Shutdown<A::Reason>,
     moment: u64,
     clock: &mut C,
-) -> Ended<A>
+) -> (Ended<A>, u64)
     ensures lifecycle { (asked : Asked) → asked.head ≡ head.now → IsUntouched (A.Source.meaning source) → GivesBody asked (A.Source.meaning source)
-        → IfFinished result (Lifecycle (relations A.Handler.calling A.Catch.calling (gates_of (C.meaning clock.old).window tables.now)) tables.now A.Source.meaning asked) }
-    ensures moment { IfFinished result (λ run response. (run.moment ≡ (C.meaning clock.new).last) × IsWithin (C.meaning clock.old).window run.moment) }
-    ensures handle { HandsBack shutdown (handle_of result) }
+        → IfFinished result.0 (Lifecycle (callbacks_with A.Fairing.Requests.calling A.Fairing.Responses.calling A.Handler.calling A.Catch.calling (gates_of (C.meaning clock.old).window tables.now)) tables.now A.Source.meaning asked) }
+    ensures moment { IfFinished result.0 (λ run response. IsAmid (C.meaning clock.old) (C.meaning clock.new) run.moment) }
+    ensures last { IfFinished result.0 (λ run response. result.1 ≡ (C.meaning clock.new).last) }
+    ensures handle { HandsBack shutdown (handle_of result.0) }
     ensures clock { TellsOn (C.meaning clock.old) (C.meaning clock.new) }
 {
     let gate = gate_of::<A>(tables, moment);
     match begin(alloc, tables, head, source, shutdown, gate) {
-        Ok(exchange) => to_end::<A, R, C>(rt, exchange, gate.grace, gate.mercy, clock),
-        Err(shutdown) => EndedOf::Starved { shutdown },
+        Ok(mut exchange) => {
+            let ended = to_end::<A, R, C>(rt, &mut exchange, gate.grace, gate.mercy, clock);
+            let_go(exchange);
+            ended
+        }
+        Err(shutdown) => (EndedOf::Starved { shutdown }, moment),
     }
 }

@@ -3,7 +3,7 @@ ghost use Rattle.std.specs.Prelude.{◌≡◌, ◌<◌, ℕ, Some, true, IfOk, I
 ghost use Rattle.std.specs.List.{AllByRecursion};
 ghost use Rattle.std.specs.Option.{ForSome};
 ghost use Rattle.rkt_turn.specs.HandsBack.{HandsBack};
-ghost use Rattle.rkt_exchange.specs.Tables.{SeenTables};
+ghost use Rattle.rkt_lifecycle.specs.Tables.{SeenTables};
 ghost use Rattle.rkt_turn.specs.Shutdown.{Handle};
 ghost use Rattle.rkt_serve.specs.Causes.{AllCaused};
 ghost use Rattle.rkt_serve.specs.Events.{admitted, Ordered, IsClosed, EachEndsOnce};
@@ -23,7 +23,7 @@ use std::thread::Threads;
 /// What can be launched.
 pub trait Launch<A: App>: Sized {
     /// It is launched with these tables.
-    ghost lifts: { Self → SeenTables A.Handler A.Catch A.Sentinel A.Value → Type 0 };
+    ghost lifts: { Self → SeenTables A.Fairing A.Handler A.Catch A.Sentinel A.Value → Type 0 };
 
     /// The handle of its wire may come back as this one.
     ghost hands_back: { Self → Handle → Type 0 };
@@ -44,7 +44,7 @@ pub trait Launch<A: App>: Sized {
         ensures handle { IfOk result (λ l. hands_back self l.rocket.handle) }
         // Legal: the events are in order, and each has its cause.
         ensures ordered { IfOk result (λ l. Ordered l.history.events) }
-        ensures caused { IfOk result (λ l. AllCaused (serving A.Handler.calling A.Catch.calling A.Source.meaning A.Stream.meaning L.Link.meaning (C.meaning clock).window) l.rocket.tables l.history.events) }
+        ensures caused { IfOk result (λ l. AllCaused (serving A.Fairing.Requests.calling A.Fairing.Responses.calling A.Handler.calling A.Catch.calling A.Source.meaning A.Stream.meaning L.Link.meaning (C.meaning clock).window) l.rocket.tables l.history.events) }
         ensures closed { IfOk result (λ l. IsClosed l.history.events) }
         ensures ended { IfOk result (λ l. (L.meaning l.listener).ended ≡ true) }
         ensures sound { IfOk result (λ l. (L.meaning l.listener).faults ≡ 0) }
@@ -52,7 +52,7 @@ pub trait Launch<A: App>: Sized {
         ensures offers { IfOk result (λ l. ForSome (L.meaning listener).offers (λ all. (L.meaning l.listener).given ≡ Some all)) }
         ensures ends { IfOk result (λ l. EachEndsOnce l.history.events) }
         ensures entries { IfOk result (λ l. (k : ℕ) → k < admitted l.history.events
-            → HasEntry (serving A.Handler.calling A.Catch.calling A.Source.meaning A.Stream.meaning L.Link.meaning (C.meaning clock).window) l.rocket.tables (L.meaning l.listener).given l.history.events k) }
+            → HasEntry (serving A.Fairing.Requests.calling A.Fairing.Responses.calling A.Handler.calling A.Catch.calling A.Source.meaning A.Stream.meaning L.Link.meaning (C.meaning clock).window) l.rocket.tables (L.meaning l.listener).given l.history.events k) }
         ensures moments { IfOk result (λ l. AllTimed (C.meaning clock).window l.history.events) }
         ensures callers { IfOk result (λ l. AllByRecursion IsCallers l.history.events) }
         ensures window { IfOk result (λ l. (C.meaning l.clock).window ≡ (C.meaning clock).window) }
@@ -60,7 +60,7 @@ pub trait Launch<A: App>: Sized {
         ensures kept_tables { IfErr result (λ e. IfKept e (λ l. lifts self l.rocket.tables)) }
         ensures kept_handle { IfErr result (λ e. IfKept e (λ l. hands_back self l.rocket.handle)) }
         ensures kept_legal { IfErr result (λ e. IfKept e (λ l.
-            IsLegal (serving A.Handler.calling A.Catch.calling A.Source.meaning A.Stream.meaning L.Link.meaning (C.meaning clock).window) l.rocket.tables (L.meaning l.listener).given l.history.events)) }
+            IsLegal (serving A.Fairing.Requests.calling A.Fairing.Responses.calling A.Handler.calling A.Catch.calling A.Source.meaning A.Stream.meaning L.Link.meaning (C.meaning clock).window) l.rocket.tables (L.meaning l.listener).given l.history.events)) }
         ensures kept_sound { IfErr result (λ e. IfKept e (λ l. (L.meaning l.listener).faults ≡ 0)) }
         ensures kept_window { IfErr result (λ e. IfKept e (λ l. (C.meaning l.clock).window ≡ (C.meaning clock).window)) };
 }

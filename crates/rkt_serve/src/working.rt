@@ -3,7 +3,7 @@ ghost use Rattle.std.specs.Prelude.{◌≡◌, ◌≤◌, ◌<◌, ◌+◌, ◌+
 ghost use Rattle.std.specs.Option.{ForSome};
 ghost use Rattle.rkt_turn.specs.HandsBack.{HandsBack};
 ghost use Rattle.rkt_serve.specs.Causes.{Caused};
-ghost use Rattle.rkt_serve.specs.Clock.{IsWithin, TellsOn};
+ghost use Rattle.rkt_serve.specs.Clock.{IsAmid, TellsOn};
 ghost use Rattle.rkt_serve.specs.Events.{admitted};
 ghost use Rattle.rkt_serve.specs.Headline.{Balanced};
 ghost use Rattle.rkt_serve.specs.Lifecycle.{Lifecycle};
@@ -61,20 +61,21 @@ fn turns_of<A: App>(tables: &Tables<A>) -> u32
 }
 
 impl<'a, A: App, R: Wait> Worker<'a, A, R> {
-    // Sends the response of a run, under a Gate of its moment, and keeps both with how that ended.
+    // Sends the response of a run, under a Gate of this moment, and keeps both with how that ended.
     fn answer<K: Link>(
         &self,
         mut link: K,
         run: Run<A>,
         response: Response<A::Stream>,
+        moment: u64,
     ) -> Entry<A, K>
         ensures asked { (K.meaning result.link).asked ≡ (K.meaning link).asked }
         ensures caused { (window : Option (ℕ × ℕ)) → ForSome (K.meaning link).held (λ held. held ≡ [])
-            → ForSome (K.meaning link).asked (λ asked. Lifecycle (callbacks_of (serving A.Handler.calling A.Catch.calling A.Source.meaning A.Stream.meaning K.meaning window) self.now.tables.now) self.now.tables.now A.Source.meaning asked run response)
-            → Caused (serving A.Handler.calling A.Catch.calling A.Source.meaning A.Stream.meaning K.meaning window) self.now.tables.now result }
+            → ForSome (K.meaning link).asked (λ asked. Lifecycle (callbacks_of (serving A.Fairing.Requests.calling A.Fairing.Responses.calling A.Handler.calling A.Catch.calling A.Source.meaning A.Stream.meaning K.meaning window) self.now.tables.now) self.now.tables.now A.Source.meaning asked run response)
+            → Caused (serving A.Fairing.Requests.calling A.Fairing.Responses.calling A.Handler.calling A.Catch.calling A.Source.meaning A.Stream.meaning K.meaning window) self.now.tables.now result }
         ensures moment { ForSome result.run (λ kept. kept.moment ≡ run.moment) }
     {
-        let gate = gate_of::<A>(self.tables, run.moment);
+        let gate = gate_of::<A>(self.tables, moment);
         let turns = turns_of::<A>(self.tables);
         let (response, sent) = send(self.rt, self.alloc, &mut link, response, turns, gate);
         let Ok(ended) = sent else {
@@ -105,15 +106,15 @@ impl<'a, A: App, R: Wait> Worker<'a, A, R> {
     ) -> (Entry<A, K>, Shutdown<A::Reason>)
         ensures asked { (K.meaning result.0.link).asked ≡ (K.meaning link).asked }
         ensures caused { IsFreshLink (K.meaning link)
-            → Caused (serving A.Handler.calling A.Catch.calling A.Source.meaning A.Stream.meaning K.meaning (C.meaning clock.old).window) self.now.tables.now result.0 }
-        ensures moment { ForSome result.0.run (λ run. (run.moment ≡ (C.meaning clock.new).last) × IsWithin (C.meaning clock.old).window run.moment) }
+            → Caused (serving A.Fairing.Requests.calling A.Fairing.Responses.calling A.Handler.calling A.Catch.calling A.Source.meaning A.Stream.meaning K.meaning (C.meaning clock.old).window) self.now.tables.now result.0 }
+        ensures moment { ForSome result.0.run (λ run. IsAmid (C.meaning clock.old) (C.meaning clock.new) run.moment) }
         ensures handle { HandsBack shutdown result.1 }
         ensures clock { TellsOn (C.meaning clock.old) (C.meaning clock.new) }
     {
         let Some(source) = link.take_source() else {
             return (starved(link), shutdown);
         };
-        let ended = run_exchange::<A, R, C>(
+        let (ended, last) = run_exchange::<A, R, C>(
             self.rt,
             self.alloc,
             self.tables,
@@ -128,7 +129,7 @@ impl<'a, A: App, R: Wait> Worker<'a, A, R> {
                 run,
                 response,
                 shutdown,
-            } => (self.answer(link, run, response), shutdown),
+            } => (self.answer(link, run, response, last), shutdown),
             EndedOf::Starved { shutdown } => (starved(link), shutdown),
         }
     }
@@ -145,8 +146,8 @@ impl<'a, A: App, R: Wait> Worker<'a, A, R> {
     where
         L::Link: Link<Source = A::Source>,
         ensures balanced { admitted events.old.items ≡ 0
-            → Balanced (serving A.Handler.calling A.Catch.calling A.Source.meaning A.Stream.meaning L.Link.meaning (C.meaning clock.old).window) self.now.tables.now (L.meaning listener.old).given (C.meaning clock.old).last events.old.items
-            → Balanced (serving A.Handler.calling A.Catch.calling A.Source.meaning A.Stream.meaning L.Link.meaning (C.meaning clock.old).window) self.now.tables.now (L.meaning listener.new).given (C.meaning clock.new).last events.new.items }
+            → Balanced (serving A.Fairing.Requests.calling A.Fairing.Responses.calling A.Handler.calling A.Catch.calling A.Source.meaning A.Stream.meaning L.Link.meaning (C.meaning clock.old).window) self.now.tables.now (L.meaning listener.old).given (C.meaning clock.old).last events.old.items
+            → Balanced (serving A.Fairing.Requests.calling A.Fairing.Responses.calling A.Handler.calling A.Catch.calling A.Source.meaning A.Stream.meaning L.Link.meaning (C.meaning clock.old).window) self.now.tables.now (L.meaning listener.new).given (C.meaning clock.new).last events.new.items }
         ensures handle { HandsBack shutdown result.0 }
         ensures ended { OnOk result.1 ((L.meaning listener.new).ended ≡ true) }
         ensures offers { OnOk result.1 (ForSome (L.meaning listener.old).offers (λ all. (L.meaning listener.new).given ≡ Some all)) }

@@ -1,4 +1,4 @@
-use Rattle.std.proofs.Common.{◌≡◌, ◌∙◌, refl, sym, ap, subst}
+use Rattle.std.proofs.Common.{◌≡◌, ◌∙◌, arith, refl, sym, ap, subst}
 use Rattle.rkt_turn.specs.HandsBack.{HandsBack}
 use Rattle.rkt_serve.specs.Clock.{ClockMeaning, IsWithin}
 use Rattle.rkt_serve.specs.Events.{admitted}
@@ -11,7 +11,7 @@ use Rattle.rkt_serve.proofs.launch.RocketIgniteLaunch.launch.Goals as goal
 pub returns-in-Ok-served : goal.returns-in-Ok-served
 returns-in-Ok-served g c =
     let window = (g.C.Clock.meaning c.args.clock).window in
-    let served = serving g.A-Handler-Handler.calling g.A.Catch.CatchHandler.calling g.A.Source.Source.meaning g.A.Stream.Source.meaning g.L.Link.Link.meaning window in
+    let served = serving g.A-Fairing-Requests-RequestCallback.calling g.A.Fairing.Responses.ResponseCallback.calling g.A-Handler-Handler.calling g.A.Catch.CatchHandler.calling g.A.Source.Source.meaning g.A.Stream.Source.meaning g.L.Link.Link.meaning window in
     let tables = c.into_parts-tables.result.0 in
     let given = (g.L.Listener.meaning c.serve_all-shutdown.new.listener).given in
     let lifted = rw (c.in-Ok-with_capacity.ensures.items, c.new-2.ensures) at c.enter.ensures.items in
@@ -62,7 +62,7 @@ returns-in-Err-clause-kept_window g c = rw c.new-in-Err.ensures (ap (λ (m : Clo
 pub returns-in-Err-clause-kept_legal : goal.returns-in-Err-clause-kept_legal
 returns-in-Err-clause-kept_legal g c =
     let window = (g.C.Clock.meaning c.args.clock).window in
-    let served = serving g.A-Handler-Handler.calling g.A.Catch.CatchHandler.calling g.A.Source.Source.meaning g.A.Stream.Source.meaning g.L.Link.Link.meaning window in
+    let served = serving g.A-Fairing-Requests-RequestCallback.calling g.A.Fairing.Responses.ResponseCallback.calling g.A-Handler-Handler.calling g.A.Catch.CatchHandler.calling g.A.Source.Source.meaning g.A.Stream.Source.meaning g.L.Link.Link.meaning window in
     let tables = c.into_parts-tables.result.0 in
     let given = (g.L.Listener.meaning c.serve_all-shutdown.new.listener).given in
     let lifted = rw (c.in-Ok-with_capacity.ensures.items, c.new-2.ensures) at c.enter.ensures.items in
@@ -74,3 +74,6 @@ returns-in-Err-clause-kept_legal g c =
     let legal = subst (λ ts. IsLegal served ts given c.from_vec.result) (sym (ap (λ r. r.tables) c.from_parts.ensures))
     (subst (λ es. IsLegal served tables given es) (sym (c.from_vec.ensures ∙ c.enter-2.ensures.items)) closed) in
     rw c.new-in-Err.ensures legal
+
+pub enter-requires-2 : goal.enter-requires-2
+enter-requires-2 g c = c.serve_all-shutdown.ensures.room (omega (arith, c.enter.ensures.len, c.enter.ensures.capacity, c.in-Ok-with_capacity.ensures.len, c.in-Ok-with_capacity.ensures.capacity))

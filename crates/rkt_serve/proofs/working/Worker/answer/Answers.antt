@@ -6,7 +6,7 @@ use Rattle.rkt_serve.proofs.working.Worker.answer.Goals as goal
 
 pub returns-clause-caused : goal.returns-clause-caused
 returns-clause-caused g c window fresh lifecycle =
-    let served = serving g.A-Handler-Handler.calling g.A.Catch.CatchHandler.calling g.A.Source.Source.meaning g.A.Stream.Source.meaning g.K.Link.meaning window in
+    let served = serving g.A-Fairing-Requests-RequestCallback.calling g.A.Fairing.Responses.ResponseCallback.calling g.A-Handler-Handler.calling g.A.Catch.CatchHandler.calling g.A.Source.Source.meaning g.A.Stream.Source.meaning g.K.Link.meaning window in
     let ended = rw c.in-Ok.is at c.send-response.ensures.ended in
     caused_sent served c.args.self.now.tables.now _ (g.K.Link.meaning c.args.link) c.args.run c.args.response c.send-response.result.0 c.in-Ok.ended ended.0
     (rw (c.in-Ok-new.ensures, c.in-Ok-new-2.ensures) refl) lifecycle fresh c.send-response.ensures.read_on (rw c.gate_of-gate.ensures at c.send-response.ensures.reads)

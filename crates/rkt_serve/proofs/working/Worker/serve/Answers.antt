@@ -1,5 +1,5 @@
 use Rattle.std.proofs.Common.{ap, sym, subst, ◌∙◌}
-use Rattle.rkt_serve.specs.Clock.{IsWithin}
+use Rattle.rkt_serve.specs.Clock.{IsAmid}
 use Rattle.rkt_serve.specs.Link.{LinkMeaning}
 use Rattle.rkt_serve.proofs.working.Worker.serve.Goals as goal
 
@@ -9,10 +9,8 @@ returns-in-Finished-clause-caused g c fresh =
     let asks = sym (ap (λ (m : LinkMeaning). m.asked) taken.link) in
     let holds = sym (ap (λ (m : LinkMeaning). m.held) taken.link) in
     c.answer.ensures.caused (g.C.Clock.meaning c.args.clock.now).window (λ held told. fresh.none_held held (holds ∙ told))
-    (λ asked told. c.in-Finished.ensures.lifecycle asked (c.head.ensures asked told) taken.untouched (taken.body asked (asks ∙ told)))
+    (λ asked told. rw c.in-Finished.is at (c.run_exchange-ended.ensures.lifecycle asked (c.head.ensures asked told) taken.untouched (taken.body asked (asks ∙ told))))
 
 pub returns-in-Finished-clause-moment : goal.returns-in-Finished-clause-moment
 returns-in-Finished-clause-moment g c x told =
-    let same = c.answer.ensures.moment x told in
-    let moment = c.in-Finished.ensures.moment in
-    (same ∙ moment.0, subst (λ m. IsWithin (g.C.Clock.meaning c.args.clock.now).window m) (sym same) moment.1)
+    subst (λ m. IsAmid (g.C.Clock.meaning c.args.clock.now) (g.C.Clock.meaning c.run_exchange-ended.new.clock) m) (sym (c.answer.ensures.moment x told)) (rw c.in-Finished.is at c.run_exchange-ended.ensures.moment)

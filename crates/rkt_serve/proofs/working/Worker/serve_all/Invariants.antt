@@ -10,10 +10,10 @@ abbrev pub invariant-loop : goal.invariant-loop
 invariant-loop g l =
     (goal.iterator-loop g).can_next l.iterator' × (goal.iterator-loop g).is_finite l.iterator'
     × (admitted l.initial.events.items ≡ 0
-    → Balanced (serving g.A-Handler-Handler.calling g.A.Catch.CatchHandler.calling g.A.Source.Source.meaning g.A.Stream.Source.meaning g.L.Link.Link.meaning (g.C.Clock.meaning l.initial.clock).window) l.self.tables.now
+    → Balanced (serving g.A-Fairing-Requests-RequestCallback.calling g.A.Fairing.Responses.ResponseCallback.calling g.A-Handler-Handler.calling g.A.Catch.CatchHandler.calling g.A.Source.Source.meaning g.A.Stream.Source.meaning g.L.Link.Link.meaning (g.C.Clock.meaning l.initial.clock).window) l.self.tables.now
     (g.L.Listener.meaning l.initial.listener).given (g.C.Clock.meaning l.initial.clock).last l.initial.events.items
     → (l.number ≡ admitted l.events.items)
-    × Balanced (serving g.A-Handler-Handler.calling g.A.Catch.CatchHandler.calling g.A.Source.Source.meaning g.A.Stream.Source.meaning g.L.Link.Link.meaning (g.C.Clock.meaning l.initial.clock).window) l.self.tables.now
+    × Balanced (serving g.A-Fairing-Requests-RequestCallback.calling g.A.Fairing.Responses.ResponseCallback.calling g.A-Handler-Handler.calling g.A.Catch.CatchHandler.calling g.A.Source.Source.meaning g.A.Stream.Source.meaning g.L.Link.Link.meaning (g.C.Clock.meaning l.initial.clock).window) l.self.tables.now
     (g.L.Listener.meaning l.listener).given (g.C.Clock.meaning l.clock).last l.events.items)
     × (vec_len l.initial.events < vec_capacity l.initial.events → vec_len l.events < vec_capacity l.events)
     × ((g.L.Listener.meaning l.listener).offers ≡ (g.L.Listener.meaning l.initial.listener).offers)

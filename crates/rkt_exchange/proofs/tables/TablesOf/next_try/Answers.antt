@@ -1,4 +1,0 @@
-use Rattle.rkt_exchange.proofs.tables.TablesOf.next_try.Goals as goal
-
-pub returns-clause-falls : goal.returns-clause-falls
-returns-clause-falls g c = rw (← c.self.view_is) c.next_try.ensures.falls
