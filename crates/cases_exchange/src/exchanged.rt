@@ -51,6 +51,9 @@ fn drive(
     Err(CaseError::Line)
 }
 
+// Lets a value go. How that is done is proved once for its type, and not at each way out of a function that has it.
+fn let_go<T: Drop>(_value: T) {}
+
 fn push_exchange(
     alloc: Global,
     tables: &Tables<Site>,
@@ -62,7 +65,9 @@ fn push_exchange(
 ) -> Result<(), CaseError> {
     let gate = gate_at(when.moment);
     let mut exchange = Exchange::<Site>::new(alloc, tables, incoming, body, shutdown, gate);
-    drive(alloc, &mut exchange, when, out)
+    let driven = drive(alloc, &mut exchange, when, out);
+    let_go(exchange);
+    driven
 }
 
 fn push_incoming(

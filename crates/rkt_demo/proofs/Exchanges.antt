@@ -75,6 +75,10 @@ none_chosen : {H K N V : Type 0} (table : SeenTable H K N) (status : ℕ) (reque
 none_chosen table status request None none is = refl
 none_chosen table status request (Some position) none is = absurd (rw none at is.catches)
 
+-- a request is routed so, and no cookie is pending
+abbrev Comes_to : {V C S : Type 0} → Page → Seen V → Found V C S → Type 0
+Comes_to page request found = FindsPage page request found.response × (found.kept.jar.log ≡ [])
+
 -- what may follow a walk
 abbrev Next : Type 0 → Type 0 → Type 0 → Type 0 → Type 1
 Next V B C S = Reply S B → Seen V → Kept C → List Call → Type 0
@@ -123,16 +127,12 @@ module _ {V B C S K KTask : Type 0} (catchers : Calling K (Refused V) (Kept C) (
       (none_chosen table status.code request errors.0 none errors.1) errors.2
 
   module _ (page : Page) (routes : table.router.routes ≡ page_route page ∷ []) (none : table.router.catchers ≡ []) where
-    -- a request is routed so, and no cookie is pending
-    abbrev Comes_to : Seen V → Found V C S → Type 0
-    Comes_to request found = FindsPage page request found.response × (found.kept.jar.log ≡ [])
-
     -- a HEAD request that was forwarded
     again : (at : RequestAt V B C) (calls : List Call) (found : Found V C S) → at.kept.jar.log ≡ [] → (¬ Matches (page_route page) at.request) → is_head at.request.method ≡ true
-        → Walks Rel table None (again_at at) (record { code = 404 }) calls (Settles Rel table (Finds found)) → Comes_to at.request found
+        → Walks Rel table None (again_at at) (record { code = 404 }) calls (Settles Rel table (Finds found)) → Comes_to page at.request found
     again at calls found empty first head walks = by_end (walked page (again_at at) (record { code = 404 }) calls (Settles Rel table (Finds found)) routes walks)
       where
-        by_end : Comes page (again_at at) (record { code = 404 }) calls (Settles Rel table (Finds found)) → Comes_to at.request found
+        by_end : Comes page (again_at at) (record { code = 404 }) calls (Settles Rel table (Finds found)) → Comes_to page at.request found
         by_end (inl met) = rw met.1.2.1 (inl (inr (head, met.0), refl), empty)
         by_end (inr forwarded) =
             let answer = paged (record { code = 404 }) (as_get at.request) at.kept calls (Finds found) none forwarded.1 in
@@ -143,10 +143,10 @@ module _ {V B C S K KTask : Type 0} (catchers : Calling K (Refused V) (Kept C) (
             neither (inr matching) = forwarded.0 matching.1
 
     routed : (at : RequestAt V B C) (calls : List Call) (found : Found V C S) → at.kept.jar.log ≡ [] → Walks Rel table None at (record { code = 404 }) calls (Retries Rel table (Finds found))
-        → Comes_to at.request found
+        → Comes_to page at.request found
     routed at calls found empty walks = by_end (walked page at (record { code = 404 }) calls (Retries Rel table (Finds found)) routes walks)
       where
-        by_end : Comes page at (record { code = 404 }) calls (Retries Rel table (Finds found)) → Comes_to at.request found
+        by_end : Comes page at (record { code = 404 }) calls (Retries Rel table (Finds found)) → Comes_to page at.request found
         by_end (inl met) = rw met.1.2.1 (inl (inl met.0, refl), empty)
         by_end (inr forwarded) =
             by_bool (is_head at.request.method) _ _ _ forwarded.1
