@@ -51,9 +51,6 @@ fn drive(
     Err(CaseError::Line)
 }
 
-// Lets a value go. How that is done is proved once for its type, and not at each way out of a function that has it.
-fn let_go<T: Drop>(_value: T) {}
-
 fn push_exchange(
     alloc: Global,
     tables: &Tables<Site>,
@@ -66,7 +63,7 @@ fn push_exchange(
     let gate = gate_at(when.moment);
     let mut exchange = Exchange::<Site>::new(alloc, tables, incoming, body, shutdown, gate);
     let driven = drive(alloc, &mut exchange, when, out);
-    let_go(exchange);
+    drop(exchange);
     driven
 }
 

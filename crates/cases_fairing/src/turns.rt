@@ -124,10 +124,32 @@ fn ask(
     out: &mut String,
 ) -> Result<(), CaseError> {
     let mut request = request(alloc, orbit)?;
-    let mut ctx = context(alloc)?;
-    push_request_turn::<InSlot<AtOnce>>(alloc, out, slot, &mut request, &mut ctx)?;
+    let asked = ask_for(alloc, slot, &mut request, out);
+    drop(request);
+    asked
+}
+
+fn ask_for(
+    alloc: Global,
+    slot: &Slot<Named>,
+    request: &mut Request<'_, Site>,
+    out: &mut String,
+) -> Result<(), CaseError> {
+    push_asked(alloc, slot, request, out)?;
     out.push_str(" ")?;
     Ok(out.push_str(request.method().as_str())?)
+}
+
+fn push_asked(
+    alloc: Global,
+    slot: &Slot<Named>,
+    request: &mut Request<'_, Site>,
+    out: &mut String,
+) -> Result<(), CaseError> {
+    let mut ctx = context(alloc)?;
+    Ok(push_request_turn::<InSlot<AtOnce>>(
+        alloc, out, slot, request, &mut ctx,
+    )?)
 }
 
 /// The response with the header that a line says, if any.
@@ -163,7 +185,31 @@ fn respond(
     out: &mut String,
 ) -> Result<(), CaseError> {
     let orbit = Orbit::new(alloc)?;
-    let request = request(alloc, &orbit)?;
+    respond_in(alloc, slot, &orbit, response, out)
+}
+
+fn respond_in(
+    alloc: Global,
+    slot: &Slot<Named>,
+    orbit: &Orbit,
+    response: &mut Response<MemorySource>,
+    out: &mut String,
+) -> Result<(), CaseError> {
+    let request = request(alloc, orbit)?;
+    let responded = respond_to(alloc, slot, &request, response, out);
+    drop(request);
+    responded
+}
+
+fn respond_to(
+    alloc: Global,
+    slot: &Slot<Named>,
+    request: &Request<'_, Site>,
+    response: &mut Response<MemorySource>,
+    out: &mut String,
+) -> Result<(), CaseError> {
     let mut ctx = context(alloc)?;
-    Ok(push_response_turn::<InSlot<AtOnce>>(alloc, out, slot, &request, response, &mut ctx)?)
+    Ok(push_response_turn::<InSlot<AtOnce>>(
+        alloc, out, slot, request, response, &mut ctx,
+    )?)
 }

@@ -12,7 +12,7 @@ use rkt_data::{CancellableIo, Data, Gate, MemorySource};
 use rkt_http::Key;
 use rkt_life::{Ended, EndedOf, Exchange, Ignite, Rocket, Run, Tables};
 use rkt_message::Response;
-use rkt_request::{Body0, Head, Request};
+use rkt_request::{Body0, Head, Incoming, Request};
 use rkt_turn::Shutdown;
 use std::alloc::{AllocError, Global};
 
@@ -75,13 +75,27 @@ fn no_body(alloc: Global) -> Result<Body0<Site>, NoMemory> {
 }
 
 /// The end of an exchange that waits for nothing.
-fn polled(mut exchange: Exchange<'_, Site>, moment: u64) -> Option<Ended<Site>>
-    requires { IsSome exchange.phase }
+fn polled(exchange: &mut Exchange<'_, Site>, moment: u64) -> Option<Ended<Site>>
+    requires { IsSome exchange.old.phase }
 {
     match exchange.poll(gate(moment)) {
         Poll::Ready(ended) => Some(ended),
         Poll::Pending => None,
     }
+}
+
+fn run_exchange(
+    alloc: Global,
+    tables: &Tables<Site>,
+    incoming: Incoming<'_, Site>,
+    body: Body0<Site>,
+    shutdown: Shutdown<Stopped>,
+    moment: u64,
+) -> Option<Ended<Site>> {
+    let mut exchange = Exchange::new(alloc, tables, incoming, body, shutdown, gate(moment));
+    let ended = polled(&mut exchange, moment);
+    drop(exchange);
+    ended
 }
 
 fn dispatched(
@@ -90,11 +104,14 @@ fn dispatched(
     head: &Head,
     shutdown: Shutdown<Stopped>,
     moment: u64,
-) -> Result<String, CaseError> {
-    let incoming = Request::from_incoming(alloc, head, &tables.config, &tables.managed)?;
+) -> Result<Option<Ended<Site>>, NoMemory> {
     let body = no_body(alloc)?;
-    let exchange = Exchange::new(alloc, tables, incoming, body, shutdown, gate(moment));
-    match polled(exchange, moment) {
+    let incoming = Request::from_incoming(alloc, head, &tables.config, &tables.managed)?;
+    Ok(run_exchange(alloc, tables, incoming, body, shutdown, moment))
+}
+
+fn ended(alloc: Global, ended: Option<Ended<Site>>) -> Result<String, CaseError> {
+    match ended {
         Some(EndedOf::Finished { run, response, .. }) => shown(alloc, &run, response),
         Some(EndedOf::Starved { .. }) => Err(CaseError::NoMemory),
         None => Err(CaseError::Line),
@@ -112,7 +129,8 @@ fn exchanged(
     moment: u64,
 ) -> Result<String, CaseError> {
     let shutdown = handle(rocket)?;
-    dispatched(alloc, rocket.tables(), head, shutdown, moment)
+    let end = dispatched(alloc, rocket.tables(), head, shutdown, moment)?;
+    ended(alloc, end)
 }
 
 /// The exchange of `MOMENT METHOD TARGET`.
