@@ -1,13 +1,18 @@
 //! A rocket, and the phases that it goes through.
 #![tactic(auto)]
 
+mod building;
 mod default_catcher;
+mod handed;
 mod igniting;
+mod lends;
 mod no_fairing;
 mod phase;
 mod rocket;
+mod routed;
 
 pub use default_catcher::DefaultCatcher;
+pub use handed::Handed;
 pub use igniting::{Igniting, IgnitingOf};
 pub use no_fairing::NoFairing;
 pub use phase::{Build, Ignite, Phase};
