@@ -183,6 +183,6 @@ impl<A: App> RocketOf<AppBuilding<A>, A> {
             config,
             managed: parts.managed,
         };
-        Rocket::<Ignite, A>::from_tables(alloc, tables)
+        Ok(Rocket::<Ignite, A>::from_tables(alloc, tables)?)
     }
 }
