@@ -4,7 +4,7 @@ use crate::setting::Pair;
 use rkt_base::{NoMemory, Want};
 use rkt_data::{MemorySource, Source};
 use rkt_http::{InvalidUri, Method, Outcome, Status};
-use rkt_life::{App, DefaultCatcher, Fairings, Ignite, NoFairing, Parts, Rocket};
+use rkt_life::{App, DefaultCatcher, Fairings, Ignite, NoFairing, Parts, Rocket, TablesOf};
 use rkt_message::Response;
 use rkt_request::{Body0, Config, Ctx, Managed, Request, Types};
 use rkt_router::{Handler, Route, RouteOutcome, Router, Step};
@@ -117,13 +117,13 @@ fn router_of(alloc: Global, pairs: &[Pair]) -> Result<SiteRouter, CaseError> {
 
 fn assembled(alloc: Global, router: SiteRouter) -> Result<Rocket<Ignite, Site>, NoMemory> {
     let config = Config::default(alloc)?;
-    Rocket::assemble(
-        alloc,
+    let tables = TablesOf {
         router,
-        Fairings::new(alloc),
+        fairings: Fairings::new(alloc),
         config,
-        Managed::new(alloc),
-    )
+        managed: Managed::new(alloc),
+    };
+    Rocket::<Ignite, Site>::from_tables(alloc, tables)
 }
 
 /// A rocket with these routes.

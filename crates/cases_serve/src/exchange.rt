@@ -146,7 +146,7 @@ pub fn exchange(alloc: Global, setting: &Setting, text: &str) -> Result<String, 
 pub fn parted(alloc: Global, setting: &Setting) -> Result<String, CaseError> {
     let rocket = rocket(alloc, setting.routes.as_slice())?;
     let (tables, handle) = rocket.into_parts();
-    let rocket: Rocket<Ignite, Site> = Rocket::from_parts(tables, handle);
+    let rocket = Rocket::<Ignite, Site>::from_parts(tables, handle);
     let routes = rocket.tables().router.routes().len();
     let managed = rocket.tables().managed.get(Key(0)).is_some();
     Ok(format!(in alloc; "{routes} routes, managed {managed}")?)

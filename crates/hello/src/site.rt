@@ -1,7 +1,7 @@
 use rkt_base::{NoMemory, Want};
 use rkt_data::MemorySource;
 use rkt_http::{InvalidUri, Method};
-use rkt_life::{App, DefaultCatcher, Fairings, Ignite, NoFairing, Parts, Rocket};
+use rkt_life::{App, DefaultCatcher, Fairings, Ignite, NoFairing, Parts, Rocket, TablesOf};
 use rkt_request::{Config, Managed, Request, Types};
 use rkt_router::{Answering, Answers, Route, Router};
 use rkt_turn::Reason;
@@ -82,6 +82,11 @@ pub fn rocket(alloc: Global) -> Result<Rocket<Ignite, Site>, Want<InvalidUri>> {
     let router = made_router(alloc)?;
     let fairings = Fairings::new(alloc);
     let config = Config::default(alloc)?;
-    let managed = Managed::new(alloc);
-    Ok(Rocket::<Ignite, Site>::assemble(alloc, router, fairings, config, managed)?)
+    let tables = TablesOf {
+        router,
+        fairings,
+        config,
+        managed: Managed::new(alloc),
+    };
+    Ok(Rocket::<Ignite, Site>::from_tables(alloc, tables)?)
 }

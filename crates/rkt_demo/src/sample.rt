@@ -5,7 +5,7 @@ ghost use Rattle.rkt_demo.specs.Sample.{IsSample, hello, page_route, shield_alon
 use rkt_base::{NoMemory, Want};
 use rkt_data::{MemorySource, Source};
 use rkt_http::{Method, Outcome, Status};
-use rkt_life::{App, DefaultCatcher, Fairings, Ignite, NoFairing, Parts, Rocket, Slot};
+use rkt_life::{App, DefaultCatcher, Fairings, Ignite, NoFairing, Parts, Rocket, Slot, TablesOf};
 use rkt_message::Response;
 use rkt_request::{Body0, Config, Ctx, Managed, Request, Types};
 use rkt_router::{Handler, Route, RouteOutcome, Router, Step};
@@ -125,8 +125,13 @@ impl Sample {
         router.add_route(route)?;
         let fairings = shield_alone(alloc)?;
         let config = Config::default(alloc)?;
-        let managed = Managed::new(alloc);
-        let rocket = Rocket::<Ignite, Sample>::assemble(alloc, router, fairings, config, managed)?;
+        let tables = TablesOf {
+            router,
+            fairings,
+            config,
+            managed: Managed::new(alloc),
+        };
+        let rocket = Rocket::<Ignite, Sample>::from_tables(alloc, tables)?;
         Ok(rocket)
     }
 }

@@ -9,7 +9,7 @@ ghost use Rattle.rkt_fairing.specs.Building.{building_of};
 ghost use Rattle.rkt_fairing.specs.Fairings.{added};
 
 use crate::below::{catchers_at, routes_at};
-use crate::{Attach, Fairings, Slot};
+use crate::{Attach, BuildingPartsOf, Fairings, Slot};
 use rkt_base::{NoMemory, Want};
 use rkt_http::{Key, Profile};
 use rkt_request::{ConfigTable, DuplicateState, Managed};
@@ -120,6 +120,23 @@ impl<H: Drop, K: Drop, N: Drop, V: Drop, F: Drop> BuildingOf<H, K, N, V, F> {
         ensures err { OnErr result (self.new ≡ self.old) }
     {
         self.managed.set(key, value)
+    }
+
+    /// Takes the builder apart.
+    pub fn into_parts(self) -> BuildingPartsOf<H, K, N, V, F>
+        ensures routes { result.routes.items ≡ self.routes }
+        ensures catchers { result.catchers.items ≡ self.catchers }
+        ensures fairings { result.fairings ≡ self.fairings }
+        ensures managed { result.managed ≡ self.managed }
+        ensures table { result.table ≡ self.table }
+    {
+        BuildingPartsOf {
+            routes: self.routes,
+            catchers: self.catchers,
+            fairings: self.fairings,
+            managed: self.managed,
+            table: self.table,
+        }
     }
 }
 

@@ -1,3 +1,5 @@
+pub mod Built
 pub mod DefaultCatcher
+pub mod Handed
 pub mod NoFairing
 pub mod Rocket

@@ -104,7 +104,7 @@ impl<A: App> Launch<A> for Rocket<Ignite, A> {
         let moment = clock.now();
         enter(&mut events, EventOf::Close { moment });
         let launched = LaunchedOf {
-            rocket: Rocket::from_parts(tables, handle),
+            rocket: Rocket::<Ignite, A>::from_parts(tables, handle),
             listener,
             clock,
             history: HistoryOf {

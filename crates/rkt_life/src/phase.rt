@@ -1,0 +1,23 @@
+//! The phases that a rocket goes through.
+use crate::Igniting;
+use rkt_fairing::{App, AppBuilding};
+
+/// The phase of a rocket that is being built.
+pub struct Build;
+
+/// The phase of a rocket that may be launched.
+pub struct Ignite;
+
+/// A phase of an application's rocket.
+pub trait Phase<A: App> {
+    /// What a rocket of this phase is made of.
+    type State: Drop;
+}
+
+impl<A: App> Phase<A> for Build {
+    type State = AppBuilding<A>;
+}
+
+impl<A: App> Phase<A> for Ignite {
+    type State = Igniting<A>;
+}
