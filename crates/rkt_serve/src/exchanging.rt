@@ -62,9 +62,6 @@ fn begin<'a, A: App>(
     Ok(Exchange::new(alloc, tables, incoming, body, shutdown, gate))
 }
 
-// Lets a value go. How that is done is proved once for its type, and not at each way out of a function that has it.
-fn let_go<T: Drop>(_value: T) {}
-
 // Polls an exchange to its end, each time under the Gate of the next moment, and gives the last one beside it.
 fn to_end<A: App, R: Wait, C: Clock>(
     rt: &R,
@@ -115,7 +112,8 @@ pub(crate) fn run_exchange<A: App, R: Wait, C: Clock>(
     match begin(alloc, tables, head, source, shutdown, gate) {
         Ok(mut exchange) => {
             let ended = to_end::<A, R, C>(rt, &mut exchange, gate.grace, gate.mercy, clock);
-            let_go(exchange);
+            // By a call, in which that is proved once for its type.
+            drop(exchange);
             ended
         }
         Err(shutdown) => (EndedOf::Starved { shutdown }, moment),
