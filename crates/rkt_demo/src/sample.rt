@@ -1,11 +1,13 @@
 //! The sample application.
-ghost use Rattle.std.specs.Prelude.{◌≡◌, IfOk};
+ghost use Rattle.std.specs.Prelude.{◌≡◌, ◌∷◌, [], IfOk};
 ghost use Rattle.rkt_demo.specs.Sample.{IsSample, hello, page_route, shield_alone};
 
 use rkt_base::{NoMemory, Want};
 use rkt_data::{MemorySource, Source};
 use rkt_http::{Method, Outcome, Status};
-use rkt_life::{App, DefaultCatcher, Fairings, Ignite, NoFairing, Parts, Rocket, Slot, TablesOf};
+use rkt_life::{
+    App, DefaultCatcher, Fairings, Ignite, NoFairing, Parts, Rocket, Slot, Tables, TablesOf,
+};
 use rkt_message::Response;
 use rkt_request::{Body0, Config, Ctx, Managed, Request, Types};
 use rkt_router::{Handler, Route, RouteOutcome, Router, Step};
@@ -115,23 +117,36 @@ fn shield_alone(alloc: Global) -> Result<Fairings<NoFairing>, NoMemory>
     Ok(fairings)
 }
 
+// The one route, and no catcher.
+fn sample_router(alloc: Global) -> Result<Router<Page, DefaultCatcher, u8>, NoMemory>
+    ensures { IfOk result (λ router. (page : _) × (router ≡ record { routes = page_route page ∷ []; catchers = [] })) }
+{
+    let route = page_route(alloc)?;
+    let mut router = Router::new(alloc);
+    router.add_route(route)?;
+    Ok(router)
+}
+
+fn sample_tables(alloc: Global) -> Result<Tables<Sample>, NoMemory>
+    ensures { IfOk result IsSample }
+{
+    let router = sample_router(alloc)?;
+    let fairings = shield_alone(alloc)?;
+    let config = Config::default(alloc)?;
+    Ok(TablesOf {
+        router,
+        fairings,
+        config,
+        managed: Managed::new(alloc),
+    })
+}
+
 impl Sample {
     /// The application with the shield and the default configuration, ready to be launched.
     pub fn rocket(alloc: Global) -> Result<Rocket<Ignite, Sample>, NoMemory>
         ensures { IfOk result (λ rocket. IsSample rocket.tables) }
     {
-        let route = page_route(alloc)?;
-        let mut router = Router::new(alloc);
-        router.add_route(route)?;
-        let fairings = shield_alone(alloc)?;
-        let config = Config::default(alloc)?;
-        let tables = TablesOf {
-            router,
-            fairings,
-            config,
-            managed: Managed::new(alloc),
-        };
-        let rocket = Rocket::<Ignite, Sample>::from_tables(alloc, tables)?;
-        Ok(rocket)
+        let tables = sample_tables(alloc)?;
+        Rocket::<Ignite, Sample>::from_tables(alloc, tables)
     }
 }
