@@ -147,9 +147,7 @@ fn push_asked(
     out: &mut String,
 ) -> Result<(), CaseError> {
     let mut ctx = context(alloc)?;
-    Ok(push_request_turn::<InSlot<AtOnce>>(
-        alloc, out, slot, request, &mut ctx,
-    )?)
+    Ok(push_request_turn::<InSlot<AtOnce>>(alloc, out, slot, request, &mut ctx)?)
 }
 
 /// The response with the header that a line says, if any.
@@ -209,7 +207,5 @@ fn respond_to(
     out: &mut String,
 ) -> Result<(), CaseError> {
     let mut ctx = context(alloc)?;
-    Ok(push_response_turn::<InSlot<AtOnce>>(
-        alloc, out, slot, request, response, &mut ctx,
-    )?)
+    Ok(push_response_turn::<InSlot<AtOnce>>(alloc, out, slot, request, response, &mut ctx)?)
 }

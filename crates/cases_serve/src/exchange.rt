@@ -44,7 +44,10 @@ fn answered(alloc: Global, mut response: Response<MemorySource>) -> Result<Strin
     let size = response.body_mut().size().unwrap_or(0);
     let media = response.headers().get_one("Content-Type").unwrap_or("-");
     let server = response.headers().get_one("Server").unwrap_or("-");
-    format!(in alloc; "{} {media}, {size} bytes, by {server}", response.status().code)
+    format!(in alloc;
+        "{} {media}, {size} bytes, by {server}",
+        response.status().code
+    )
 }
 
 /// What a run did.
