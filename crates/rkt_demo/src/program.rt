@@ -20,7 +20,7 @@ use rkt_base::{NoMemory, Want};
 use rkt_data::{Sink, Source};
 use rkt_http::says_what_it_spells;
 use rkt_request::Head;
-use rkt_serve::{Clock, ErrorKindOf, Launch, LaunchedOf, ListListener, MemoryLink};
+use rkt_serve::{Clock, Launch, ListListener, MemoryLink};
 use std::alloc::{AllocError, Global};
 use std::sync::Wait;
 use std::thread::Threads;
@@ -46,17 +46,17 @@ fn serve_heads<R: Wait + Threads, C: Clock>(
 ) -> Result<Vec<u8>, NoMemory>
     ensures { IfOk result (λ text. ShownFrom (C.meaning clock).window 0 heads.items text.items) }
 {
-    let rocket = Sample::rocket(alloc)?;
     let links = links_for(alloc, heads)?;
     let listener = ListListener::new(alloc, links, Vec::new(alloc))?;
+    let rocket = Sample::rocket(alloc)?;
     match rocket.launch(rt, alloc, listener, clock, 0) {
         Ok(launched) => {
-            let LaunchedOf { history, .. } = launched;
-            let text = print_history(alloc, &history)?;
-            Ok(text)
+            let text = print_history(alloc, &launched.history);
+            drop(launched);
+            text
         }
         Err(error) => {
-            let ErrorKindOf::NoMemory { kept: _ } = error.kind();
+            drop(error.kind());
             Err(AllocError)
         }
     }
