@@ -17,13 +17,21 @@ struct Head {
     headers: Vec<(String, Vec<u8>)>,
 }
 
+struct ScriptRequest {
+    head: Head,
+    body: Vec<u8>,
+}
+
 type Cookies = BTreeMap<String, String>;
 
 #[allow(dead_code)]
 struct Request {
+    method: &'static str,
     origin: Origin,
     host: Option<String>,
     headers: Vec<(String, String)>,
+    // how many segments the base of the route has that is tried
+    base: usize,
 }
 
 #[allow(dead_code)]
@@ -47,16 +55,36 @@ enum Piece {
     End,
 }
 
+#[allow(dead_code)]
 struct Link {
     head: Head,
+    body: Vec<u8>,
+    source: Option<Vec<u8>>,
     held: Vec<Piece>,
+}
+
+/// A call of a route or of a catcher, what came of it, and how many changes the log had behind it.
+#[allow(dead_code)]
+struct Call {
+    catcher: bool,
+    position: usize,
+    answer: u16,
+    changes: usize,
+}
+
+/// The cookies that came, and a log of those that are added; those below the floor are not sent.
+struct Jar {
+    #[allow(dead_code)]
+    originals: Cookies,
+    log: Vec<(String, String)>,
+    floor: usize,
 }
 
 // What a history keeps besides what the text tells, as the program's does.
 #[allow(dead_code)]
 struct Run {
-    calls: Vec<usize>,
-    jar: Cookies,
+    calls: Vec<Call>,
+    jar: Jar,
     cache: Vec<(u32, u64)>,
     moment: u64,
 }
@@ -66,6 +94,7 @@ struct Entry {
     link: Link,
     run: Run,
     response: Response,
+    failed: bool,
 }
 
 #[allow(dead_code)]
@@ -76,11 +105,41 @@ enum Event {
     Close { moment: u64 },
 }
 
-type Handler = fn(&Request) -> String;
+/// What a route answers: a response, an error, or the body with a status for the next route.
+enum Outcome {
+    Success(Response),
+    Error(u16),
+    Forward(Vec<u8>, u16),
+}
+
+type Handler = fn(&Request, Vec<u8>, &mut Jar) -> Outcome;
+
+struct Segment {
+    text: String,
+    dynamic: bool,
+}
 
 struct Route {
-    origin: Origin,
+    method: &'static str,
+    base: usize,
+    segments: Vec<Segment>,
+    rank: i64,
     handler: Handler,
+}
+
+type CatchHandler = fn(u16, &mut Jar) -> Result<Response, u16>;
+
+struct Catcher {
+    code: Option<u16>,
+    base: Vec<String>,
+    handler: CatchHandler,
+}
+
+struct Tables {
+    routes: Vec<Route>,
+    // the positions of the routes by rank, and then by position
+    order: Vec<usize>,
+    catchers: Vec<Catcher>,
 }
 
 /// A clock that never goes back.
@@ -151,31 +210,55 @@ fn is_word(word: &str, test: impl Fn(u8) -> bool) -> bool {
 /// The words of a request line.
 fn read_words(content: &[u8]) -> Option<(&str, &str)> {
     let (method, target) = std::str::from_utf8(content).ok()?.split_once(' ')?;
-    let served = method == "GET" || !METHODS.contains(&method);
-    (is_word(method, |byte| byte.is_ascii_uppercase()) && is_word(target, |byte| byte.is_ascii_graphic()) && served)
-        .then_some((method, target))
+    (is_word(method, |byte| byte.is_ascii_uppercase()) && is_word(target, |byte| byte.is_ascii_graphic())).then_some((method, target))
 }
 
-/// The heads that a script asks with, or the number of its first bad line.
-fn read_script(script: &[u8]) -> Result<Vec<Head>, usize> {
-    let mut heads = Vec::new();
+fn is_token_byte(byte: u8) -> bool {
+    byte.is_ascii_alphanumeric() || b"!#$%&'*+-.^_`|~".contains(&byte)
+}
+
+/// The name and the value of a header line.
+fn read_field(content: &[u8]) -> Option<(&str, &[u8])> {
+    let text = content.strip_prefix(b": ")?;
+    let end = text.iter().position(|byte| !is_token_byte(*byte))?;
+    let value = text[end..].strip_prefix(b": ")?;
+    let name = std::str::from_utf8(&text[..end]).ok()?;
+    (!name.is_empty()).then_some((name, value))
+}
+
+/// Reads a line behind the requests so far.
+fn read_line(requests: &mut Vec<ScriptRequest>, content: &[u8]) -> Option<()> {
+    match content {
+        [] | [b'#', ..] => {}
+        [b':', ..] => {
+            let (name, value) = read_field(content)?;
+            requests.last_mut()?.head.headers.push((name.to_owned(), value.to_vec()));
+        }
+        [b'=', ..] => {
+            let bytes = content.strip_prefix(b"= ")?;
+            requests.last_mut()?.body.extend_from_slice(bytes);
+        }
+        _ => {
+            let (method, target) = read_words(content)?;
+            let head = Head { method: method.to_owned(), target: target.to_owned(), headers: Vec::new() };
+            requests.push(ScriptRequest { head, body: Vec::new() });
+        }
+    }
+    Some(())
+}
+
+/// The requests that a script asks, or the number of its first bad line.
+fn read_script(script: &[u8]) -> Result<Vec<ScriptRequest>, usize> {
+    let mut requests = Vec::new();
     let mut room = SCRIPT_LIMIT;
     for (index, line) in script.split_inclusive(|byte| *byte == b'\n').enumerate() {
         if line.len() > room {
             return Err(index + 1);
         }
-        let content = content_of(line);
-        if !matches!(content, [] | [b'#', ..]) {
-            let (method, target) = read_words(content).ok_or(index + 1)?;
-            heads.push(Head {
-                method: method.to_owned(),
-                target: target.to_owned(),
-                headers: Vec::new(),
-            });
-        }
+        read_line(&mut requests, content_of(line)).ok_or(index + 1)?;
         room -= line.len();
     }
-    Ok(heads)
+    Ok(requests)
 }
 
 /// The request of a head, and its cookies; no request where the head is bad.
@@ -196,9 +279,9 @@ fn read_head(head: &Head) -> (Option<Request>, Cookies) {
         );
     }
     let host = headers.iter().find(|(name, _)| name.eq_ignore_ascii_case("Host")).map(|(_, value)| value.clone());
-    let known = METHODS.contains(&head.method.as_str());
-    let origin = Origin::parse(&head.target).filter(|_| known);
-    (origin.map(|origin| Request { origin, host, headers }), jar)
+    let known = METHODS.iter().find(|method| **method == head.method);
+    let request = known.and_then(|method| Origin::parse(&head.target).map(|origin| (*method, origin)));
+    (request.map(|(method, origin)| Request { method, origin, host, headers, base: 0 }), jar)
 }
 
 fn typed(status: u16, content_type: &str, body: String) -> Response {
@@ -209,7 +292,42 @@ fn typed(status: u16, content_type: &str, body: String) -> Response {
     }
 }
 
-fn page(code: u16, reason: &str, description: &str) -> Response {
+/// The reason and the description of a status.
+fn told(code: u16) -> (&'static str, &'static str) {
+    match code {
+        400 => ("Bad Request", "The request could not be understood by the server due to malformed syntax."),
+        404 => ("Not Found", "The requested resource could not be found."),
+        418 => ("I'm a teapot", "I was requested to brew coffee, and I am a teapot."),
+        422 => ("Unprocessable Entity", "The request was well-formed but was unable to be followed due to semantic errors."),
+        _ => ("Internal Server Error", "The server encountered an internal error while processing this request."),
+    }
+}
+
+/// Whether the media type that a list of accepted ones prefers is JSON: the first of the greatest weight and the most names.
+fn prefers_json(accept: &str) -> bool {
+    let mut best: Option<(f32, usize, &str)> = None;
+    for entry in accept.split(',') {
+        let mut parts = entry.split(';').map(str::trim);
+        let media = parts.next().unwrap_or("");
+        let weight = parts.find_map(|part| part.strip_prefix("q=")).and_then(|text| text.parse().ok()).unwrap_or(1.0);
+        let names = media.split('/').filter(|name| *name != "*").count();
+        if best.is_none_or(|(other, more, _)| (weight, names) > (other, more)) {
+            best = Some((weight, names, media));
+        }
+    }
+    best.is_some_and(|(_, _, media)| media.eq_ignore_ascii_case("application/json"))
+}
+
+/// The page of a status where no catcher answers.
+fn page(code: u16, request: Option<&Request>) -> Response {
+    let (reason, description) = told(code);
+    let accept = request.and_then(|request| request.headers.iter().find(|(name, _)| name.eq_ignore_ascii_case("Accept")));
+    if accept.is_some_and(|(_, value)| prefers_json(value)) {
+        let text = format!(
+            "{{\n  \"error\": {{\n    \"code\": {code},\n    \"reason\": \"{reason}\",\n    \"description\": \"{description}\"\n  }}\n}}"
+        );
+        return typed(code, "application/json", text);
+    }
     let text = format!(
         "<!DOCTYPE html>
 <html lang=\"en\">
@@ -233,6 +351,101 @@ fn page(code: u16, reason: &str, description: &str) -> Response {
     typed(code, "text/html; charset=utf-8", text)
 }
 
+const TEXT: &str = "text/plain; charset=utf-8";
+
+fn says(text: impl Into<String>) -> Outcome {
+    Outcome::Success(typed(200, TEXT, text.into()))
+}
+
+fn greet(request: &Request, body: Vec<u8>, _jar: &mut Jar) -> Outcome {
+    let segments = &request.origin.segments[request.base..];
+    match (segments.first(), segments.get(1).and_then(|age| age.parse::<u8>().ok())) {
+        (Some(name), Some(age)) => says(format!("Hello, {age} year old named {name}!")),
+        _ => Outcome::Forward(body, 404),
+    }
+}
+
+fn leave(_request: &Request, body: Vec<u8>, _jar: &mut Jar) -> Outcome {
+    Outcome::Forward(body, 422)
+}
+
+fn echo(_request: &Request, body: Vec<u8>, _jar: &mut Jar) -> Outcome {
+    match String::from_utf8(body) {
+        Ok(text) if text.len() <= 8192 => says(text),
+        _ => Outcome::Error(400),
+    }
+}
+
+fn added(jar: &mut Jar, name: &str, rest: &str) {
+    jar.log.push((name.to_owned(), format!("{name}={rest}")));
+}
+
+const MARK: &str = "1; SameSite=Strict; Path=/";
+
+fn trial(_request: &Request, body: Vec<u8>, jar: &mut Jar) -> Outcome {
+    added(jar, "a", MARK);
+    Outcome::Forward(body, 404)
+}
+
+fn spoiled(_request: &Request, _body: Vec<u8>, jar: &mut Jar) -> Outcome {
+    added(jar, "a", MARK);
+    Outcome::Error(418)
+}
+
+fn flash(_request: &Request, _body: Vec<u8>, jar: &mut Jar) -> Outcome {
+    added(jar, "_flash", "7%3AsuccessIt%20worked!; SameSite=Strict; Path=/; Max-Age=300");
+    Outcome::Success(Response { status: 303, headers: vec![("Location".to_owned(), vec!["/page".to_owned()])], body: Vec::new() })
+}
+
+fn broken(_request: &Request, _body: Vec<u8>, _jar: &mut Jar) -> Outcome {
+    Outcome::Success(Response { status: 200, headers: vec![("X-Bad".to_owned(), vec!["\n".to_owned()])], body: Vec::new() })
+}
+
+fn names_of(path: &str) -> impl Iterator<Item = &str> {
+    path.split('/').filter(|piece| !piece.is_empty())
+}
+
+fn route(method: &'static str, base: &str, path: &str, rank: Option<i64>, handler: Handler) -> Route {
+    let segment = |text: &str| Segment { text: text.to_owned(), dynamic: text.starts_with('<') };
+    let segments: Vec<Segment> = names_of(base).chain(names_of(path)).map(segment).collect();
+    let dynamic = segments.iter().filter(|segment| segment.dynamic).count();
+    let kind = if dynamic == 0 { 3 } else if dynamic < segments.len() { 2 } else { 1 };
+    Route { method, base: names_of(base).count(), segments, rank: rank.unwrap_or(3 - 4 * kind), handler }
+}
+
+fn catcher(code: Option<u16>, base: &str, handler: CatchHandler) -> Catcher {
+    Catcher { code, base: names_of(base).map(str::to_owned).collect(), handler }
+}
+
+fn tables() -> Tables {
+    let routes = vec![
+        route("GET", "/hello", "/<name>/<age>", None, greet),
+        route("GET", "/", "/page", None, |_, _, _| says("hello")),
+        route("HEAD", "/", "/page", None, leave),
+        route("HEAD", "/", "/gone", None, leave),
+        route("POST", "/", "/form", None, |_, _, _| says("post")),
+        route("DELETE", "/", "/form", None, |_, _, _| says("delete")),
+        route("GET", "/", "/trial", Some(1), trial),
+        route("GET", "/", "/trial", Some(2), |_, _, _| says("tried")),
+        route("GET", "/", "/spoiled", None, spoiled),
+        route("GET", "/", "/flash", None, flash),
+        route("POST", "/", "/echo", None, echo),
+        route("GET", "/", "/broken", None, broken),
+    ];
+    let mut order: Vec<usize> = (0..routes.len()).collect();
+    order.sort_by_key(|position| routes[*position].rank);
+    let catchers = vec![
+        catcher(Some(404), "/a", |code, _| Ok(typed(code, TEXT, "404 at /a".to_owned()))),
+        catcher(None, "/a/b", |code, _| Ok(typed(code, TEXT, "default at /a/b".to_owned()))),
+        catcher(Some(404), "/bad", |_, _| Err(418)),
+        catcher(Some(500), "/bad", |_, jar| {
+            added(jar, "k", MARK);
+            Err(418)
+        }),
+    ];
+    Tables { routes, order, catchers }
+}
+
 /// What is added to each answer but that of a bad request, where it has no header of the name: the server's name, and the
 /// headers of the shield.
 const DRESS: [(&str, &str); 4] = [
@@ -251,48 +464,138 @@ fn dressed(mut response: Response) -> Response {
     response
 }
 
-/// One exchange: the request of a head, the first route that matches, and its answer or a default page, dressed.
-fn exchange(routes: &[Route], head: &Head, moment: u64) -> (Run, Response) {
-    let (request, jar) = read_head(head);
-    let mut run = Run { calls: Vec::new(), jar, cache: Vec::new(), moment };
-    let Some(request) = request else {
-        let description = "The request could not be understood by the server due to malformed syntax.";
-        return (run, page(400, "Bad Request", description));
-    };
-    for (position, route) in routes.iter().enumerate() {
-        if route.origin.segments == request.origin.segments {
-            run.calls.push(position);
-            return (run, dressed(typed(200, "text/plain; charset=utf-8", (route.handler)(&request))));
-        }
-    }
-    (run, dressed(page(404, "Not Found", "The requested resource could not be found.")))
+fn matches(route: &Route, request: &Request) -> bool {
+    let names = &request.origin.segments;
+    route.method == request.method
+        && route.segments.len() == names.len()
+        && route.segments.iter().zip(names).all(|(segment, name)| segment.dynamic || segment.text == *name)
 }
 
-fn send(response: &Response, held: &mut Vec<Piece>) {
+/// The routes that match are tried, each with the body that the one before gave back.
+fn walk(tables: &Tables, request: &mut Request, mut body: Vec<u8>, run: &mut Run) -> Outcome {
+    let mut status = 404;
+    for position in tables.order.iter().copied() {
+        let route = &tables.routes[position];
+        if !matches(route, request) {
+            continue;
+        }
+        request.base = route.base;
+        let outcome = (route.handler)(request, body, &mut run.jar);
+        let answer = match &outcome {
+            Outcome::Success(_) => 0,
+            Outcome::Error(status) | Outcome::Forward(_, status) => *status,
+        };
+        run.calls.push(Call { catcher: false, position, answer, changes: run.jar.log.len() });
+        match outcome {
+            Outcome::Forward(back, next) => (body, status) = (back, next),
+            ended => return ended,
+        }
+    }
+    Outcome::Forward(body, status)
+}
+
+/// The catcher of a status: of the longest base, and with a code before one without.
+fn chosen<'a>(tables: &'a Tables, status: u16, request: &Request) -> Option<(usize, &'a Catcher)> {
+    let fits = |catcher: &Catcher| catcher.code.is_none_or(|code| code == status) && request.origin.segments.starts_with(&catcher.base);
+    let ranked = tables.catchers.iter().enumerate().filter(|(_, catcher)| fits(catcher));
+    ranked.rev().max_by_key(|(_, catcher)| (catcher.base.len(), catcher.code.is_some()))
+}
+
+fn caught(tables: &Tables, status: u16, request: &Request, run: &mut Run) -> Option<Response> {
+    run.jar.floor = run.jar.log.len();
+    let Some((position, catcher)) = chosen(tables, status, request) else {
+        return Some(page(status, Some(request)));
+    };
+    let answer = (catcher.handler)(status, &mut run.jar);
+    run.calls.push(Call { catcher: true, position, answer: *answer.as_ref().err().unwrap_or(&0), changes: run.jar.log.len() });
+    answer.ok()
+}
+
+fn errored(tables: &Tables, status: u16, request: &Request, run: &mut Run) -> Response {
+    let first = caught(tables, status, request, run);
+    let second = first.or_else(|| if status == 500 { None } else { caught(tables, 500, request, run) });
+    second.unwrap_or_else(|| page(500, Some(request)))
+}
+
+/// The cookies that are pending, the last of each name, and what is added to each answer.
+fn finish(mut response: Response, jar: &mut Jar, head: bool) -> Response {
+    let pending = &jar.log[jar.floor..];
+    let last = |at: usize| pending[at + 1..].iter().all(|(name, _)| *name != pending[at].0);
+    let cookies: Vec<String> = (0..pending.len()).filter(|at| last(*at)).map(|at| pending[at].1.clone()).collect();
+    if !cookies.is_empty() {
+        response.headers.push(("Set-Cookie".to_owned(), cookies));
+    }
+    jar.floor = jar.log.len();
+    let mut response = dressed(response);
+    if head {
+        response.headers.push(("Content-Length".to_owned(), vec![response.body.len().to_string()]));
+        response.body.clear();
+    }
+    response
+}
+
+/// One exchange: the request of a head is routed, and its answer dressed.
+fn exchange(tables: &Tables, link: &mut Link, moment: u64) -> (Run, Response) {
+    let (request, originals) = read_head(&link.head);
+    let jar = Jar { originals, log: Vec::new(), floor: 0 };
+    let mut run = Run { calls: Vec::new(), jar, cache: Vec::new(), moment };
+    let Some(mut request) = request else {
+        return (run, page(400, None));
+    };
+    let head = request.method == "HEAD";
+    let body = link.source.take().unwrap_or_default();
+    let mut outcome = walk(tables, &mut request, body, &mut run);
+    if head && let Outcome::Forward(body, _) = outcome {
+        request.method = "GET";
+        outcome = walk(tables, &mut request, body, &mut run);
+    }
+    let response = match outcome {
+        Outcome::Success(response) => response,
+        Outcome::Error(status) | Outcome::Forward(_, status) => errored(tables, status, &request, &mut run),
+    };
+    let response = finish(response, &mut run.jar, head);
+    (run, response)
+}
+
+fn is_sendable(value: &str) -> bool {
+    value.bytes().all(|byte| byte == b'\t' || (byte >= 32 && byte != 127))
+}
+
+/// Sends a response, unless it has a header that no response may have.
+fn send(response: &Response, held: &mut Vec<Piece>) -> bool {
     let mut headers = Vec::new();
     for (name, values) in &response.headers {
         headers.extend(values.iter().map(|value| (name.clone(), value.clone())));
     }
-    headers.push(("Content-Length".to_owned(), response.body.len().to_string()));
+    if !headers.iter().all(|(name, value)| name.bytes().all(is_token_byte) && is_sendable(value)) {
+        return false;
+    }
+    if !headers.iter().any(|(name, _)| name == "Content-Length") {
+        headers.push(("Content-Length".to_owned(), response.body.len().to_string()));
+    }
     held.push(Piece::Head { status: response.status, headers });
     held.extend(response.body.chunks(4096).map(|chunk| Piece::Chunk(chunk.to_vec())));
     held.push(Piece::End);
+    true
 }
 
-fn launch(routes: &[Route], links: Vec<Link>, clock: &mut Clock) -> Vec<Event> {
+fn launch(tables: &Tables, links: Vec<Link>, clock: &mut Clock) -> Vec<Event> {
     let mut events = vec![Event::Lift];
     for (number, mut link) in links.into_iter().enumerate() {
         let number = number as u64;
         events.push(Event::Admit { number, moment: clock.now() });
-        let (run, response) = exchange(routes, &link.head, clock.now());
-        send(&response, &mut link.held);
-        events.push(Event::End { number, entry: Entry { link, run, response }, moment: clock.now() });
+        let (run, response) = exchange(tables, &mut link, clock.now());
+        let failed = !send(&response, &mut link.held);
+        events.push(Event::End { number, entry: Entry { link, run, response, failed }, moment: clock.now() });
     }
     events.push(Event::Close { moment: clock.now() });
     events
 }
 
 fn print_section(out: &mut Vec<u8>, number: usize, entry: &Entry) -> io::Result<()> {
+    if entry.failed {
+        return writeln!(out, "#{number} Failed");
+    }
     write!(out, "#{number} Answered ")?;
     let mut body = Vec::new();
     for piece in &entry.link.held {
@@ -340,18 +643,15 @@ fn run(words: &[String], source: &mut impl Read, sink: &mut impl Write) -> u8 {
     if source.take(SCRIPT_LIMIT as u64 + 1).read_to_end(&mut script).is_err() {
         return 4;
     }
-    let heads = match read_script(&script) {
-        Ok(heads) => heads,
+    let requests = match read_script(&script) {
+        Ok(requests) => requests,
         Err(number) => {
             let _ = writeln!(sink, "script line {number}");
             return 3;
         }
     };
-    let Some(origin) = Origin::parse("/page") else { return 6 };
-    let handler: Handler = |_| "hello".to_owned();
-    let routes = [Route { origin, handler }];
-    let links = heads.into_iter().map(|head| Link { head, held: Vec::new() }).collect();
-    let events = launch(&routes, links, &mut Clock(0));
+    let link = |request: ScriptRequest| Link { head: request.head, source: Some(request.body.clone()), body: request.body, held: Vec::new() };
+    let events = launch(&tables(), requests.into_iter().map(link).collect(), &mut Clock(0));
     let written = print_history(&events).and_then(|text| sink.write_all(&text)).and_then(|()| sink.flush());
     if written.is_err() { 5 } else { 0 }
 }

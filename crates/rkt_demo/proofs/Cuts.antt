@@ -3,7 +3,8 @@ use Rattle.std.proofs.Common.{zero, suc, ◌≡◌, ◌<◌, ◌≤◌, ◌+◌,
 use Rattle.std.specs.List.{onto_first}
 use Rattle.std.proofs.lemmas.Bool.{cases_lt}
 use Rattle.std.proofs.lemmas.Grind.{common_steps}
-use Rattle.rkt_demo.specs.Script.{lines_of, AreGood, IsFirstBad}
+use Rattle.rkt_demo.specs.Script.{lines_of, content_of, add_line, AreGood, IsFirstBad}
+use Rattle.rkt_demo.specs.declared.script.ScriptRequest.{ScriptRequest}
 
 -- the first line of a text, and what is left of it in each front of the text
 record FirstLine (text : List ℕ) : Type 0 where
@@ -102,59 +103,64 @@ first_line b (c ∷ bs) = by_test (b == 10) refl (first_line c bs)
     by_test true is next = ends_here b (c ∷ bs) is
     by_test false is next = goes_on b (c ∷ bs) is next
 
-bad_here : (from room number : ℕ) (line : List ℕ) (lines : List (List ℕ)) → number ≡ from → room < length line → IsFirstBad from room (line ∷ lines) number
-bad_here from room number line lines is over = inl (is, λ good. absurd (omega (arith, good.0, over)))
+bad_here : (from room number : ℕ) (requests : List ScriptRequest) (line : List ℕ) (lines : List (List ℕ)) → number ≡ from → room < length line → IsFirstBad from room requests (line ∷ lines) number
+bad_here from room number requests line lines is over = inl (is, λ good. absurd (omega (arith, good.0, over)))
 
-only_one : (from room number : ℕ) (line : List ℕ) → IsFirstBad from room (line ∷ []) number → number ≡ from
-only_one from room number line (inl here) = here.0
-only_one from room number line (inr later) = absurd later.1
+only_one : (from room number : ℕ) (requests : List ScriptRequest) (line : List ℕ) → IsFirstBad from room requests (line ∷ []) number → number ≡ from
+only_one from room number requests line (inl here) = here.0
+only_one from room number requests line (inr later) = absurd later.1
 
-behind : (from room number : ℕ) (line : List ℕ) (front lines : List (List ℕ))
-    → (IsFirstBad (from + 1) (room - length line) front number → IsFirstBad (from + 1) (room - length line) lines number)
-    → IsFirstBad from room (line ∷ front) number → IsFirstBad from room (line ∷ lines) number
-behind from room number line front lines next (inl here) = inl here
-behind from room number line front lines next (inr later) = inr (later.0, next later.1)
+-- the requests behind a line
+abbrev behind_line : List ScriptRequest → List ℕ → List ScriptRequest
+behind_line requests line = add_line requests (content_of line)
 
-bad_more : (text : List ℕ) (split : FirstLine text) (from room number : ℕ)
-    → ((next left : ℕ) → IsFirstBad next left (lines_of (take (suc left) split.rest)) number → IsFirstBad next left (lines_of split.rest) number)
-    → IsFirstBad from room (lines_of (take (suc room) text)) number → (room < length split.line) ⊎ (length split.line ≤ room) → IsFirstBad from room (lines_of text) number
-bad_more text split from room number rest bad (inl over) =
-    let front = subst (λ (ls : List (List ℕ)). IsFirstBad from room ls number) (split.part (suc room) (omega arith) (omega (arith, over))) bad in
-    subst (λ (ls : List (List ℕ)). IsFirstBad from room ls number) (sym split.first)
-    (bad_here from room number split.line (lines_of split.rest) (only_one from room number (take (suc room) text) front) over)
-bad_more text split from room number rest bad (inr within) =
+behind : (from room number : ℕ) (requests : List ScriptRequest) (line : List ℕ) (front lines : List (List ℕ))
+    → (IsFirstBad (from + 1) (room - length line) (behind_line requests line) front number → IsFirstBad (from + 1) (room - length line) (behind_line requests line) lines number)
+    → IsFirstBad from room requests (line ∷ front) number → IsFirstBad from room requests (line ∷ lines) number
+behind from room number requests line front lines next (inl here) = inl here
+behind from room number requests line front lines next (inr later) = inr (later.0, next later.1)
+
+bad_more : (text : List ℕ) (split : FirstLine text) (from room number : ℕ) (requests : List ScriptRequest)
+    → ((next left : ℕ) (more : List ScriptRequest) → IsFirstBad next left more (lines_of (take (suc left) split.rest)) number → IsFirstBad next left more (lines_of split.rest) number)
+    → IsFirstBad from room requests (lines_of (take (suc room) text)) number → (room < length split.line) ⊎ (length split.line ≤ room) → IsFirstBad from room requests (lines_of text) number
+bad_more text split from room number requests rest bad (inl over) =
+    let front = subst (λ (ls : List (List ℕ)). IsFirstBad from room requests ls number) (split.part (suc room) (omega arith) (omega (arith, over))) bad in
+    subst (λ (ls : List (List ℕ)). IsFirstBad from room requests ls number) (sym split.first)
+    (bad_here from room number requests split.line (lines_of split.rest) (only_one from room number requests (take (suc room) text) front) over)
+bad_more text split from room number requests rest bad (inr within) =
     let left : suc room - length split.line ≡ suc (room - length split.line) = omega (arith, within) in
     let cut : lines_of (take (suc room) text) ≡ split.line ∷ lines_of (take (suc (room - length split.line)) split.rest) =
     split.whole (suc room) (omega (arith, within)) ∙ ap (λ (n : ℕ). split.line ∷ lines_of (take n split.rest)) left in
-    let front = subst (λ (ls : List (List ℕ)). IsFirstBad from room ls number) cut bad in
-    subst (λ (ls : List (List ℕ)). IsFirstBad from room ls number) (sym split.first)
-    (behind from room number split.line (lines_of (take (suc (room - length split.line)) split.rest)) (lines_of split.rest) (rest (from + 1) (room - length split.line)) front)
+    let front = subst (λ (ls : List (List ℕ)). IsFirstBad from room requests ls number) cut bad in
+    subst (λ (ls : List (List ℕ)). IsFirstBad from room requests ls number) (sym split.first)
+    (behind from room number requests split.line (lines_of (take (suc (room - length split.line)) split.rest)) (lines_of split.rest)
+    (rest (from + 1) (room - length split.line) (behind_line requests split.line)) front)
 
 -- the first bad line of the front with one byte more than there is room for is that of the whole
-bad_of_front : (fuel : ℕ) (text : List ℕ) (from room number : ℕ) → length text ≤ fuel
-    → IsFirstBad from room (lines_of (take (suc room) text)) number → IsFirstBad from room (lines_of text) number
-bad_of_front fuel [] from room number within bad = subst (λ (t : List ℕ). IsFirstBad from room (lines_of t) number) (take_nothing (suc room)) bad
-bad_of_front zero (b ∷ bs) from room number within bad = absurd (omega (arith, within))
-bad_of_front (suc fuel) (b ∷ bs) from room number within bad =
+bad_of_front : (fuel : ℕ) (text : List ℕ) (from room number : ℕ) (requests : List ScriptRequest) → length text ≤ fuel
+    → IsFirstBad from room requests (lines_of (take (suc room) text)) number → IsFirstBad from room requests (lines_of text) number
+bad_of_front fuel [] from room number requests within bad = subst (λ (t : List ℕ). IsFirstBad from room requests (lines_of t) number) (take_nothing (suc room)) bad
+bad_of_front zero (b ∷ bs) from room number requests within bad = absurd (omega (arith, within))
+bad_of_front (suc fuel) (b ∷ bs) from room number requests within bad =
     let split = first_line b bs in
     let shorter : length split.rest ≤ fuel = omega (arith, within, split.size, split.some) in
-    bad_more (b ∷ bs) split from room number (λ next left. bad_of_front fuel split.rest next left number shorter) bad (cases_lt room (length split.line))
+    bad_more (b ∷ bs) split from room number requests (λ next left more. bad_of_front fuel split.rest next left number more shorter) bad (cases_lt room (length split.line))
 
-pub bad_front : (text : List ℕ) (from room number : ℕ) → IsFirstBad from room (lines_of (take (suc room) text)) number → IsFirstBad from room (lines_of text) number
-bad_front text from room number bad = bad_of_front (length text) text from room number (omega arith) bad
+pub bad_front : (text : List ℕ) (from room number : ℕ) (requests : List ScriptRequest) → IsFirstBad from room requests (lines_of (take (suc room) text)) number → IsFirstBad from room requests (lines_of text) number
+bad_front text from room number requests bad = bad_of_front (length text) text from room number requests (omega arith) bad
 
 -- good lines fit
-fits : (fuel : ℕ) (text : List ℕ) (room : ℕ) → length text ≤ fuel → AreGood room (lines_of text) → length text ≤ room
-fits fuel [] room within good = omega arith
-fits zero (b ∷ bs) room within good = absurd (omega (arith, within))
-fits (suc fuel) (b ∷ bs) room within good =
+fits : (fuel : ℕ) (text : List ℕ) (room : ℕ) (requests : List ScriptRequest) → length text ≤ fuel → AreGood room requests (lines_of text) → length text ≤ room
+fits fuel [] room requests within good = omega arith
+fits zero (b ∷ bs) room requests within good = absurd (omega (arith, within))
+fits (suc fuel) (b ∷ bs) room requests within good =
     let split = first_line b bs in
-    let lines = subst (AreGood room) split.first good in
-    let rest = fits fuel split.rest (room - length split.line) (omega (arith, within, split.size, split.some)) lines.1 in
+    let lines = subst (AreGood room requests) split.first good in
+    let rest = fits fuel split.rest (room - length split.line) (behind_line requests split.line) (omega (arith, within, split.size, split.some)) lines.1 in
     omega (arith, split.size, lines.0.0, rest)
 
 -- a front with one byte more than there is room for is the whole, if its lines are good
-pub good_front : (text : List ℕ) (room : ℕ) → AreGood room (lines_of (take (suc room) text)) → take (suc room) text ≡ text
-good_front text room good =
-    let small = fits (length (take (suc room) text)) (take (suc room) text) room (omega arith) good in
+pub good_front : (text : List ℕ) (room : ℕ) (requests : List ScriptRequest) → AreGood room requests (lines_of (take (suc room) text)) → take (suc room) text ≡ text
+good_front text room requests good =
+    let small = fits (length (take (suc room) text)) (take (suc room) text) room requests (omega arith) good in
     grind (arith, common_steps, small)

@@ -1,15 +1,27 @@
 -- A request is text, and is cut at its first space.
-use Rattle.std.proofs.Common.{zero, suc, ◌≡◌, ◌<◌, ◌+◌, ◌==◌, ℕ, List, [], ◌∷◌, ◌++◌, Bool, true, false, None, inl, inr, length, not, take, drop, add-one, refl, ap, ◌∙◌, sym, subst, arith}
+use Rattle.std.proofs.Common.{zero, suc, ◌≡◌, ◌<◌, ◌+◌, ◌==◌, ℕ, List, [], ◌∷◌, ◌++◌, Bool, true, false, ◌&&◌, None, length, not, take, drop, add-one, refl, ap, ◌∙◌, sym, subst, arith}
 use Rattle.std.specs.List.{list_all, before_first, after_first, position_or_len}
 use Rattle.std.specs.Str.{IsAscii, IsUtf8}
 use Rattle.std.proofs.lemmas.Bool.{false≢true}
 use Rattle.std.proofs.lemmas.Bool.Decides.{nat_tests}
 use Rattle.std.proofs.lemmas.Str.{IsAscii-append, IsUtf8-from_ascii}
 use Rattle.rkt_request.specs.declared.head.Head.{Head}
-use Rattle.rkt_demo.proofs.Origins.{first_of_both, second_of_both}
-use Rattle.rkt_demo.specs.Script.{is_capital, is_visible, is_space, is_word, is_skipped, IsRequest, IsContent, head_of, asked_by}
+use Rattle.rkt_demo.specs.Script.{is_capital, is_visible, is_space, is_word, IsRequest, head_of}
 
-ascii_of_all : (test : ℕ → Bool) → ((b : ℕ) → test b ≡ true → b < 128) → (bs : List ℕ) → list_all test bs ≡ true → IsAscii bs
+-- both tests pass
+pub first_of_both : (a b : Bool) → (a && b) ≡ true → a ≡ true
+first_of_both true b e = refl
+first_of_both false b e = e
+
+second_of_both : (a b : Bool) → (a && b) ≡ true → b ≡ true
+second_of_both true b e = e
+second_of_both false b e = absurd (false≢true e)
+
+-- all bytes of a word pass its test
+pub all_of_word : (test : ℕ → Bool) (word : List ℕ) → is_word test word ≡ true → list_all test word ≡ true
+all_of_word test word is = second_of_both (not (length word == 0)) (list_all test word) is
+
+pub ascii_of_all : (test : ℕ → Bool) → ((b : ℕ) → test b ≡ true → b < 128) → (bs : List ℕ) → list_all test bs ≡ true → IsAscii bs
 ascii_of_all test below [] all i = omega arith
 ascii_of_all test below (b ∷ bs) all zero = below b (first_of_both (test b) (list_all test bs) all)
 ascii_of_all test below (b ∷ bs) all (suc i) = ascii_of_all test below bs (second_of_both (test b) (list_all test bs) all) i
@@ -22,9 +34,6 @@ visible_below b is = grind (arith, nat_tests)
 
 space_below : (b : ℕ) → is_space b ≡ true → b < 128
 space_below b is = grind (arith, nat_tests)
-
-all_of_word : (test : ℕ → Bool) (word : List ℕ) → is_word test word ≡ true → list_all test word ≡ true
-all_of_word test word is = second_of_both (not (length word == 0)) (list_all test word) is
 
 -- visible characters are text
 pub IsUtf8-visible : (word : List ℕ) → list_all is_visible word ≡ true → IsUtf8 word
@@ -80,11 +89,3 @@ pub head_of-request : (content method target : List ℕ) → IsRequest content m
 head_of-request content method target request =
     let cut = request_cut content method target request in
     rw (cut.0, cut.1) refl
-
--- a line that is not skipped asks what it has as a request
-pub asked_by-request : (content : List ℕ) (head : Head) → is_skipped content ≡ false → head_of content ≡ head → asked_by content ≡ head ∷ []
-asked_by-request content head is same = rw is (ap (λ (h : Head). h ∷ []) same)
-
-pub not_content : (content : List ℕ) → is_skipped content ≡ false → ((method target : List ℕ) → ¬ IsRequest content method target) → ¬ IsContent content
-not_content content is none (inl skipped) = false≢true (sym is ∙ skipped)
-not_content content is none (inr request) = none request.0 request.1 request.2

@@ -1,9 +1,7 @@
 pub mod Entries
 pub mod Output
-pub mod Printed
 pub mod Program
 pub mod Sample
-pub mod SampleLaws
 pub mod Script
 pub mod Shown
 pub mod Streams

@@ -1,11 +1,11 @@
 -- What the program writes, by the script that it reads.
-use Rattle.std.specs.Prelude.{◌≡◌, ◌⊎◌, ℕ, ◌+◌, ◌++◌, List, Bool, Some, codes, drop}
+use Rattle.std.specs.Prelude.{◌≡◌, ◌⊎◌, ℕ, ◌+◌, ◌++◌, List, [], Bool, Option, Some, codes, drop}
 use Rattle.std.specs.Fmt.{decimal}
 use Rattle.std.specs.Option.{ForSome}
 use Rattle.rkt_source.specs.Source.{Meaning}
 use Rattle.rkt_demo.specs.declared.script.TheConstants.{SCRIPT_LIMIT}
-use Rattle.rkt_demo.specs.Printed.{printed_but}
 use Rattle.rkt_demo.specs.Script.{lines_of, AreGood, IsFirstBad}
+use Rattle.rkt_demo.specs.Shown.{Shown}
 use Rattle.rkt_demo.specs.Streams.{IsReadTo}
 
 -- a fact of the script: of what the source has not given yet, where it tells that
@@ -18,20 +18,20 @@ IsScript source script = (whole : List ℕ) × (source.whole ≡ Some whole) × 
 
 -- every line is of the grammar
 abbrev pub IsGoodScript : List ℕ → Type 0
-IsGoodScript script = AreGood SCRIPT_LIMIT (lines_of script)
+IsGoodScript script = AreGood SCRIPT_LIMIT [] (lines_of script)
 
 -- the number, from 1 on, of the first line that is not
 abbrev pub IsFirstBadLine : List ℕ → ℕ → Type 0
-IsFirstBadLine script number = IsFirstBad 1 SCRIPT_LIMIT (lines_of script) number
+IsFirstBadLine script number = IsFirstBad 1 SCRIPT_LIMIT [] (lines_of script) number
 
 -- the text that names a line
 abbrev pub refusal : ℕ → List ℕ
 refusal number = codes "script line " ++ decimal number ++ codes "\n"
 
--- what a script is answered with: the first line that is not of the grammar, or the text of its requests, some of them starved
-abbrev pub IsText : List ℕ → List ℕ → Type 0
-IsText script text = ((number : ℕ) × IsFirstBadLine script number × (text ≡ refusal number))
-    ⊎ (IsGoodScript script × ((starved : ℕ → Bool) × (text ≡ printed_but starved script)))
+-- what a script is answered with: the first line that is not of the grammar, or a text that shows its requests
+abbrev pub IsText : Option (ℕ × ℕ) → List ℕ → List ℕ → Type 0
+IsText window script text = ((number : ℕ) × IsFirstBadLine script number × (text ≡ refusal number))
+    ⊎ (IsGoodScript script × ((starved : ℕ → Bool) × Shown window starved script text))
 
 -- all of the source was read, or so many bytes that a line leaves the grammar
 abbrev pub IsAllRead : Meaning → Meaning → Type 0

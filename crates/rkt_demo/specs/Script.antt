@@ -1,10 +1,9 @@
 -- Scripts: the requests that the program is asked to serve, a line each.
-use Rattle.std.specs.Prelude.{◌≡◌, ◌≤◌, ◌⊎◌, ℕ, ◌+◌, ◌-◌, ◌==◌, ◌&&◌, List, [], ◌∷◌, ◌++◌, Bool, true, IsTrue, if◌then◌else◌, length, take, slice_index, nat_le, not, None}
-use Rattle.std.specs.List.{onto_first, list_all, flat_map, before_first, after_first}
-use Rattle.std.specs.Option.{ForSome}
-use Rattle.rkt_http.specs.Method.{method_of}
-use Rattle.rkt_http.specs.declared.method.Method.TheVariants.{Get}
+use Rattle.std.specs.Prelude.{◌≡◌, ◌≤◌, ◌<◌, ◌⊎◌, ℕ, ◌+◌, ◌-◌, ◌==◌, ◌&&◌, List, [], ◌∷◌, ◌++◌, Bool, true, IsTrue, if◌then◌else◌, codes, drop, fold, length, take, slice_index, nat_le, not, None}
+use Rattle.std.specs.List.{onto_first, list_all, before_first, after_first, take_while}
+use Rattle.rkt_media.specs.MediaText.{is_token_byte}
 use Rattle.rkt_request.specs.declared.head.Head.{Head}
+use Rattle.rkt_demo.specs.declared.script.ScriptRequest.{ScriptRequest}
 
 -- the lines of a script, each with the line feed at its end; a last one may have none
 abbrev pub lines_of : List ℕ → List (List ℕ)
@@ -37,35 +36,26 @@ is_visible b = nat_le 33 b && nat_le b 126
 abbrev pub is_word : (ℕ → Bool) → List ℕ → Bool
 is_word test bytes = not (length bytes == 0) && list_all test bytes
 
--- no method has this name but GET
-abbrev pub IsServed : List ℕ → Type 0
-IsServed word = ForSome (method_of word) (λ method. method ≡ Get)
-
 -- a request: the word of its method, a space, and its target
 pub record IsRequest (content method target : List ℕ) : Type 0 where
   pub spelled : content ≡ method ++ 32 ∷ target
   pub letters : IsTrue (is_word is_capital method)
   pub visible : IsTrue (is_word is_visible target)
-  pub served : IsServed method
 
--- what a line may have: it is skipped, or it is a request
-abbrev pub IsContent : List ℕ → Type 0
-IsContent content = IsTrue (is_skipped content) ⊎ ((method : List ℕ) × (target : List ℕ) × IsRequest content method target)
+-- a header of the last request: a colon and a space, a token, a colon and a space, and any bytes
+pub record IsHeader (content name value : List ℕ) : Type 0 where
+  pub spelled : content ≡ codes ": " ++ (name ++ (codes ": " ++ value))
+  pub token : IsTrue (is_word is_token_byte name)
 
--- a line is of the grammar, where this many bytes of the script may still come
-abbrev pub IsGood : ℕ → List ℕ → Type 0
-IsGood room line = (length line ≤ room) × IsContent (content_of line)
+-- a piece of the body of the last request: an equals sign and a space, and any bytes
+abbrev pub IsPiece : List ℕ → List ℕ → Type 0
+IsPiece content bytes = content ≡ codes "= " ++ bytes
 
--- each line is
-abbrev pub AreGood : ℕ → List (List ℕ) → Type 0
-AreGood room [] = Unit {0}
-AreGood room (line ∷ lines) = IsGood room line × AreGood (room - length line) lines
-
--- the line with this number is the first that is not, where the first line has the number `from`
-abbrev pub IsFirstBad : ℕ → ℕ → List (List ℕ) → ℕ → Type 0
-IsFirstBad from room [] number = ⊥
-IsFirstBad from room (line ∷ lines) number =
-    ((number ≡ from) × ¬ IsGood room line) ⊎ (IsGood room line × IsFirstBad (from + 1) (room - length line) lines number)
+-- what a line may have behind these requests: it is skipped, or it is a request, or it belongs to the last one
+abbrev pub IsContent : List ScriptRequest → List ℕ → Type 0
+IsContent requests content = IsTrue (is_skipped content)
+    ⊎ (((method : List ℕ) × (target : List ℕ) × IsRequest content method target)
+    ⊎ ((0 < length requests) × (((name : List ℕ) × (value : List ℕ) × IsHeader content name value) ⊎ ((bytes : List ℕ) × IsPiece content bytes))))
 
 abbrev pub is_space : ℕ → Bool
 is_space b = b == 32
@@ -74,10 +64,51 @@ is_space b = b == 32
 abbrev pub head_of : List ℕ → Head
 head_of content = record { method = before_first is_space content; target = after_first is_space content; headers = []; remote = None }
 
--- what a line asks, if it is not skipped
-abbrev pub asked_by : List ℕ → List Head
-asked_by content = if is_skipped content then [] else head_of content ∷ []
+-- the name and the value of a header line: the token behind the first colon, and what stands behind the second
+abbrev pub header_of : List ℕ → List ℕ × List ℕ
+header_of content = (take_while is_token_byte (drop 2 content), drop (length (take_while is_token_byte (drop 2 content)) + 4) content)
+
+-- the bytes of a piece of a body
+abbrev pub piece_of : List ℕ → List ℕ
+piece_of content = drop 2 content
+
+-- a request with one more header, and with more bytes at the end of its body
+abbrev pub with_header : List ℕ × List ℕ → ScriptRequest → ScriptRequest
+with_header header request = record request { head = record request.head { headers = request.head.headers ++ header ∷ [] } }
+
+abbrev pub with_piece : List ℕ → ScriptRequest → ScriptRequest
+with_piece bytes request = record request { body = request.body ++ bytes }
+
+-- the last of the requests changed so, where there is one
+abbrev pub with_last : (ScriptRequest → ScriptRequest) → List ScriptRequest → List ScriptRequest
+with_last change [] = []
+with_last change (request ∷ []) = change request ∷ []
+with_last change (request ∷ other ∷ others) = request ∷ with_last change (other ∷ others)
+
+-- the requests behind one more line, which tells by its first byte what it is
+abbrev pub add_line : List ScriptRequest → List ℕ → List ScriptRequest
+add_line requests [] = requests
+add_line requests (b ∷ bs) =
+    if b == 35 then requests else (
+    if b == 58 then with_last (with_header (header_of (b ∷ bs))) requests else (
+    if b == 61 then with_last (with_piece (piece_of (b ∷ bs))) requests else requests ++ (record { head = head_of (b ∷ bs); body = [] }) ∷ []))
 
 -- what the lines ask, in order
-abbrev pub heads_of : List (List ℕ) → List Head
-heads_of lines = flat_map (λ line. asked_by (content_of line)) lines
+abbrev pub requests_of : List (List ℕ) → List ScriptRequest
+requests_of lines = fold (λ requests line. add_line requests (content_of line)) [] lines
+
+-- a line is of the grammar behind these requests, where this many bytes of the script may still come
+abbrev pub IsGood : ℕ → List ScriptRequest → List ℕ → Type 0
+IsGood room requests line = (length line ≤ room) × IsContent requests (content_of line)
+
+-- each line is, behind these requests and those of the lines before it
+abbrev pub AreGood : ℕ → List ScriptRequest → List (List ℕ) → Type 0
+AreGood room requests [] = Unit {0}
+AreGood room requests (line ∷ lines) = IsGood room requests line × AreGood (room - length line) (add_line requests (content_of line)) lines
+
+-- the line with this number is the first that is not, where the first line has the number `from`
+abbrev pub IsFirstBad : ℕ → ℕ → List ScriptRequest → List (List ℕ) → ℕ → Type 0
+IsFirstBad from room requests [] number = ⊥
+IsFirstBad from room requests (line ∷ lines) number =
+    ((number ≡ from) × ¬ IsGood room requests line)
+    ⊎ (IsGood room requests line × IsFirstBad (from + 1) (room - length line) (add_line requests (content_of line)) lines number)

@@ -1,64 +1,75 @@
 -- What the program writes of the requests that it served.
-use Rattle.std.specs.Prelude.{◌≡◌, ◌⊎◌, ℕ, ◌+◌, ◌++◌, List, [], ◌∷◌, true, Option, Some, take}
+use Rattle.std.specs.Prelude.{◌≡◌, ℕ, ◌+◌, ◌++◌, List, [], ◌∷◌, Bool, true, false, MatchBool, Option, Some}
 use Rattle.rkt_fairing.specs.Callbacks.{quiet}
 use Rattle.rkt_http.specs.declared.status.Status.{Status}
-use Rattle.rkt_lifecycle.specs.Tables.{SeenTables}
+use Rattle.rkt_life.specs.declared.no_fairing.NoFairing.{NoFairing}
 use Rattle.rkt_lifecycle.specs.declared.ended.RunOf.{RunOf}
 use Rattle.rkt_message.specs.Response.{ResponseOf}
-use Rattle.rkt_message.specs.Sent.{Sent}
+use Rattle.rkt_message.specs.Sent.{Sent, has_head}
 use Rattle.rkt_message.specs.declared.piece.Piece.{Piece}
-use Rattle.rkt_request.specs.declared.head.Head.{Head}
+use Rattle.rkt_sample.specs.Bodies.{SampleBody}
+use Rattle.rkt_sample.specs.Catching.{catch_calling}
+use Rattle.rkt_sample.specs.Routing.{route_calling}
+use Rattle.rkt_sample.specs.declared.catcher.SampleCatcher.{SampleCatcher}
+use Rattle.rkt_sample.specs.declared.route.SampleRoute.{SampleRoute}
 use Rattle.rkt_serve.specs.Asked.{Asked}
 use Rattle.rkt_serve.specs.Clock.{IsWithin}
 use Rattle.rkt_serve.specs.Lifecycle.{Lifecycle}
 use Rattle.rkt_serve.specs.Memory.{LinkInMemory, link_meaning}
 use Rattle.rkt_serve.specs.Serving.{Serving, callbacks_of, serving}
 use Rattle.rkt_source.specs.Memory.{SourceInMemory, source_meaning}
-use Rattle.rkt_demo.specs.Output.{sent_section, starved_section, last_line}
-use Rattle.rkt_demo.specs.Sample.{IsSample, page_calling}
-use Rattle.rkt_demo.specs.Script.{lines_of, heads_of}
-use Rattle.rkt_life.specs.DefaultCatcher.{default_calling}
-use Rattle.rkt_life.specs.declared.default_catcher.DefaultCatcher.{DefaultCatcher}
-use Rattle.rkt_life.specs.declared.no_fairing.NoFairing.{NoFairing}
-use Rattle.rkt_demo.specs.declared.sample.Page.{Page}
-
-abbrev pub SampleTables : Type 0
-SampleTables = SeenTables NoFairing Page DefaultCatcher ℕ ℕ
+use Rattle.rkt_demo.specs.Output.{failed_section, last_line, sent_section, starved_section}
+use Rattle.rkt_demo.specs.Sample.{IsSample, SampleTables}
+use Rattle.rkt_demo.specs.Script.{lines_of, requests_of}
+use Rattle.rkt_demo.specs.declared.script.ScriptRequest.{ScriptRequest}
 
 -- the sample, served over links in memory in this window of moments
-abbrev pub served_in : Option (ℕ × ℕ) → Serving ℕ SourceInMemory ℕ SourceInMemory NoFairing (Unit {0}) (Unit {0}) Page (Unit {0}) DefaultCatcher Status LinkInMemory
-served_in window = serving quiet quiet page_calling default_calling source_meaning source_meaning link_meaning window
+abbrev pub served_in : Option (ℕ × ℕ) → Serving ℕ SourceInMemory ℕ SourceInMemory NoFairing (Unit {0}) (Unit {0}) SampleRoute (Option (SampleBody SourceInMemory)) SampleCatcher Status LinkInMemory
+served_in window = serving quiet quiet (route_calling source_meaning) catch_calling source_meaning source_meaning link_meaning window
 
--- a head and an empty body, of a link that never fails
-abbrev pub asked_for : Head → Asked
-asked_for head = record { head = head; body = Some []; body_never_faults = true; never_faults = true }
+-- what a link asks that never fails, with the head and the body of a request
+abbrev pub asked_for : ScriptRequest → Asked
+asked_for request = record { head = request.head; body = Some request.body; body_never_faults = true; never_faults = true }
 
 -- what is asked leads by this run to this response
 abbrev pub LeadsTo : Option (ℕ × ℕ) → SampleTables → Asked → RunOf ℕ → ResponseOf SourceInMemory → Type 0
 LeadsTo window tables asked run response = Lifecycle (callbacks_of (served_in window) tables) tables source_meaning asked run response
 
--- a section tells of a response that was sent, and which an exchange of the sample made of this head
-pub record IsAnswered (window : Option (ℕ × ℕ)) (k : ℕ) (head : Head) (section : List ℕ) : Type 0 where
+-- an exchange of the sample made this response to a request, at a moment of the window
+pub record IsMade (window : Option (ℕ × ℕ)) (request : ScriptRequest) (response : ResponseOf SourceInMemory) : Type 0 where
   pub tables : SampleTables
   pub sample : IsSample tables
   pub run : RunOf ℕ
   pub timed : IsWithin window run.moment
-  pub response : ResponseOf SourceInMemory
-  pub lifecycle : LeadsTo window tables (asked_for head) run response
+  pub lifecycle : LeadsTo window tables (asked_for request) run response
+
+-- a section tells of a response that was sent
+pub record IsAnswered (k : ℕ) (response : ResponseOf SourceInMemory) (section : List ℕ) : Type 0 where
   pub pieces : List Piece
   pub sent : Sent source_meaning response pieces
   pub text : section ≡ sent_section k pieces
 
--- the section of the request with this number, which has this head
-abbrev pub IsSection : Option (ℕ × ℕ) → ℕ → Head → List ℕ → Type 0
-IsSection window k head section = (section ≡ starved_section k) ⊎ IsAnswered window k head section
+-- the section of the request with this number: of a response that an exchange made, sent where a head of it can be formed
+pub record IsServed (window : Option (ℕ × ℕ)) (k : ℕ) (request : ScriptRequest) (section : List ℕ) : Type 0 where
+  pub response : ResponseOf SourceInMemory
+  pub made : IsMade window request response
+  pub told : MatchBool (has_head response) (IsAnswered k response section) (section ≡ failed_section k)
 
--- the sections of requests with these heads, from the number k on, and the last line
-abbrev pub ShownFrom : Option (ℕ × ℕ) → ℕ → List Head → List ℕ → Type 0
-ShownFrom window k [] text = text ≡ last_line k
-ShownFrom window k (head ∷ heads) text = (section : List ℕ) × (rest : List ℕ)
-    × IsSection window k head section × ShownFrom window (k + 1) heads rest × (text ≡ section ++ rest)
+-- the section of a request for which there was memory, or not
+abbrev pub IsSection : Bool → Option (ℕ × ℕ) → ℕ → ScriptRequest → List ℕ → Type 0
+IsSection true window k request section = section ≡ starved_section k
+IsSection false window k request section = IsServed window k request section
 
--- the text tells of the first `count` requests of a script, served in this window of moments
-abbrev pub Shown : Option (ℕ × ℕ) → List ℕ → ℕ → List ℕ → Type 0
-Shown window script count text = ShownFrom window 0 (take count (heads_of (lines_of script))) text
+-- the sections of requests, from the number k on, of which these numbers had no memory, and the last line
+abbrev pub ShownFrom : Option (ℕ × ℕ) → (ℕ → Bool) → ℕ → List ScriptRequest → List ℕ → Type 0
+ShownFrom window starved k [] text = text ≡ last_line k
+ShownFrom window starved k (request ∷ requests) text = (section : List ℕ) × (rest : List ℕ)
+    × IsSection (starved k) window k request section × ShownFrom window starved (k + 1) requests rest × (text ≡ section ++ rest)
+
+-- the text tells of the requests of a script, served in this window of moments, but for those that had no memory
+abbrev pub Shown : Option (ℕ × ℕ) → (ℕ → Bool) → List ℕ → List ℕ → Type 0
+Shown window starved script text = ShownFrom window starved 0 (requests_of (lines_of script)) text
+
+-- one script is shown as one text at most, whatever the moments
+abbrev pub ShownOnce : Type 0
+ShownOnce = (window window' : Option (ℕ × ℕ)) (starved : ℕ → Bool) (script text text' : List ℕ) → Shown window starved script text → Shown window' starved script text' → text' ≡ text

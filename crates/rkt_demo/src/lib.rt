@@ -1,6 +1,7 @@
 //! The program's work: a script of requests is read, served by the sample application, and printed.
 #![tactic(auto)]
 
+mod laws;
 mod output;
 mod program;
 mod sample;
@@ -8,7 +9,8 @@ mod script;
 mod stream;
 mod words;
 
+pub use laws::shown_once;
 pub use program::run;
-pub use sample::{Page, Sample, Stopped};
+pub use sample::{Sample, Stopped};
 pub use script::SCRIPT_LIMIT;
 pub use words::USAGE;

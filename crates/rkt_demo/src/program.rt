@@ -1,52 +1,54 @@
 //! The program: reads the words and the script, serves, and writes.
-ghost use Rattle.std.specs.Prelude.{◌≡◌, ◌↔◌, ◌⊎◌, ◌≤◌, ◌+◌, [], List, ℕ, Bool, false, IfOk, length, map, string_bytes};
+ghost use Rattle.std.specs.Prelude.{◌≡◌, ◌⊎◌, ◌≤◌, ◌+◌, List, ℕ, Bool, false, IfOk, map, string_bytes};
 ghost use Rattle.std.specs.List.{AllByRecursion};
 ghost use Rattle.rkt_base.specs.Counts.{Rose};
 ghost use Rattle.rkt_source.specs.Sink.{Gains};
 ghost use Rattle.rkt_serve.specs.Memory.{IsUnused, asked_of};
-ghost use Rattle.rkt_demo.specs.Printed.{printed_but};
 ghost use Rattle.rkt_demo.specs.Program.{OfScript, IsScript, IsGoodScript, IsFirstBadLine, IsText, IsAllRead, refusal};
-ghost use Rattle.rkt_demo.specs.Script.{lines_of, heads_of};
 ghost use Rattle.rkt_demo.specs.Shown.{Shown, ShownFrom, asked_for};
 ghost use Rattle.rkt_demo.specs.Streams.{GainsFront, GainsUnlessRefused};
 ghost use Rattle.rkt_demo.specs.Words.{IsCommand, IsStatus};
 
 use crate::output::print_history;
 use crate::sample::Sample;
-use crate::script::{SCRIPT_LIMIT, parse_script};
+use crate::script::{SCRIPT_LIMIT, ScriptRequest, parse_script};
 use crate::stream::{StreamError, read_all, write_all};
 use crate::words::{USAGE, is_command};
 use rkt_base::{NoMemory, Want};
 use rkt_data::{Sink, Source};
-use rkt_http::says_what_it_spells;
-use rkt_request::Head;
+use rkt_http::{says_what_it_spells, spells_one_host, spells_one_media_type};
 use rkt_serve::{Clock, Launch, ListListener, MemoryLink};
 use std::alloc::{AllocError, Global};
 use std::sync::Wait;
 use std::thread::Threads;
 
-// A link for each head, with an empty body.
-fn links_for(alloc: Global, heads: Vec<Head>) -> Result<Vec<MemoryLink>, NoMemory>
-    ensures asked { IfOk result (λ links. map asked_of links.items ≡ map asked_for heads.items) }
+// A link for each request.
+fn links_for(alloc: Global, requests: Vec<ScriptRequest>) -> Result<Vec<MemoryLink>, NoMemory>
+    ensures asked { IfOk result (λ links. map asked_of links.items ≡ map asked_for requests.items) }
     ensures unused { IfOk result (λ links. AllByRecursion IsUnused links.items) }
 {
-    let mut links = Vec::with_capacity(alloc, heads.len())?;
-    for head in heads {
-        links.push(MemoryLink::new(alloc, head, Vec::new(alloc))?)?;
+    let mut links = Vec::with_capacity(alloc, requests.len())?;
+    for request in requests {
+        let ScriptRequest { head, body } = request;
+        links.push(MemoryLink::new(alloc, head, body.into_vec())?)?;
     }
     Ok(links)
 }
 
-// Serves requests with these heads, and tells how they ended.
-fn serve_heads<R: Wait + Threads, C: Clock>(
+// Serves requests, and tells how they ended.
+fn serve_requests<R: Wait + Threads, C: Clock>(
     rt: &R,
     alloc: Global,
-    heads: Vec<Head>,
+    requests: Vec<ScriptRequest>,
     clock: C,
 ) -> Result<Vec<u8>, NoMemory>
-    ensures { IfOk result (λ text. ShownFrom (C.meaning clock).window 0 heads.items text.items) }
+    ensures { IfOk result (λ text. (starved : ℕ → Bool) × ShownFrom (C.meaning clock).window starved 0 requests.items text.items) }
 {
-    let links = links_for(alloc, heads)?;
+    // So two readings of one text are one.
+    says_what_it_spells();
+    spells_one_host();
+    spells_one_media_type();
+    let links = links_for(alloc, requests)?;
     let listener = ListListener::new(alloc, links, Vec::new(alloc))?;
     let rocket = Sample::rocket(alloc)?;
     match rocket.launch(rt, alloc, listener, clock, 0) {
@@ -134,19 +136,17 @@ pub fn run<R: Wait + Threads, S: Source, K: Sink, C: Clock>(
 
     // 5: the sink refused, and has taken a front of the text.
     ensures write { result ≡ 5 → Rose (K.meaning sink.old).faults (K.meaning sink.new).faults }
-    ensures write_text { result ≡ 5 → OfScript (S.meaning source.old) (λ script. (starved : ℕ → Bool)
-        × GainsFront (K.meaning sink.old) (K.meaning sink.new) (printed_but starved script)) }
+    ensures write_text { result ≡ 5 → OfScript (S.meaning source.old) (λ script. (starved : ℕ → Bool) × (text : List ℕ)
+        × Shown (C.meaning clock).window starved script text × GainsFront (K.meaning sink.old) (K.meaning sink.new) text) }
 
     // 6: there was no memory, and the sink has taken nothing, or a front of what was to be written.
     ensures memory_usage { result ≡ 6 → ¬ IsCommand (map string_bytes words.now) → GainsFront (K.meaning sink.old) (K.meaning sink.new) USAGE.now }
     ensures memory_text { result ≡ 6 → IsCommand (map string_bytes words.now) → (sink.new ≡ sink.old) ⊎ OfScript (S.meaning source.old) (λ script.
-        (text : List ℕ) × IsText script text × GainsFront (K.meaning sink.old) (K.meaning sink.new) text) }
+        (text : List ℕ) × IsText (C.meaning clock).window script text × GainsFront (K.meaning sink.old) (K.meaning sink.new) text) }
 
-    // 0: the text shows every request of the script, and is the printed one but for the starved.
-    ensures text { result ≡ 0 → OfScript (S.meaning source.old) (λ script. (text : List ℕ)
-        × Shown (C.meaning clock).window script (length (heads_of (lines_of script))) text × Gains (K.meaning sink.old) (K.meaning sink.new) text) }
-    ensures printed { result ≡ 0 → OfScript (S.meaning source.old) (λ script. (starved : ℕ → Bool)
-        × Gains (K.meaning sink.old) (K.meaning sink.new) (printed_but starved script)) }
+    // 0: the text shows every request of the script. There is one such text but for the starved, as a law of texts says.
+    ensures text { result ≡ 0 → OfScript (S.meaning source.old) (λ script. (starved : ℕ → Bool) × (text : List ℕ)
+        × Shown (C.meaning clock).window starved script text × Gains (K.meaning sink.old) (K.meaning sink.new) text) }
 
     // Words and script of the grammar, and no fault of a stream: nothing but want of memory is in the way.
     ensures complete { (script : List ℕ) → IsCommand (map string_bytes words.now) → IsScript (S.meaning source.old) script → IsGoodScript script
@@ -166,14 +166,12 @@ pub fn run<R: Wait + Threads, S: Source, K: Sink, C: Clock>(
         Err(StreamError::Fault) => return 4,
         Err(StreamError::NoMemory) => return 6,
     };
-    let heads = match parse_script(alloc, script.as_slice()) {
-        Ok(heads) => heads,
+    let requests = match parse_script(alloc, script.as_slice()) {
+        Ok(requests) => requests,
         Err(Want::Refused(bad)) => return refuse_line(rt, alloc, sink, bad.number),
         Err(Want::NoMemory) => return 6,
     };
-    // Whether a target is an origin is told by what its text says.
-    says_what_it_spells();
-    match serve_heads(rt, alloc, heads, clock) {
+    match serve_requests(rt, alloc, requests, clock) {
         Ok(text) => write_text(rt, sink, text.as_slice()),
         Err(_) => 6,
     }

@@ -1,13 +1,21 @@
 //! Reads a script.
-ghost use Rattle.std.specs.Prelude.{◌≡◌, ◌↔◌, ◌<◌, ◌∷◌, ◌++◌, [], List, ℕ, None, IfOk, IfSome, IfNone, IsTrue, OnOk, length, option_to_list};
-ghost use Rattle.std.specs.List.{list_all};
+ghost use Rattle.std.specs.Prelude.{◌≡◌, ◌<◌, ◌∷◌, ◌++◌, [], List, ℕ, None, IfOk, IfSome, IfNone, OnOk, codes, length};
+ghost use Rattle.std.specs.List.{list_all, take_while};
 ghost use Rattle.rkt_base.specs.Want.{IfRefused};
-ghost use Rattle.rkt_demo.specs.Script.{lines_of, content_of, is_skipped, is_word, is_capital, is_visible, IsServed, IsRequest, IsContent, AreGood, IsFirstBad, head_of, asked_by, heads_of};
+ghost use Rattle.rkt_media.specs.MediaText.{is_token_byte};
+ghost use Rattle.rkt_demo.specs.Script.{AreGood, IsContent, IsFirstBad, IsHeader, IsPiece, IsRequest, add_line, content_of, head_of, header_of, is_capital, is_visible, is_word, lines_of, requests_of, with_header, with_last, with_piece, piece_of};
 
-use rkt_base::{NoMemory, Seq, Text, Want};
-use rkt_http::Method;
+use rkt_base::{Bytes, NoMemory, Seq, Text, Want};
 use rkt_request::Head;
 use std::alloc::Global;
+use std::mem;
+
+/// A request of a script.
+#[derive(Drop)]
+pub struct ScriptRequest {
+    pub head: Head,
+    pub body: Bytes,
+}
 
 /// The most bytes that a script may have.
 pub const SCRIPT_LIMIT: usize = 16_777_216;
@@ -43,15 +51,9 @@ fn content_of(line: &[u8]) -> &[u8]
     }
 }
 
-// A line that is neither skipped nor a request.
+// A line that is not of the grammar, where it stands.
 #[derive(Clone, Copy, Debug, Drop, PartialEq, Eq)]
 struct BadContent;
-
-fn is_skipped(content: &[u8]) -> bool
-    ensures { result ≡ is_skipped content.now }
-{
-    matches!(content, [] | [b'#', ..])
-}
 
 fn is_capital(byte: u8) -> bool
     ensures { result ≡ is_capital byte }
@@ -89,13 +91,6 @@ fn is_target(text: &str) -> bool
     !text.is_empty() && is_all_visible(text)
 }
 
-// Whether the program serves a method: GET, or one that nothing knows, which is answered as a bad request.
-fn is_served(word: &str) -> bool
-    ensures { IsTrue result ↔ IsServed word.now }
-{
-    matches!(Method::from_wire(word), None | Some(Method::Get))
-}
-
 // The words of a request line.
 fn read_words(content: &[u8]) -> Option<(&str, &str)>
     ensures read { IfSome result (λ words. IsRequest content.now words.0.now words.1.now) }
@@ -108,49 +103,171 @@ fn read_words(content: &[u8]) -> Option<(&str, &str)>
     let Some((method, target)) = text.split_once(' ') else {
         return None;
     };
-    if is_method(method) && is_target(target) && is_served(method) {
+    if is_method(method) && is_target(target) {
         Some((method, target))
     } else {
         None
     }
 }
 
-// What a line asks, if it is not skipped.
-fn read_line(alloc: Global, content: &[u8]) -> Result<Option<Head>, Want<BadContent>>
-    ensures good { OnOk result (IsContent content.now) }
-    ensures asked { IfOk result (λ head. option_to_list head ≡ asked_by content.now) }
-    ensures refused { IfRefused result (λ _. ¬ IsContent content.now) }
+// Adds the request that a line asks.
+fn read_request(
+    alloc: Global,
+    requests: &mut Vec<ScriptRequest>,
+    content: &[u8],
+) -> Result<(), Want<BadContent>>
+    ensures good { OnOk result ((method : List ℕ) × (target : List ℕ) × IsRequest content.now method target) }
+    ensures read { OnOk result (requests.new.items ≡ requests.old.items ++ (record { head = head_of content.now; body = [] }) ∷ []) }
+    ensures refused { IfRefused result (λ _. (method target : List ℕ) → ¬ IsRequest content.now method target) }
 {
-    if is_skipped(content) {
-        return Ok(None);
-    }
     let Some((method, target)) = read_words(content) else {
         return Err(Want::Refused(BadContent));
     };
-    Ok(Some(Head {
+    let head = Head {
         method: Text::new(alloc, method)?,
         target: Text::new(alloc, target)?,
         headers: Seq::new(alloc),
         remote: None,
-    }))
+    };
+    requests.push(ScriptRequest {
+        head,
+        body: Bytes::new(alloc),
+    })?;
+    Ok(())
 }
 
-fn push_any(heads: &mut Vec<Head>, head: Option<Head>) -> Result<(), NoMemory>
-    ensures { OnOk result (heads.new.items ≡ heads.old.items ++ option_to_list head) }
+fn is_token_byte(byte: u8) -> bool
+    ensures { result ≡ is_token_byte byte }
 {
-    match head {
-        Some(head) => Ok(heads.push(head)?),
-        None => Ok(()),
+    byte.is_ascii_alphanumeric() || b"!#$%&'*+-.^_`|~".contains(&byte)
+}
+
+// The longest token that begins a text, and what is behind it.
+fn split_token(text: &[u8]) -> (&[u8], &[u8])
+    ensures token { result.0.now ≡ take_while is_token_byte text.now }
+    ensures parts { text.now ≡ result.0.now ++ result.1.now }
+{
+    for (at, byte) in text.iter().enumerate() {
+        if !is_token_byte(*byte) {
+            return text.split_at(at);
+        }
+    }
+    (text, &[])
+}
+
+// What is behind a mark and a space.
+fn behind(mark: u8, text: &[u8]) -> Option<&[u8]>
+    ensures some { IfSome result (λ rest. text.now ≡ mark ∷ 32 ∷ rest.now) }
+    ensures none { IfNone result ((rest : List ℕ) → ¬ (text.now ≡ mark ∷ 32 ∷ rest)) }
+{
+    match text {
+        [first, b' ', rest @ ..] if *first == mark => Some(rest),
+        _ => None,
     }
 }
 
-/// The heads of the requests that a script asks, in order.
-pub fn parse_script(alloc: Global, script: &[u8]) -> Result<Vec<Head>, Want<BadLine>>
-    ensures good { IfOk result (λ heads. AreGood SCRIPT_LIMIT (lines_of script.now)) }
-    ensures heads { IfOk result (λ heads. heads.items ≡ heads_of (lines_of script.now)) }
-    ensures line { IfRefused result (λ bad. IsFirstBad 1 SCRIPT_LIMIT (lines_of script.now) bad.number) }
+// The name and the value of a header line.
+fn read_field(content: &[u8]) -> Option<(&str, &[u8])>
+    ensures read { IfSome result (λ field. IsHeader content.now field.0.now field.1.now) }
+    ensures field { IfSome result (λ field. header_of content.now ≡ (field.0.now, field.1.now)) }
+    ensures refused { IfNone result ((name value : List ℕ) → ¬ IsHeader content.now name value) }
 {
-    let mut heads = Vec::new(alloc);
+    let text = behind(b':', content)?;
+    let (name, rest) = split_token(text);
+    let value = behind(b':', rest)?;
+    match str::from_utf8(name) {
+        Ok(name) if !name.is_empty() => Some((name, value)),
+        _ => None,
+    }
+}
+
+fn push_header(
+    alloc: Global,
+    request: &mut ScriptRequest,
+    name: &str,
+    value: &[u8],
+) -> Result<(), NoMemory>
+    ensures { OnOk result (request.new ≡ with_header (name.now, value.now) request.old) }
+{
+    let name = Text::new(alloc, name)?;
+    let value = Bytes::from_vec(value.to_vec(alloc)?);
+    request.head.headers.push((name, value))
+}
+
+// Adds the header that a line has to the last request.
+fn read_header(
+    alloc: Global,
+    requests: &mut Vec<ScriptRequest>,
+    content: &[u8],
+) -> Result<(), Want<BadContent>>
+    ensures some { OnOk result (0 < length requests.old.items) }
+    ensures good { OnOk result ((name : List ℕ) × (value : List ℕ) × IsHeader content.now name value) }
+    ensures read { OnOk result (requests.new.items ≡ with_last (with_header (header_of content.now)) requests.old.items) }
+    ensures refused { IfRefused result (λ _. 0 < length requests.old.items → (name value : List ℕ) → ¬ IsHeader content.now name value) }
+{
+    let Some((name, value)) = read_field(content) else {
+        return Err(Want::Refused(BadContent));
+    };
+    match requests.last_mut() {
+        Some(request) => Ok(push_header(alloc, request, name, value)?),
+        None => Err(Want::Refused(BadContent)),
+    }
+}
+
+fn push_piece(alloc: Global, request: &mut ScriptRequest, bytes: &[u8]) -> Result<(), NoMemory>
+    ensures { OnOk result (request.new ≡ with_piece bytes.now request.old) }
+{
+    let mut body = mem::replace(&mut request.body, Bytes::new(alloc)).into_vec();
+    body.extend_from_slice(bytes)?;
+    request.body = Bytes::from_vec(body);
+    Ok(())
+}
+
+// Adds the bytes that a line has to the body of the last request.
+fn read_piece(
+    alloc: Global,
+    requests: &mut Vec<ScriptRequest>,
+    content: &[u8],
+) -> Result<(), Want<BadContent>>
+    ensures some { OnOk result (0 < length requests.old.items) }
+    ensures good { OnOk result ((bytes : List ℕ) × IsPiece content.now bytes) }
+    ensures read { OnOk result (requests.new.items ≡ with_last (with_piece (piece_of content.now)) requests.old.items) }
+    ensures refused { IfRefused result (λ _. 0 < length requests.old.items → (bytes : List ℕ) → ¬ IsPiece content.now bytes) }
+{
+    let Some(bytes) = behind(b'=', content) else {
+        return Err(Want::Refused(BadContent));
+    };
+    match requests.last_mut() {
+        Some(request) => Ok(push_piece(alloc, request, bytes)?),
+        None => Err(Want::Refused(BadContent)),
+    }
+}
+
+// Reads a line behind the requests so far.
+fn read_line(
+    alloc: Global,
+    requests: &mut Vec<ScriptRequest>,
+    content: &[u8],
+) -> Result<(), Want<BadContent>>
+    ensures good { OnOk result (IsContent requests.old.items content.now) }
+    ensures read { OnOk result (requests.new.items ≡ add_line requests.old.items content.now) }
+    ensures refused { IfRefused result (λ _. ¬ IsContent requests.old.items content.now) }
+{
+    match content {
+        [] | [b'#', ..] => Ok(()),
+        [b':', ..] => read_header(alloc, requests, content),
+        [b'=', ..] => read_piece(alloc, requests, content),
+        _ => read_request(alloc, requests, content),
+    }
+}
+
+/// The requests that a script asks, in order.
+pub fn parse_script(alloc: Global, script: &[u8]) -> Result<Vec<ScriptRequest>, Want<BadLine>>
+    ensures good { IfOk result (λ requests. AreGood SCRIPT_LIMIT [] (lines_of script.now)) }
+    ensures requests { IfOk result (λ requests. requests.items ≡ requests_of (lines_of script.now)) }
+    ensures line { IfRefused result (λ bad. IsFirstBad 1 SCRIPT_LIMIT [] (lines_of script.now) bad.number) }
+{
+    let mut requests = Vec::new(alloc);
     let mut rest = script;
     let mut room = SCRIPT_LIMIT;
     let mut number = 1usize;
@@ -159,8 +276,8 @@ pub fn parse_script(alloc: Global, script: &[u8]) -> Result<Vec<Head>, Want<BadL
         if line.len() > room {
             return Err(Want::Refused(BadLine { number }));
         }
-        match read_line(alloc, content_of(line)) {
-            Ok(head) => push_any(&mut heads, head)?,
+        match read_line(alloc, &mut requests, content_of(line)) {
+            Ok(()) => {}
             Err(Want::Refused(_)) => return Err(Want::Refused(BadLine { number })),
             Err(Want::NoMemory) => return Err(Want::NoMemory),
         }
@@ -168,5 +285,5 @@ pub fn parse_script(alloc: Global, script: &[u8]) -> Result<Vec<Head>, Want<BadL
         rest = after;
         number += 1;
     }
-    Ok(heads)
+    Ok(requests)
 }

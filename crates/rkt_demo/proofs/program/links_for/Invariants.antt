@@ -4,5 +4,5 @@ use Rattle.rkt_serve.specs.Memory.{IsUnused, asked_of}
 use Rattle.rkt_demo.specs.Shown.{asked_for}
 use Rattle.rkt_demo.proofs.program.links_for.Given as goal
 
-abbrev pub invariant-loop-head : goal.invariant-loop-head
-invariant-loop-head l = (map asked_of l.links.items ≡ map asked_for l.yielded) × AllByRecursion IsUnused l.links.items
+abbrev pub invariant-loop-request : goal.invariant-loop-request
+invariant-loop-request l = (map asked_of l.links.items ≡ map asked_for l.yielded) × AllByRecursion IsUnused l.links.items

@@ -1,9 +1,6 @@
-use Rattle.std.proofs.Common.{◌∙◌, inl, inr, sym, subst, refl, drop}
+use Rattle.std.proofs.Common.{inl, inr, sym, subst, refl}
 use Rattle.rkt_demo.specs.declared.script.TheConstants.{SCRIPT_LIMIT}
-use Rattle.rkt_source.specs.Sink.{Gains}
-use Rattle.rkt_demo.specs.Printed.{printed_but}
-use Rattle.rkt_demo.specs.Streams.{GainsFront}
-use Rattle.rkt_demo.proofs.Runs.{IsRead, first_bad_read, not_bad, good_script, shown_script, printed_script}
+use Rattle.rkt_demo.proofs.Runs.{IsRead, first_bad_read, not_bad, good_script, shown_script}
 use Rattle.rkt_demo.proofs.program.run.Goals as goal
 
 pub returns-in-Err-NoMemory-clause-memory_text : goal.returns-in-Err-NoMemory-clause-memory_text
@@ -36,48 +33,39 @@ returns-in-Err-Refused-clause-complete g c script command is good unread unwritt
     let bad = rw c.in-Err-Refused.field-0-is at c.in-Err-Refused.ensures.line in
     absurd (not_bad before script c.in-Err-Refused.bad.number is good (first_bad_read before.whole before.taken SCRIPT_LIMIT _ c.as_slice.result.now read bad))
 
-pub returns-in-Ok-serve_heads-clause-good : goal.returns-in-Ok-serve_heads-clause-good
-returns-in-Ok-serve_heads-clause-good g c done w is =
+pub returns-in-Ok-serve_requests-clause-good : goal.returns-in-Ok-serve_requests-clause-good
+returns-in-Ok-serve_requests-clause-good g c done w is =
     let before = g.S.Source.meaning c.args.source.now in
     let read = subst (IsRead before.whole before.taken SCRIPT_LIMIT) (sym c.as_slice.ensures.value) c.in-Ok.ensures.bytes in
     good_script before.whole before.taken SCRIPT_LIMIT c.as_slice.result.now read c.in-Ok-parse_script.ensures.good w is
 
-pub returns-in-Ok-serve_heads-clause-text : goal.returns-in-Ok-serve_heads-clause-text
-returns-in-Ok-serve_heads-clause-text g c served w is =
+pub returns-in-Ok-serve_requests-clause-text : goal.returns-in-Ok-serve_requests-clause-text
+returns-in-Ok-serve_requests-clause-text g c served w is =
     let before = g.S.Source.meaning c.args.source.now in
     let read = subst (IsRead before.whole before.taken SCRIPT_LIMIT) (sym c.as_slice.ensures.value) c.in-Ok.ensures.bytes in
     let window = (g.C.Clock.meaning c.args.clock).window in
-    let text = c.in-Ok-serve_heads.text.items in
-    let shown = shown_script before.whole before.taken SCRIPT_LIMIT c.as_slice.result.now window c.in-Ok-parse_script.heads.items text read c.in-Ok-parse_script.ensures.good c.in-Ok-parse_script.ensures.heads c.in-Ok-serve_heads.ensures in
-    (text, shown w is, rw c.as_slice-in-Ok-serve_heads.ensures.value at (c.write_text.ensures.whole served))
+    let text = c.in-Ok-serve_requests.text.items in
+    let told = c.in-Ok-serve_requests.ensures in
+    let shown = shown_script before.whole before.taken SCRIPT_LIMIT c.as_slice.result.now window told.0 c.in-Ok-parse_script.requests.items text read c.in-Ok-parse_script.ensures.good c.in-Ok-parse_script.ensures.requests told.1 in
+    (told.0, text, shown w is, rw c.as_slice-in-Ok-serve_requests.ensures.value at (c.write_text.ensures.whole served))
 
-pub returns-in-Ok-serve_heads-clause-printed : goal.returns-in-Ok-serve_heads-clause-printed
-returns-in-Ok-serve_heads-clause-printed g c served w is =
+pub returns-in-Ok-serve_requests-clause-write_text : goal.returns-in-Ok-serve_requests-clause-write_text
+returns-in-Ok-serve_requests-clause-write_text g c refused w is =
     let before = g.S.Source.meaning c.args.source.now in
     let read = subst (IsRead before.whole before.taken SCRIPT_LIMIT) (sym c.as_slice.ensures.value) c.in-Ok.ensures.bytes in
     let window = (g.C.Clock.meaning c.args.clock).window in
-    let text = c.in-Ok-serve_heads.text.items in
-    let printed = printed_script c.says_what_it_spells.ensures before.whole before.taken SCRIPT_LIMIT c.as_slice.result.now window c.in-Ok-parse_script.heads.items text read c.in-Ok-parse_script.ensures.good c.in-Ok-parse_script.ensures.heads c.in-Ok-serve_heads.ensures w is in
-    let is_text = c.as_slice-in-Ok-serve_heads.ensures.value ∙ printed.1 in
-    (printed.0, subst (Gains (g.K.Sink.meaning c.args.sink.now) (g.K.Sink.meaning c.write_text.new.sink)) is_text (c.write_text.ensures.whole served))
+    let text = c.in-Ok-serve_requests.text.items in
+    let told = c.in-Ok-serve_requests.ensures in
+    let shown = shown_script before.whole before.taken SCRIPT_LIMIT c.as_slice.result.now window told.0 c.in-Ok-parse_script.requests.items text read c.in-Ok-parse_script.ensures.good c.in-Ok-parse_script.ensures.requests told.1 in
+    (told.0, text, shown w is, rw c.as_slice-in-Ok-serve_requests.ensures.value at c.write_text.ensures.front)
 
-pub returns-in-Ok-serve_heads-clause-write_text : goal.returns-in-Ok-serve_heads-clause-write_text
-returns-in-Ok-serve_heads-clause-write_text g c refused w is =
+pub returns-in-Ok-serve_requests-clause-memory_text : goal.returns-in-Ok-serve_requests-clause-memory_text
+returns-in-Ok-serve_requests-clause-memory_text g c refused command = inr (λ w is.
     let before = g.S.Source.meaning c.args.source.now in
     let read = subst (IsRead before.whole before.taken SCRIPT_LIMIT) (sym c.as_slice.ensures.value) c.in-Ok.ensures.bytes in
     let window = (g.C.Clock.meaning c.args.clock).window in
-    let text = c.in-Ok-serve_heads.text.items in
-    let printed = printed_script c.says_what_it_spells.ensures before.whole before.taken SCRIPT_LIMIT c.as_slice.result.now window c.in-Ok-parse_script.heads.items text read c.in-Ok-parse_script.ensures.good c.in-Ok-parse_script.ensures.heads c.in-Ok-serve_heads.ensures w is in
-    let is_text = c.as_slice-in-Ok-serve_heads.ensures.value ∙ printed.1 in
-    (printed.0, subst (GainsFront (g.K.Sink.meaning c.args.sink.now) (g.K.Sink.meaning c.write_text.new.sink)) is_text c.write_text.ensures.front)
-
-pub returns-in-Ok-serve_heads-clause-memory_text : goal.returns-in-Ok-serve_heads-clause-memory_text
-returns-in-Ok-serve_heads-clause-memory_text g c refused command = inr (λ w is.
-    let before = g.S.Source.meaning c.args.source.now in
-    let read = subst (IsRead before.whole before.taken SCRIPT_LIMIT) (sym c.as_slice.ensures.value) c.in-Ok.ensures.bytes in
-    let window = (g.C.Clock.meaning c.args.clock).window in
-    let text = c.in-Ok-serve_heads.text.items in
-    let printed = printed_script c.says_what_it_spells.ensures before.whole before.taken SCRIPT_LIMIT c.as_slice.result.now window c.in-Ok-parse_script.heads.items text read c.in-Ok-parse_script.ensures.good c.in-Ok-parse_script.ensures.heads c.in-Ok-serve_heads.ensures w is in
-    let is_text = c.as_slice-in-Ok-serve_heads.ensures.value ∙ printed.1 in
+    let text = c.in-Ok-serve_requests.text.items in
+    let told = c.in-Ok-serve_requests.ensures in
+    let shown = shown_script before.whole before.taken SCRIPT_LIMIT c.as_slice.result.now window told.0 c.in-Ok-parse_script.requests.items text read c.in-Ok-parse_script.ensures.good c.in-Ok-parse_script.ensures.requests told.1 in
     let good = good_script before.whole before.taken SCRIPT_LIMIT c.as_slice.result.now read c.in-Ok-parse_script.ensures.good w is in
-    (printed_but printed.0 (drop before.taken w), inr (good, (printed.0, refl)), subst (GainsFront (g.K.Sink.meaning c.args.sink.now) (g.K.Sink.meaning c.write_text.new.sink)) is_text c.write_text.ensures.front))
+    (text, inr (good, (told.0, shown w is)), rw c.as_slice-in-Ok-serve_requests.ensures.value at c.write_text.ensures.front))

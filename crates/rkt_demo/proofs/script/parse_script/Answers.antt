@@ -1,6 +1,7 @@
-use Rattle.std.proofs.Common.{◌≡◌, ◌++◌, ◌∙◌, List, length, refl, inl, inr, ap, append_assoc, length-append, arith, option_to_list}
-use Rattle.rkt_request.specs.declared.head.Head.{Head}
-use Rattle.rkt_demo.specs.Script.{lines_of, content_of, IsGood, IsContent, asked_by, heads_of}
+use Rattle.std.proofs.Common.{◌≡◌, ◌∙◌, List, length, refl, inl, inr, ap, sym, length-append, arith}
+use Rattle.std.specs.Prelude.{fold}
+use Rattle.rkt_demo.specs.Script.{lines_of, content_of, add_line, IsGood, IsContent}
+use Rattle.rkt_demo.specs.declared.script.ScriptRequest.{ScriptRequest}
 use Rattle.rkt_demo.proofs.script.parse_script.Goals as goal
 
 pub returns-in-Err-Refused-clause-line : goal.returns-in-Err-Refused-clause-line
@@ -14,15 +15,12 @@ loop-rest-preserved c =
     let line = c.first_line.result.0.now in
     let after = c.first_line.result.1.now in
     let lines = c.first_line.ensures.lines in
-    let content : IsContent (content_of line) = rw c.content_of.ensures at c.in-Ok.ensures.good in
-    let here : IsGood c.loop-rest.room line = (omega arith, content) in
-    let asked : option_to_list c.in-Ok.head ≡ asked_by (content_of line) = c.in-Ok.ensures.asked ∙ ap asked_by c.content_of.ensures in
-    let pushed = c.in_ok-push_any-in-Ok.ensures ∙ ap (λ (hs : List Head). c.loop-rest.heads.items ++ hs) asked in
-    let heads : c.push_any.new.heads.items ++ heads_of (lines_of after) ≡ c.loop-rest.heads.items ++ heads_of (lines_of c.loop-rest.rest.now) =
-    ap (λ (hs : List Head). hs ++ heads_of (lines_of after)) pushed ∙ append_assoc c.loop-rest.heads.items (asked_by (content_of line)) (heads_of (lines_of after))
-    ∙ rw lines refl in (
-      λ good. inv.0 (rw lines (here, good)),
-      λ number bad. inv.1 number (rw lines (inr (here, bad))),
-      heads ∙ inv.2,
+    let content : IsContent c.loop-rest.requests.items (content_of line) = rw c.content_of.ensures at c.in-Ok.ensures.good in
+    let here : IsGood c.loop-rest.room c.loop-rest.requests.items line = (omega arith, content) in
+    let read : c.read_line.new.requests.items ≡ add_line c.loop-rest.requests.items (content_of line) = c.in-Ok.ensures.read ∙ ap (add_line c.loop-rest.requests.items) c.content_of.ensures in (
+      λ good. inv.0 (rw lines (here, rw (sym read) good)),
+      λ number bad. inv.1 number (rw lines (inr (here, rw (sym read) bad))),
+      ap (λ (rs : List ScriptRequest). fold (λ requests l. add_line requests (content_of l)) rs (lines_of after)) read
+          ∙ ap (fold (λ requests l. add_line requests (content_of l)) c.loop-rest.requests.items) (sym lines) ∙ inv.2,
       omega (arith, inv.3, ap length c.first_line.ensures.parts, length-append line after, c.first_line.ensures.moves),
     )

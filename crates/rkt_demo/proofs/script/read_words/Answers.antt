@@ -1,10 +1,10 @@
-use Rattle.std.proofs.Common.{◌≡◌, ◌∙◌, ◌<◌, length, lit<, ap, sym, subst, arith}
+use Rattle.std.proofs.Common.{◌≡◌, ◌∙◌, ◌<◌, length, lit<, ap, arith}
 use Rattle.std.specs.List.{position_or_len, before_first, after_first}
 use Rattle.std.proofs.lemmas.Bool.{false≢true}
 use Rattle.std.proofs.lemmas.Grind.{common_steps}
-use Rattle.rkt_demo.specs.Script.{is_space, is_word, is_capital, is_visible, IsServed}
+use Rattle.rkt_demo.specs.Script.{is_space, is_word, is_capital, is_visible}
 use Rattle.rkt_demo.proofs.Requests.{IsUtf8-request, request_within, request_cut}
-use Rattle.rkt_demo.proofs.script.read_words.Goals.{else-is_method-via-then-is_method+then-is_target+else-is_served, else-is_method-via-then-is_method+else-is_target, else-is_method-via-else-is_method}
+use Rattle.rkt_demo.proofs.script.read_words.Goals.{else-is_method-via-then-is_method+else-is_target, else-is_method-via-else-is_method}
 use Rattle.rkt_demo.proofs.script.read_words.Goals as goal
 
 pub returns-in_default-clause-refused : goal.returns-in_default-clause-refused
@@ -25,7 +25,6 @@ returns-else-is_method-clause-refused c method target is =
     let method_is : c.in-Some.method.now ≡ method = split.0 ∙ ap (before_first is_space) text ∙ cut.0 in
     let target_is : c.in-Some.target.now ≡ target = split.1 ∙ ap (after_first is_space) text ∙ cut.1 in
     elim c.else-is_method.branch [
-      | else-is_method-via-then-is_method+then-is_target+else-is_served w ↦ false≢true (sym w.if-is_served.false ∙ w.is_served.ensures.1 (subst IsServed (sym method_is) is.served))
       | else-is_method-via-then-is_method+else-is_target w ↦ false≢true (w.if-is_target.ensures ∙ ap (is_word is_visible) target_is ∙ is.visible)
       | else-is_method-via-else-is_method w ↦ false≢true (w.if-is_method.ensures ∙ ap (is_word is_capital) method_is ∙ is.letters)
     ]

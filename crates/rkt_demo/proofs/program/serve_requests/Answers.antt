@@ -3,8 +3,9 @@ use Rattle.std.specs.Prelude.{IfOk}
 use Rattle.rkt_serve.specs.Memory.{LinkInMemory, ListenerInMemory, asked_of, listener_meaning}
 use Rattle.rkt_demo.specs.Sample.{IsSample}
 use Rattle.rkt_demo.specs.Shown.{ShownFrom}
+use Rattle.rkt_demo.proofs.Once.{Spelling}
 use Rattle.rkt_demo.proofs.Serving.{launched_shown}
-use Rattle.rkt_demo.proofs.program.serve_heads.Goals as goal
+use Rattle.rkt_demo.proofs.program.serve_requests.Goals as goal
 
 -- a fact of what was answered, by another one
 if_ok : {X E : Type 0} (P Q : X → Type 0) (made : Result X E) → ((x : X) → P x → Q x) → IfOk made P → IfOk made Q
@@ -15,11 +16,12 @@ pub returns-in-Ok : goal.returns-in-Ok
 returns-in-Ok g c =
     let launched = c.in-Ok.ensures in
     let window = (g.C.Clock.meaning c.args.clock).window in
+    let laws : Spelling = record { origins = c.says_what_it_spells.ensures; hosts = c.spells_one_host.ensures; media = c.spells_one_media_type.ensures.media; accept = c.spells_one_media_type.ensures.accept; preferred = c.spells_one_media_type.ensures.preferred } in
     let sample : IsSample c.in-Ok.launched.rocket.tables = subst IsSample (sym launched.tables) c.in_ok-rocket.ensures in
     let offered : c.in_ok-listener.listener.offered ≡ c.in_ok-links.links.items = ap (λ (l : ListenerInMemory). l.offered) c.in_ok-listener.ensures.made in
     let given = launched.offers (map asked_of c.in_ok-listener.listener.offered) refl ∙ ap (λ (ls : List LinkInMemory). Some (map asked_of ls)) offered in
     if_ok _ _ c.print_history-text.result (λ text printed.
-    subst (λ (t : List ℕ). ShownFrom window 0 c.args.heads.items t) (sym printed.2)
-    (launched_shown window c.in-Ok.launched.rocket.tables (listener_meaning c.in-Ok.launched.listener).given c.in-Ok.launched.history.events printed.0 c.in_ok-links.links.items c.args.heads.items
-    sample c.in_ok-links.ensures.asked given launched.requests launched.moments launched.entries printed.1))
+    let shown = launched_shown laws window c.in-Ok.launched.rocket.tables sample (listener_meaning c.in-Ok.launched.listener).given c.in-Ok.launched.history.events printed.0 c.in_ok-links.links.items c.args.requests.items
+    c.in_ok-links.ensures.asked given launched.requests launched.moments launched.entries printed.1 in
+    (shown.0, subst (λ (t : List ℕ). ShownFrom window shown.0 0 c.args.requests.items t) (sym printed.2) shown.1))
     c.print_history-text.ensures

@@ -1,0 +1,209 @@
+-- An exchange of the sample makes one response of one request, whatever the moments.
+use Rattle.std.proofs.Common.{◌≡◌, ◌==◌, ◌||◌, ℕ, List, [], ◌∷◌, Bool, true, false, Option, Some, None, codes, if◌then◌else◌, is_some, length, take, refl, ap, ◌∙◌, sym, subst}
+use Rattle.std.proofs.lemmas.Option.{same_Some}
+use Rattle.std.specs.Prelude.{unwrap_or}
+use Rattle.rkt_cookie.specs.Cookie.{Parts}
+use Rattle.rkt_fairing.specs.Callbacks.{RequestAt}
+use Rattle.rkt_fairing.specs.InSlot.{shielded}
+use Rattle.rkt_http.specs.Headers.{group_of}
+use Rattle.rkt_http.specs.declared.status.Status.{Status}
+use Rattle.rkt_life.specs.declared.no_fairing.NoFairing.{NoFairing}
+use Rattle.rkt_lifecycle.specs.Beginning.{Over}
+use Rattle.rkt_lifecycle.specs.Dressed.{dressed, pending_cookies, with_body_rule, with_cookies, with_server, without_content}
+use Rattle.rkt_lifecycle.specs.Lifecycle.{Ends, Lives, Opens}
+use Rattle.rkt_lifecycle.specs.Overridden.{overridden}
+use Rattle.rkt_lifecycle.specs.Relations.{Relations, callbacks}
+use Rattle.rkt_lifecycle.specs.Tables.{table_of}
+use Rattle.rkt_lifecycle.specs.declared.ended.RunOf.{RunOf}
+use Rattle.rkt_media.specs.Media.{Media}
+use Rattle.rkt_message.specs.Body.{stripped}
+use Rattle.rkt_message.specs.Response.{ResponseOf, with_body}
+use Rattle.rkt_message.specs.declared.content.Content.{Content}
+use Rattle.rkt_message.specs.declared.content.Content.TheVariants as content
+use Rattle.rkt_request.specs.Lent.{Kept}
+use Rattle.rkt_request.specs.Seen.{IsContentType, Seen}
+use Rattle.rkt_request.specs.declared.bad.Bad.{Bad}
+use Rattle.rkt_routing.specs.Found.{Found}
+use Rattle.rkt_routing.specs.Routed.{Finds, Routes, is_head}
+use Rattle.rkt_routing.specs.declared.run.Call.{Call}
+use Rattle.rkt_sample.specs.Bodies.{IsSteadyBody, whole}
+use Rattle.rkt_sample.specs.Catching.{catch_calling}
+use Rattle.rkt_sample.specs.Routing.{route_calling}
+use Rattle.rkt_sample.specs.declared.catcher.SampleCatcher.{SampleCatcher}
+use Rattle.rkt_sample.specs.declared.route.SampleRoute.{SampleRoute}
+use Rattle.rkt_serve.specs.Asked.{GivesBody, IsUntouched}
+use Rattle.rkt_serve.specs.Lifecycle.{body_from, over_as}
+use Rattle.rkt_serve.specs.Serving.{callbacks_of, gates_of}
+use Rattle.rkt_shield.specs.Shield.{default_headers}
+use Rattle.rkt_source.specs.Memory.{SourceInMemory, source_meaning}
+use Rattle.rkt_demo.proofs.Cookies.{AddedAlike, OnlyAdds, pending_alike}
+use Rattle.rkt_demo.proofs.Once.{Spelling, content_type_once, incomes_alike, tables_once}
+use Rattle.rkt_demo.proofs.Opened.{opened_so}
+use Rattle.rkt_demo.proofs.RoutedOnce.{SameFound, routes_once}
+use Rattle.rkt_demo.proofs.SampleCalls.{BodiesAlike, Body, HasNoSource, IsAtHand, Response, calls_once, like}
+use Rattle.rkt_demo.proofs.Shielding.{answered_shielded, asked_nothing}
+use Rattle.rkt_demo.specs.Sample.{IsSample, SampleTables}
+use Rattle.rkt_demo.specs.Shown.{IsMade, LeadsTo, asked_for, served_in}
+use Rattle.rkt_demo.specs.declared.script.ScriptRequest.{ScriptRequest}
+
+-- what is found is dressed, shielded, and kept to the body rule
+abbrev finished : List ℕ → Bool → List Parts → Response → Response
+finished ident head cookies response = with_body_rule head (shielded default_headers (with_server ident (with_cookies response cookies)))
+
+-- each of two has no source
+either_at_hand : (t : Bool) (one other : Response) → HasNoSource one → HasNoSource other → HasNoSource (if t then one else other)
+either_at_hand true one other here there = here
+either_at_hand false one other here there = there
+
+stripped_at_hand : (of_ : Content SourceInMemory) (chunk : ℕ) → IsAtHand (stripped (record { content = of_; chunk = chunk })).content
+stripped_at_hand content.None chunk = tt
+stripped_at_hand content.UnsizedNone chunk = tt
+stripped_at_hand (content.Sized rest size) chunk = tt
+stripped_at_hand (content.Phantom length size) chunk = tt
+stripped_at_hand (content.Streamed stream) chunk = tt
+
+ruled_at_hand : (head : Bool) (response : Response) → HasNoSource response → HasNoSource (with_body_rule head response)
+ruled_at_hand head response here =
+    either_at_hand (unwrap_or response.status 200 == 204) (without_content response) (if head || (unwrap_or response.status 200 == 304) then with_body response (stripped response.body) else response) tt
+    (either_at_hand (head || (unwrap_or response.status 200 == 304)) (with_body response (stripped response.body)) response (stripped_at_hand response.body.content response.body.chunk) here)
+
+named_at_hand : (ident : List ℕ) (response : Response) → HasNoSource response → HasNoSource (with_server ident response)
+named_at_hand ident response here = either_at_hand ((length ident == 0) || is_some (group_of response.headers (codes "Server"))) response _ here here
+
+finished_at_hand : (ident : List ℕ) (head : Bool) (cookies : List Parts) (response : Response) → HasNoSource response → HasNoSource (finished ident head cookies response)
+finished_at_hand ident head cookies response here = ruled_at_hand head (shielded default_headers (with_server ident (with_cookies response cookies))) (named_at_hand ident (with_cookies response cookies) here)
+
+-- the body that an untouched source gives is steady
+steady_from : (source : SourceInMemory) (request : ScriptRequest) → GivesBody (asked_for request) (source_meaning source) → IsSteadyBody source_meaning (body_from source)
+steady_from source request gives = record { never_faults = gives.never_faults; unwarned = refl }
+
+bytes_from : (source : SourceInMemory) (request : ScriptRequest) → IsUntouched (source_meaning source) → GivesBody (asked_for request) (source_meaning source) → whole source_meaning (body_from source) ≡ Some request.body
+bytes_from source request untouched gives =
+    let bytes : source.bytes ≡ request.body = same_Some source.bytes request.body gives.whole in
+    let none : source.at ≡ 0 = untouched.none_taken in
+    rw (none, bytes) refl
+
+-- a source of these bytes
+record FromSource (source : SourceInMemory) (bytes : List ℕ) : Type 0 where
+  pub all : whole source_meaning (body_from source) ≡ Some bytes
+  pub steady : IsSteadyBody source_meaning (body_from source)
+
+from_source : (source : SourceInMemory) (request : ScriptRequest) → IsUntouched (source_meaning source) → GivesBody (asked_for request) (source_meaning source) → FromSource source request.body
+from_source source request untouched gives = record { all = bytes_from source request untouched gives; steady = steady_from source request gives }
+
+-- a request with its method, over a body with these bytes
+record OpenedAs (request : Seen ℕ) (bytes : List ℕ) (kept : Kept ℕ) (opened : RequestAt ℕ Body ℕ) : Type 0 where
+  pub content_type : Option Media
+  pub read : IsContentType request.headers content_type
+  pub request_is : opened.request ≡ overridden content_type (take 14 bytes) request
+  pub all : whole source_meaning opened.body ≡ Some bytes
+  pub steady : IsSteadyBody source_meaning opened.body
+  pub kept_is : opened.kept ≡ kept
+
+-- a jar in which nothing has changed
+begun_alike : (one other : Kept ℕ) → one.jar.log ≡ [] → other.jar.log ≡ [] → one.jar.floor ≡ 0 → other.jar.floor ≡ 0 → AddedAlike one other
+begun_alike one other log log' floor floor' = record { log = log' ∙ sym log; floor = floor' ∙ sym floor; adds = subst OnlyAdds (sym log) tt }
+
+-- two responses are one, which has no source
+abbrev pub OneResponse : Response → Response → Type 0
+OneResponse response response' = (response' ≡ response) × HasNoSource response
+
+module _ (laws : Spelling) (window window' : Option (ℕ × ℕ)) (tables : SampleTables) (sample : IsSample tables) where
+  abbrev Rel : Option (ℕ × ℕ) → Relations ℕ Body ℕ SourceInMemory NoFairing (Unit {0}) (Unit {0}) SampleRoute (Option Body) SampleCatcher Status
+  Rel w = callbacks_of (served_in w) tables
+
+  -- what routing finds of one request
+  found_once : (faults : List Bad) (request : Seen ℕ) (body body' : Body) (kept kept' : Kept ℕ) (calls calls' : List Call) (found found' : Found ℕ ℕ SourceInMemory) → BodiesAlike body body' → AddedAlike kept kept'
+      → Routes (callbacks (Rel window)) (table_of tables) faults (record { request = request; body = body; kept = kept }) calls (Finds found)
+      → Routes (callbacks (Rel window')) (table_of tables) faults (record { request = request; body = body'; kept = kept' }) calls' (Finds found') → SameFound like found found'
+  found_once faults request body body' kept kept' calls calls' found found' bodies kepts finds finds' =
+      routes_once like (route_calling source_meaning) catch_calling (gates_of window tables) (gates_of window' tables) (table_of tables)
+      (calls_once laws (gates_of window tables) (gates_of window' tables) refl refl (table_of tables)) found found' faults request body body' kept kept' calls calls' bodies kepts finds finds'
+
+  -- what a request is once it has its method
+  opened_as : (w : Option (ℕ × ℕ)) (request : Seen ℕ) (source : SourceInMemory) (bytes : List ℕ) (kept : Kept ℕ) (opened : RequestAt ℕ Body ℕ) → FromSource source bytes
+      → Opens (Rel w) (record { request = request; body = body_from source; kept = kept }) opened → OpenedAs request bytes kept opened
+  opened_as w request source bytes kept opened from opens =
+      let so = opened_so (gates_of w tables) refl source bytes opens.front opened.body from.all from.steady opens.peeks in
+      record {
+        content_type = opens.request.content_type;
+        read = opens.request.read;
+        request_is = opens.request.request ∙ ap (λ (front : List ℕ). overridden opens.request.content_type front request) so.front;
+        all = so.all;
+        steady = so.steady;
+        kept_is = opens.kept;
+      }
+
+  -- what comes of what was found
+  finishes : (w : Option (ℕ × ℕ)) (at : RequestAt ℕ Body ℕ) (calls : List Call) (over : Over ℕ SourceInMemory) (lives : Lives (Rel w) tables at calls over)
+      → over.response ≡ finished tables.config.ident (is_head lives.opened.request.method) (pending_cookies lives.found.kept over.moment) lives.found.response
+  finishes w at calls over lives =
+      let asked : lives.asked ≡ lives.opened = asked_nothing (gates_of w tables) tables.config.turns tables.fairings lives.opened lives.asked lives.before sample.fairings lives.asks in
+      let left = answered_shielded (gates_of w tables) tables.config.turns tables.fairings (dressed tables.config.ident over.moment lives.found) lives.left lives.behind sample.fairings lives.answers in
+      let head : is_head lives.asked.request.method ≡ is_head lives.opened.request.method = ap (λ (a : RequestAt ℕ Body ℕ). is_head a.request.method) asked in
+      lives.response ∙ ap (λ (h : Bool). with_body_rule h lives.left.response) head ∙ ap (with_body_rule (is_head lives.opened.request.method)) left
+
+  routed_of : (w : Option (ℕ × ℕ)) (at : RequestAt ℕ Body ℕ) (calls : List Call) (over : Over ℕ SourceInMemory) (lives : Lives (Rel w) tables at calls over)
+      → Routes (callbacks (Rel w)) (table_of tables) [] lives.opened lives.between (Finds lives.found)
+  routed_of w at calls over lives =
+      let asked : lives.asked ≡ lives.opened = asked_nothing (gates_of w tables) tables.config.turns tables.fairings lives.opened lives.asked lives.before sample.fairings lives.asks in
+      subst (λ (a : RequestAt ℕ Body ℕ). Routes (callbacks (Rel w)) (table_of tables) [] a lives.between (Finds lives.found)) asked lives.finds
+
+  -- where two requests have their methods
+  lives_once : (calls calls' : List Call) (over over' : Over ℕ SourceInMemory) (first first' : RequestAt ℕ Body ℕ) (lives : Lives (Rel window) tables first calls over)
+      (lives' : Lives (Rel window') tables first' calls' over') → lives'.opened.request ≡ lives.opened.request → BodiesAlike lives.opened.body lives'.opened.body → AddedAlike lives.opened.kept lives'.opened.kept
+      → OneResponse over.response over'.response
+  lives_once calls calls' over over' first first' lives lives' request bodies kepts =
+      let finds' : Routes (callbacks (Rel window')) (table_of tables) [] (record { request = lives.opened.request; body = lives'.opened.body; kept = lives'.opened.kept }) lives'.between (Finds lives'.found) =
+      subst (λ (r : Seen ℕ). Routes (callbacks (Rel window')) (table_of tables) [] (record { request = r; body = lives'.opened.body; kept = lives'.opened.kept }) lives'.between (Finds lives'.found)) request
+      (routed_of window' first' calls' over' lives') in
+      let same = found_once [] lives.opened.request lives.opened.body lives'.opened.body lives.opened.kept lives'.opened.kept lives.between lives'.between lives.found lives'.found bodies kepts
+      (routed_of window first calls over lives) finds' in
+      let ident : List ℕ = tables.config.ident in
+      let head : Bool = is_head lives.opened.request.method in
+      let head' : is_head lives'.opened.request.method ≡ head = ap (λ (r : Seen ℕ). is_head r.method) request in
+      let cookies : pending_cookies lives'.found.kept over'.moment ≡ pending_cookies lives.found.kept over.moment = pending_alike lives.found.kept lives'.found.kept over.moment over'.moment same.kept in
+      let one = finishes window first calls over lives in
+      let other = finishes window' first' calls' over' lives' in (
+        other ∙ ap (λ (h : Bool). finished ident h (pending_cookies lives'.found.kept over'.moment) lives'.found.response) head'
+            ∙ ap (λ (cs : List Parts). finished ident head cs lives'.found.response) cookies ∙ ap (finished ident head (pending_cookies lives.found.kept over.moment)) same.response ∙ sym one,
+        subst HasNoSource (sym one) (finished_at_hand ident head (pending_cookies lives.found.kept over.moment) lives.found.response same.good),
+      )
+
+  ends_once : (faults : List Bad) (request : Seen ℕ) (source source' : SourceInMemory) (bytes : List ℕ) (kept kept' : Kept ℕ) (calls calls' : List Call) (over over' : Over ℕ SourceInMemory) → FromSource source bytes
+      → FromSource source' bytes → AddedAlike kept kept' → Ends (Rel window) tables faults (record { request = request; body = body_from source; kept = kept }) calls over
+      → Ends (Rel window') tables faults (record { request = request; body = body_from source'; kept = kept' }) calls' over' → OneResponse over.response over'.response
+  ends_once [] request source source' bytes kept kept' calls calls' over over' from from' kepts lives lives' =
+      let one = opened_as window request source bytes kept lives.opened from lives.opens in
+      let other = opened_as window' request source' bytes kept' lives'.opened from' lives'.opens in
+      let content_type : other.content_type ≡ one.content_type = content_type_once laws request other.content_type one.content_type other.read one.read in
+      let same : lives'.opened.request ≡ lives.opened.request =
+      other.request_is ∙ ap (λ (t : Option Media). overridden t (take 14 bytes) request) content_type ∙ sym one.request_is in
+      lives_once calls calls' over over' _ _ lives lives' same
+      (record { bytes = other.all ∙ sym one.all; steady = one.steady; steady_too = other.steady }) (rw (one.kept_is, other.kept_is) kepts)
+  ends_once (fault ∷ faults) request source source' bytes kept kept' calls calls' over over' from from' kepts refuses refuses' =
+      let bodies : BodiesAlike (body_from source) (body_from source') = record { bytes = from'.all ∙ sym from.all; steady = from.steady; steady_too = from'.steady } in
+      let same = found_once (fault ∷ faults) request (body_from source) (body_from source') kept kept' calls calls' refuses.found refuses'.found bodies kepts refuses.finds refuses'.finds in (
+        refuses'.response ∙ same.response ∙ sym refuses.response,
+        subst HasNoSource (sym refuses.response) same.good,
+      )
+
+  pub leads_once : (request : ScriptRequest) (run run' : RunOf ℕ) (response response' : Response) → LeadsTo window tables (asked_for request) run response → LeadsTo window' tables (asked_for request) run' response'
+      → OneResponse response response'
+  leads_once request run run' response response' life life' =
+      let came = incomes_alike laws request.head tables.config tables.managed life.request life'.request life.jar life'.jar life.faults life'.faults life.incoming life'.incoming in
+      let kept : Kept ℕ = record { jar = life.jar; cache = []; shutdown = life.before } in
+      let kept' : Kept ℕ = record { jar = life'.jar; cache = []; shutdown = life'.before } in
+      let kepts = begun_alike kept kept' came.log came.log' came.floor came.floor' in
+      let leads' : Ends (Rel window') tables life.faults (record { request = life.request; body = body_from life'.source; kept = kept' }) run'.calls (over_as run' response' life'.after) =
+      subst (λ (r : Seen ℕ). Ends (Rel window') tables life.faults (record { request = r; body = body_from life'.source; kept = kept' }) run'.calls (over_as run' response' life'.after)) came.request_is
+      (subst (λ (fs : List Bad). Ends (Rel window') tables fs (record { request = life'.request; body = body_from life'.source; kept = kept' }) run'.calls (over_as run' response' life'.after)) came.faults_are life'.leads) in
+      ends_once life.faults life.request life.source life'.source request.body kept kept' run.calls run'.calls (over_as run response life.after) (over_as run' response' life'.after)
+      (from_source life.source request life.untouched life.gives) (from_source life'.source request life'.untouched life'.gives) kepts life.leads leads'
+
+-- so an exchange makes one response
+pub made_once : (laws : Spelling) (window window' : Option (ℕ × ℕ)) (request : ScriptRequest) (response response' : Response) → IsMade window request response → IsMade window' request response' → OneResponse response response'
+made_once laws window window' request response response' made made' =
+    let tables = tables_once made.tables made'.tables made.sample made'.sample in
+    leads_once laws window window' made.tables made.sample request made.run made'.run response response' made.lifecycle
+    (subst (λ (t : SampleTables). LeadsTo window' t (asked_for request) made'.run response') tables made'.lifecycle)

@@ -1,0 +1,77 @@
+-- A script is shown as one text.
+use Rattle.std.proofs.Common.{◌≡◌, ◌++◌, ◌+◌, ℕ, List, [], ◌∷◌, Bool, true, false, Option, Some, None, map, flat_map, refl, ap, ◌∙◌, sym, subst, append-nil}
+use Rattle.std.specs.Prelude.{MatchBool}
+use Rattle.std.specs.List.{concat}
+use Rattle.rkt_message.specs.Body.{left_of}
+use Rattle.rkt_message.specs.Sent.{Sent, has_head, head_of}
+use Rattle.rkt_message.specs.declared.content.Content.{Content}
+use Rattle.rkt_message.specs.declared.content.Content.TheVariants as content
+use Rattle.rkt_message.specs.declared.piece.Piece.{Piece}
+use Rattle.rkt_message.specs.declared.piece.Piece.TheVariants.{Chunk, End}
+use Rattle.rkt_source.specs.Memory.{SourceInMemory, source_meaning}
+use Rattle.rkt_demo.proofs.LivesOnce.{made_once}
+use Rattle.rkt_demo.proofs.Once.{Spelling}
+use Rattle.rkt_demo.proofs.SampleCalls.{IsAtHand, Response}
+use Rattle.rkt_demo.specs.Output.{answered_section, body_bytes, failed_section, head_text, sent_section}
+use Rattle.rkt_demo.specs.Script.{lines_of, requests_of}
+use Rattle.rkt_demo.specs.Shown.{IsAnswered, IsSection, IsServed, Shown, ShownFrom, ShownOnce}
+use Rattle.rkt_demo.specs.declared.script.ScriptRequest.{ScriptRequest}
+
+heads_of_chunks : (chunks : List (List ℕ)) → flat_map head_text (map Chunk chunks ++ End ∷ []) ≡ []
+heads_of_chunks [] = refl
+heads_of_chunks (c ∷ cs) = heads_of_chunks cs
+
+bodies_of_chunks : (chunks : List (List ℕ)) → flat_map body_bytes (map Chunk chunks ++ End ∷ []) ≡ concat chunks
+bodies_of_chunks [] = refl
+bodies_of_chunks (c ∷ cs) = ap (λ (l : List ℕ). c ++ l) (bodies_of_chunks cs)
+
+-- however a body is cut, its section is one text
+section_of : (k : ℕ) (response : Response) (body : List ℕ) (pieces : List Piece) → left_of source_meaning response.body.content ≡ Some body → Sent source_meaning response pieces
+    → sent_section k pieces ≡ answered_section k (head_text (head_of response)) body
+section_of k response body pieces left sent =
+    let head : Piece = head_of response in
+    let chunks : List (List ℕ) = sent.2.0 in
+    let is : pieces ≡ head ∷ (map Chunk chunks ++ End ∷ []) = sent.3 ∙ ap (λ (rest : List Piece). head ∷ rest) sent.2.3 in
+    let heads : flat_map head_text pieces ≡ head_text head = ap (flat_map head_text) is ∙ ap (λ (l : List ℕ). head_text head ++ l) (heads_of_chunks chunks) ∙ append-nil (head_text head) in
+    let bytes : flat_map body_bytes pieces ≡ body = ap (flat_map body_bytes) is ∙ bodies_of_chunks chunks ∙ sent.2.2 body left in
+    rw (heads, bytes) refl
+
+-- the bytes of what has no source
+bytes_left : (of_ : Content SourceInMemory) → IsAtHand of_ → (body : List ℕ) × (left_of source_meaning of_ ≡ Some body)
+bytes_left content.None here = ([], refl)
+bytes_left content.UnsizedNone here = ([], refl)
+bytes_left (content.Sized rest size) here = (rest, refl)
+bytes_left (content.Phantom length size) here = ([], refl)
+bytes_left (content.Streamed stream) here = absurd here
+
+answered_once : (k : ℕ) (response : Response) (section section' : List ℕ) → IsAtHand response.body.content → IsAnswered k response section → IsAnswered k response section' → section' ≡ section
+answered_once k response section section' here answered answered' =
+    let left = bytes_left response.body.content here in
+    answered'.text ∙ section_of k response left.0 answered'.pieces left.1 answered'.sent ∙ sym (section_of k response left.0 answered.pieces left.1 answered.sent) ∙ sym answered.text
+
+told_once : (t : Bool) (k : ℕ) (response : Response) (section section' : List ℕ) → IsAtHand response.body.content → MatchBool t (IsAnswered k response section) (section ≡ failed_section k)
+    → MatchBool t (IsAnswered k response section') (section' ≡ failed_section k) → section' ≡ section
+told_once true k response section section' here told told' = answered_once k response section section' here told told'
+told_once false k response section section' here told told' = told' ∙ sym told
+
+served_once : (laws : Spelling) (window window' : Option (ℕ × ℕ)) (k : ℕ) (request : ScriptRequest) (section section' : List ℕ) → IsServed window k request section → IsServed window' k request section' → section' ≡ section
+served_once laws window window' k request section section' served served' =
+    let one = made_once laws window window' request served.response served'.response served.made served'.made in
+    told_once (has_head served.response) k served.response section section' one.1 served.told
+    (subst (λ (r : Response). MatchBool (has_head r) (IsAnswered k r section') (section' ≡ failed_section k)) one.0 served'.told)
+
+section_once : (laws : Spelling) (window window' : Option (ℕ × ℕ)) (starved : Bool) (k : ℕ) (request : ScriptRequest) (section section' : List ℕ) → IsSection starved window k request section
+    → IsSection starved window' k request section' → section' ≡ section
+section_once laws window window' true k request section section' is is' = is' ∙ sym is
+section_once laws window window' false k request section section' is is' = served_once laws window window' k request section section' is is'
+
+from_once : (laws : Spelling) (window window' : Option (ℕ × ℕ)) (starved : ℕ → Bool) (k : ℕ) (requests : List ScriptRequest) (text text' : List ℕ) → ShownFrom window starved k requests text
+    → ShownFrom window' starved k requests text' → text' ≡ text
+from_once laws window window' starved k [] text text' is is' = is' ∙ sym is
+from_once laws window window' starved k (request ∷ requests) text text' is is' =
+    let first : is'.0 ≡ is.0 = section_once laws window window' (starved k) k request is.0 is'.0 is.2 is'.2 in
+    let rest : is'.1 ≡ is.1 = from_once laws window window' starved (k + 1) requests is.1 is'.1 is.3 is'.3 in
+    is'.4 ∙ rw (first, rest) (sym is.4)
+
+pub one_text : Spelling → ShownOnce
+one_text laws window window' starved script text text' is is' = from_once laws window window' starved 0 (requests_of (lines_of script)) text text' is is'

@@ -1,0 +1,13 @@
+//! Laws of what the program writes. Their functions do nothing.
+ghost use Rattle.rkt_demo.specs.Shown.{ShownOnce};
+
+use rkt_http::{says_what_it_spells, spells_one_host, spells_one_media_type};
+
+/// A law of texts: a script is shown as one text, whatever the moments are, but for the requests that had no memory.
+pub fn shown_once()
+    ensures { ShownOnce }
+{
+    says_what_it_spells();
+    spells_one_host();
+    spells_one_media_type();
+}
