@@ -53,12 +53,12 @@ record ServedFor (window : Option (ℕ × ℕ)) (tables : SampleTables) (request
   pub timed : ForSome entry.run (λ run. IsWithin window run.moment)
 
 -- there was no memory for what ended so
-is_starved : Ending → Bool
+abbrev is_starved : Ending → Bool
 is_starved Starved = true
 is_starved Answered = false
 is_starved (Failed failure) = false
 
-entry_starved : Option (Option Kept) → Bool
+abbrev entry_starved : Option (Option Kept) → Bool
 entry_starved (Some (Some entry)) = is_starved entry.end
 entry_starved (Some None) = false
 entry_starved None = false
@@ -137,7 +137,7 @@ module _ (laws : Spelling) (window : Option (ℕ × ℕ)) (tables : SampleTables
       let count : admitted events ≡ length requests = all asks given_is ∙ length-map requests asked_for in
       let starved : ℕ → Bool = λ n. entry_starved (slice_get entries n) in (
         starved,
-        shown_from starved 0 entries requests (are.count ∙ count) (λ i. refl) (λ i request there.
+        shown_from starved 0 entries requests (are.count ∙ count) (λ i. let same : 0 + i ≡ i = omega arith in ap starved same) (λ i request there.
         let within : i < admitted events = omega (arith, slice_get_within requests i request there, count) in
         let entry = has i within in
         let asked : Some (asked_of entry.entry.link) ≡ Some (asked_for request) =

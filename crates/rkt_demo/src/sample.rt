@@ -63,11 +63,10 @@ fn with_routes(
     let routes = routes(alloc)?;
     match rocket.mount(alloc, "/", routes) {
         Ok(mounted) => Ok(mounted),
-        Err(Handed {
-            error: Want::Refused(_),
-            ..
-        }) => unreachable!(),
-        Err(_) => Err(AllocError),
+        Err(Handed { rocket: _, error }) => match error {
+            Want::Refused(_) => unreachable!(),
+            Want::NoMemory => Err(AllocError),
+        },
     }
 }
 
@@ -83,11 +82,10 @@ fn with_catchers(
     let catchers = catchers(alloc)?;
     match rocket.register(alloc, "/", catchers) {
         Ok(registered) => Ok(registered),
-        Err(Handed {
-            error: Want::Refused(_),
-            ..
-        }) => unreachable!(),
-        Err(_) => Err(AllocError),
+        Err(Handed { rocket: _, error }) => match error {
+            Want::Refused(_) => unreachable!(),
+            Want::NoMemory => Err(AllocError),
+        },
     }
 }
 

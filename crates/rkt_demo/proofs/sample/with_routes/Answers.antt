@@ -1,0 +1,15 @@
+use Rattle.std.proofs.Common.{◌++◌, ◌∙◌, List, ap, codes, map, ℕ}
+use Rattle.rkt_fairing.specs.Below.{route_below}
+use Rattle.rkt_route.specs.declared.route.Route.{Route}
+use Rattle.rkt_sample.specs.declared.route.SampleRoute.{SampleRoute}
+use Rattle.rkt_uri.specs.Origin.{target_of}
+use Rattle.rkt_demo.proofs.Mounting.{root_spelled, route_bases, routes_below}
+use Rattle.rkt_demo.proofs.sample.with_routes.Goals as goal
+
+pub returns-in-Ok : goal.returns-in-Ok
+returns-in-Ok c =
+    c.in-Ok.ensures.ok
+    ∙ ap (λ (routes : List (Route SampleRoute ℕ)). record c.args.rocket { routes = c.args.rocket.routes ++ routes }) (ap (map (route_below (target_of (codes "/")).path)) c.in_ok-routes.ensures ∙ routes_below)
+
+pub unreachable-requires : goal.unreachable-requires
+unreachable-requires c = (rw c.in-Refused.is at c.in-Err.ensures.refused) (root_spelled, rw c.in_ok-routes.ensures (route_bases c.says_what_it_spells.ensures))
