@@ -283,7 +283,7 @@ impl<
     // Peeks at the body, and goes on behind that.
     fn peek(&self, peeking: Peeking<'a, T>, gate: Gate) -> Advance<'a, T, F, P, Q, H, K, N>
         ensures { (rule : GateRule) (first : Beginning T.Value (Body (Cancellable T.Source)) T.Cached) → GateFits rule gate
-            → IsPeeking (relations (peeks_of T.Source.meaning) (slot_request P.calling) (slot_response Q.calling) H.calling K.calling rule) first peeking.entry
+            → IsPeeking (relations (peeks_of T.Source.meaning) (slot_request P.calling) (slot_response Q.calling) H.calling K.calling rule) first self.now.tables peeking.entry
             → PolledGives (relations (peeks_of T.Source.meaning) (slot_request P.calling) (slot_response Q.calling) H.calling K.calling rule) first self.now.tables (waits_of T.Source.meaning T.Source.shuts T.Source.polled) gate result }
     {
         match peeking.poll(gate) {
@@ -299,7 +299,7 @@ impl<
         gate: Gate,
     ) -> Advance<'a, T, F, P, Q, H, K, N>
         ensures { (rule : GateRule) (first : Beginning T.Value (Body (Cancellable T.Source)) T.Cached) → GateFits rule gate
-            → WasOpened (relations (peeks_of T.Source.meaning) (slot_request P.calling) (slot_response Q.calling) H.calling K.calling rule) first (opened_at opened.entry)
+            → WasOpened (relations (peeks_of T.Source.meaning) (slot_request P.calling) (slot_response Q.calling) H.calling K.calling rule) first self.now.tables (opened_at opened.entry)
             → PolledGives (relations (peeks_of T.Source.meaning) (slot_request P.calling) (slot_response Q.calling) H.calling K.calling rule) first self.now.tables (waits_of T.Source.meaning T.Source.shuts T.Source.polled) gate result }
     {
         let PeekingOf { request, body, ctx } = opened;
