@@ -58,9 +58,10 @@ module _ {V B C S F FTask GTask H HTask K KTask N : Type 0} (rel : Relations V B
       → StandsIn rel first tables (phase.Peeking next) × WaitsIn rel first tables waits gate (phase.Peeking next)
   peeking_on waits peeking next gate is same wait on =
       let request : next.request ≡ first.at.request = ap (λ p. p.request) same ∙ is.request in
-      let kept : next.ctx.kept ≡ first.at.kept = ap (λ p. p.ctx.kept) same ∙ is.kept in
-      (record { good = is.good; request = request; kept = kept; leads = λ shown after peeks. is.leads shown after (on shown after peeks) },
-      (peeking.body, record { good = is.good; request = request; kept = kept; leads = is.leads }, wait))
+      let kept : next.ctx.kept ≡ first.at.kept = ap (λ p. p.ctx.kept) same ∙ is.kept in (
+        record { good = is.good; request = request; kept = kept; leads = λ shown after peeks. is.leads shown after (on shown after peeks) },
+        (peeking.body, record { good = is.good; request = request; kept = kept; leads = is.leads }, wait),
+      )
 
   pub peeking_done : (peeking opened : PeekingOf (Seen V) B (Lent C)) (shown : List ℕ) → IsPeeking rel first tables peeking → opened.ctx ≡ peeking.ctx → rel.peeks peeking.body shown opened.body
       → Overridden peeking.request shown opened.request → WasOpened rel first tables (opened_at opened)
@@ -97,7 +98,7 @@ module _ {V B C S F FTask GTask H HTask K KTask N : Type 0} (rel : Relations V B
   pub asking_starved : (asks : Asks V B C F FTask) (shutdown : Handle) (gate : Gate) (is : IsAsking rel first tables asks)
       → AskedGives rel.requests rel.gates is.opened asks.fairings asks.turns gate (progress.Ready (asked.Starved shutdown)) → HandsBack first.at.kept.shutdown shutdown
   asking_starved asks shutdown gate is gives =
-      subst (λ k. HandsBack k.shutdown shutdown) is.opens.opens.kept (rw (is.fairings, is.turns) at gives)
+      subst (λ k. HandsBack k.shutdown shutdown) is.opens.opens.kept gives
 
   -- it is routed
   pub routing_begins : (routing : Holding V B C H HTask K KTask N) (calls : List Call) (head : Bool) (asked : RequestAt V B C) → WasAsked rel first tables calls asked → head ≡ is_head asked.request.method

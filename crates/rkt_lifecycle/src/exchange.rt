@@ -16,9 +16,7 @@ ghost use Rattle.rkt_lifecycle.specs.Stands.{ExchangeGives, IsAnswering, IsAskin
 
 use crate::calls::{AnsweredOf, Arrival, ArrivalOf, AskedOf, Departure, DepartureOf};
 use crate::dress::{dress, keep_body_rule};
-use crate::{
-    AnsweringOf, AskingOf, Ended, EndedOf, Peeking, PeekingOf, Phase, RunOf, TablesOf,
-};
+use crate::{AnsweringOf, AskingOf, Ended, EndedOf, Peeking, PeekingOf, Phase, RunOf, TablesOf};
 use rkt_base::{NoMemory, Poll, Seq};
 use rkt_data::Gate;
 use rkt_fairing::{App, Fairing, Parts, RequestCallback, ResponseCallback};
@@ -293,11 +291,7 @@ impl<
     }
 
     // Calls fairings for the request, which has its method.
-    fn begin_asking(
-        &self,
-        opened: Peeking<'a, T>,
-        gate: Gate,
-    ) -> Advance<'a, T, F, P, Q, H, K, N>
+    fn begin_asking(&self, opened: Peeking<'a, T>, gate: Gate) -> Advance<'a, T, F, P, Q, H, K, N>
         ensures { (rule : GateRule) (first : Beginning T.Value (Body (Cancellable T.Source)) T.Cached) → GateFits rule gate
             → WasOpened (relations (peeks_of T.Source.meaning) (slot_request P.calling) (slot_response Q.calling) H.calling K.calling rule) first self.now.tables (opened_at opened.entry)
             → PolledGives (relations (peeks_of T.Source.meaning) (slot_request P.calling) (slot_response Q.calling) H.calling K.calling rule) first self.now.tables (waits_of T.Source.meaning T.Source.shuts T.Source.polled) gate result }

@@ -4,7 +4,7 @@ ghost use Rattle.std.specs.Option.{option_copied};
 ghost use Rattle.std.specs.Prelude.{◌≡◌, ◌&&◌, List, Option, option_and_then, ℕ};
 ghost use Rattle.rkt_lifecycle.specs.Overridden.{Overridden, first_field, is_form, is_post, method_in, set_method};
 ghost use Rattle.rkt_media.specs.Media.{Media};
-ghost use Rattle.rkt_request.specs.Seen.{IsContentType};
+ghost use Rattle.rkt_request.specs.Seen.{IsContentType, Seen};
 ghost use Rattle.rkt_uri.specs.Origin.{is_equals};
 
 use rkt_http::Method;
@@ -88,4 +88,12 @@ pub(crate) fn override_method<T: Types>(request: &mut Request<'_, T>, method: Op
         let method = method.unwrap_or(request.method());
         request.set_method(method);
     }
+}
+
+/// A law of requests: whatever front of its body is seen, a request is overridden as just one.
+pub fn has_one_override<T: Types>(request: &Request<'_, T>)
+    ensures some { (front : List ℕ) → (opened : Seen T.Value) × Overridden request.now front opened }
+    ensures once { (front : List ℕ) (a b : Seen T.Value) → Overridden request.now front a → Overridden request.now front b → a ≡ b }
+{
+    let _form = has_form(request);
 }

@@ -14,7 +14,7 @@ returns-clause-stands g c = λ rule.
     elim c.if-as_slice-lt1.branch [
       | in-empty w ↦ rw w.phase-is (peeking_begins (relations (peeks_of g.T.Source.Source.meaning) (slot_request g.P.RequestCallback.calling) (slot_response g.Q.ResponseCallback.calling) g.H.Handler.calling g.K.CatchHandler.calling rule) first c.args.tables.now (record { request = c.args.incoming.request; body = c.args.body; ctx = c.new-ctx.result })
           (no_faults c.args.incoming.faults (rw c.as_slice.ensures at w.in-empty.len_below)) refl refl (ap (λ x. x.kept) c.new-ctx.ensures))
-      | in_default w ↦ rw w.phase-is (refusing_begins (relations (peeks_of g.T.Source.Source.meaning) (slot_request g.P.RequestCallback.calling) (slot_response g.Q.ResponseCallback.calling) g.H.Handler.calling g.K.CatchHandler.calling rule) first c.args.tables.now w.new-in_default.result
+      | in_default w ↦ rw w.phase-is (refusing_begins (relations (peeks_of g.T.Source.Source.meaning) (slot_request g.P.RequestCallback.calling) (slot_response g.Q.ResponseCallback.calling) g.H.Handler.calling g.K.CatchHandler.calling rule) first c.args.tables.now w.new.result
           (some_faults c.args.incoming.faults (rw c.as_slice.ensures at w.in_default.len_at_least))
-          (w.new-in_default.ensures.table ∙ ap table_of c.tables.view_is) (rw (c.new-ctx.ensures, c.as_slice.ensures) at (w.new-in_default.ensures.stands rule)))
+          (w.new.ensures.table ∙ ap table_of c.tables.view_is) (rw (c.new-ctx.ensures, c.as_slice.ensures) at (w.new.ensures.stands rule)))
     ]
