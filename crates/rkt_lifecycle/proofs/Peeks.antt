@@ -1,12 +1,12 @@
 -- Peeks at a body that go on from poll to poll.
-use Rattle.std.specs.Prelude.{◌≡◌, ◌⊎◌, ◌≤◌, ◌++◌, ℕ, IsSome, IsTrue, List, Option, Some, None, length, take}
-use Rattle.std.proofs.Common.{arith, append_assoc, ap, refl, sym, subst, inl, inr, ⊎_elim, ◌∙◌}
+use Rattle.std.specs.Prelude.{◌≡◌, ◌++◌, ℕ, IsSome, List, Option, Some, None, take}
+use Rattle.std.proofs.Common.{arith, append_assoc, ap, refl, sym, inl, inr, ⊎_elim, ◌∙◌}
 use Rattle.std.proofs.lemmas.Bool.{false≢true}
-use Rattle.rkt_data.specs.Body.{Body, PeekStops, Peeked, WasRefused}
+use Rattle.rkt_data.specs.Body.{Body, Peeked, WasRefused}
 use Rattle.rkt_data.specs.Tap.{SameTap, Tapped}
 use Rattle.rkt_data.proofs.Taps.{SameTap-trans}
 use Rattle.rkt_router.specs.Calls.{GateFits, GateRule}
-use Rattle.rkt_source.specs.Source.{Faulted, Keeps, Meaning}
+use Rattle.rkt_source.specs.Source.{Keeps, Meaning}
 use Rattle.rkt_source.specs.declared.source.Gate.{Gate}
 use Rattle.rkt_lifecycle.specs.Peeks.{PeekEnds, PeekOf}
 

@@ -4,7 +4,7 @@ use Rattle.rkt_base.specs.declared.poll.Poll.{Poll}
 use Rattle.rkt_base.specs.declared.poll.Poll.TheVariants.{Pending, Ready}
 use Rattle.rkt_cancel.specs.Cancel.{Cancellable, ReadsCut, cut_meaning}
 use Rattle.rkt_data.specs.Body.{Body, FrontOf, PeekStops, Peeked, TakenIsHeld, WasRefused}
-use Rattle.rkt_data.specs.Tap.{ByGate, SameTap, Tapped, body}
+use Rattle.rkt_data.specs.Tap.{ByGate, SameTap, body}
 use Rattle.rkt_http.specs.declared.method.Method.{Method}
 use Rattle.rkt_router.specs.Calls.{GateFits, GateRule}
 use Rattle.rkt_routing.specs.declared.progress.Progress.{Progress}
