@@ -8,7 +8,7 @@ use Rattle.rkt_data.proofs.Taps.{SameTap-trans}
 use Rattle.rkt_router.specs.Calls.{GateFits, GateRule}
 use Rattle.rkt_source.specs.Source.{Keeps, Meaning}
 use Rattle.rkt_source.specs.declared.source.Gate.{Gate}
-use Rattle.rkt_lifecycle.specs.Peeks.{PeekEnds, PeekOf}
+use Rattle.rkt_lifecycle.specs.Peeks.{PeekEnds, PeekOf, Reads}
 
 -- what is kept under a Gate is kept under one that has a trip where the first has one
 keeps_under : (one other : Option ℕ) (m n : Meaning) → (IsSome one → IsSome other) → Keeps one m n → Keeps other m n
@@ -48,8 +48,8 @@ refused_after meaning trip (Some a) (Some b) (Some c) same refused =
 
 module _ {S : Type 0} (meaning : S → Meaning) (rule : GateRule) (gate : Gate) (fits : GateFits rule gate) where
   -- a peek that ends in its first poll
-  pub peek_once : (b c : Body S) (shown : List ℕ) → PeekEnds meaning 14 gate b c → shown ≡ take 14 c.held → PeekOf meaning rule 14 b shown c
-  peek_once b c shown ends is = record {
+  pub peek_once : (polled : Reads S) (b c : Body S) (shown : List ℕ) → PeekEnds meaning polled 14 gate b c → shown ≡ take 14 c.held → PeekOf meaning rule 14 b shown c
+  peek_once polled b c shown ends is = record {
     body = ends.peeked.body;
     held = ends.peeked.held;
     front = is;

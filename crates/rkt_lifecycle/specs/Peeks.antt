@@ -42,24 +42,25 @@ module _ {S : Type 0} (meaning : S → Meaning) where
     pub stops : PeekStops meaning num b c Pending
     pub by_gate : ByGate polled gate Pending b.tap c.tap
 
-  -- a poll under this Gate has left the body so, and has read enough of it
-  pub record PeekEnds (num : ℕ) (gate : Gate) (b c : Body S) : Type 0 where
+  -- a poll under this Gate has left the body so, and the peek is over; none but the last of its reads was refused
+  pub record PeekEnds (polled : Reads S) (num : ℕ) (gate : Gate) (b c : Body S) : Type 0 where
     pub peeked : Peeked meaning gate.tripped num b c
     pub stops : PeekStops meaning num b c (Ready tt)
+    pub by_gate : (last : Result (Unit {0}) SourceError) × ByGate polled gate (Ready last) b.tap c.tap
 
   -- what a poll under this Gate answers: the method that the first 14 bytes set
   abbrev pub MethodPeeked : Reads S → Gate → Body S → Body S → Poll (Option Method) → Type 0
   MethodPeeked polled gate b c Pending = PeekWaits polled 14 gate b c
-  MethodPeeked polled gate b c (Ready method) = PeekEnds 14 gate b c × (method ≡ method_in (take 14 c.held))
+  MethodPeeked polled gate b c (Ready method) = PeekEnds polled 14 gate b c × (method ≡ method_in (take 14 c.held))
 
   -- what a poll under this Gate makes of a request whose body is peeked at: only the body changes, until the peek is over and the
   -- method is set
   abbrev pub PeekGives : {V X : Type 0} → Reads S → Gate → PeekingOf (Seen V) (Body S) X → Progress (PeekingOf (Seen V) (Body S) X) (PeekingOf (Seen V) (Body S) X) → Type 0
   PeekGives polled gate p (progress.Pending q) = (q ≡ record p { body = q.body }) × PeekWaits polled 14 gate p.body q.body
   PeekGives polled gate p (progress.Ready q) =
-      (q.ctx ≡ p.ctx) × PeekEnds 14 gate p.body q.body × Overridden p.request (take 14 q.body.held) q.request
+      (q.ctx ≡ p.ctx) × PeekEnds polled 14 gate p.body q.body × Overridden p.request (take 14 q.body.held) q.request
 
--- the same of bodies whose sources may be cut off
+-- what a source means that may be cut off, and how it is read
 abbrev pub cuts : {S : Type 0} → (S → Meaning) → Cancellable S → Meaning
 cuts meaning s = cut_meaning s.stage (meaning s.io)
 
@@ -70,5 +71,6 @@ cut_reads shuts polled s gate answer t = ReadsCut shuts polled s gate answer t
 abbrev pub peeks_of : {S : Type 0} → (S → Meaning) → GateRule → Body (Cancellable S) → List ℕ → Body (Cancellable S) → Type 0
 peeks_of meaning rule b shown c = PeekOf (cuts meaning) rule 14 b shown c
 
+-- its source was Pending in the poll under this Gate
 abbrev pub waits_of : {S : Type 0} → (S → Meaning) → (S → Poll (Unit {0}) → S → Type 0) → Reads S → Gate → Body (Cancellable S) → Body (Cancellable S) → Type 0
 waits_of meaning shuts polled gate b c = PeekWaits (cuts meaning) (cut_reads shuts polled) 14 gate b c

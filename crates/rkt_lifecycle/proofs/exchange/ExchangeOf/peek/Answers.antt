@@ -3,7 +3,7 @@ use Rattle.std.proofs.Common.{refl}
 use Rattle.rkt_fairing.specs.InSlot.{slot_request, slot_response}
 use Rattle.rkt_lifecycle.proofs.Exchanging.{peeking_done, peeking_on}
 use Rattle.rkt_lifecycle.proofs.Peeks.{peek_on, peek_once}
-use Rattle.rkt_lifecycle.specs.Peeks.{cuts, peeks_of, waits_of}
+use Rattle.rkt_lifecycle.specs.Peeks.{cut_reads, cuts, peeks_of, waits_of}
 use Rattle.rkt_lifecycle.specs.Relations.{relations}
 use Rattle.rkt_lifecycle.proofs.exchange.ExchangeOf.peek.Goals as goal
 
@@ -19,4 +19,4 @@ returns-in-Ready g c = λ rule first fits is.
     let shown = take 14 c.in-Ready.opened.body.held in
     c.begin_asking.ensures rule first fits
     (peeking_done (relations (peeks_of g.T.Source.Source.meaning) (slot_request g.P.RequestCallback.calling) (slot_response g.Q.ResponseCallback.calling) g.H.Handler.calling g.K.CatchHandler.calling rule) first c.args.self.now.tables c.args.peeking c.in-Ready.opened shown is gives.0
-    (peek_once (cuts g.T.Source.Source.meaning) rule c.args.gate fits c.args.peeking.body c.in-Ready.opened.body shown gives.1 refl) gives.2)
+    (peek_once (cuts g.T.Source.Source.meaning) rule c.args.gate fits (cut_reads g.T.Source.Shut.shuts g.T.Source.Source.polled) c.args.peeking.body c.in-Ready.opened.body shown gives.1 refl) gives.2)
