@@ -1,5 +1,5 @@
 -- Where an exchange with a link begins, and under which Gates it is polled.
-use Rattle.std.specs.Prelude.{◌≡◌, ℕ, List, None, Option, Result, IsSome}
+use Rattle.std.specs.Prelude.{◌≡◌, ℕ, List, None, Result, IsSome}
 use Rattle.rkt_cancel.specs.Cancel.{Cancellable}
 use Rattle.rkt_cookie.specs.Jar.{JarParts}
 use Rattle.rkt_data.specs.Body.{Body}
