@@ -1,6 +1,5 @@
 -- That pages keep the laws of callbacks.
 use Rattle.std.specs.Prelude.{ℕ, List, Option}
-use Rattle.rkt_request.specs.Lent.{Kept}
 use Rattle.rkt_router.specs.Callbacks.{Keeps, KeepsHandler}
 use Rattle.cases_exchange.specs.Pages.{catching, trying}
 

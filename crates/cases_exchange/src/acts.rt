@@ -75,7 +75,7 @@ pub fn peeked(mut body: Body0<Site>, gate: Gate) -> Body0<Site>
     body
 }
 
-/// What the text of the body, or its refusal, answers. A body in memory is never waited for.
+/// What the text of the body, or its refusal, answers. A body that is Pending then is not waited for.
 pub fn echoed(
     alloc: Global,
     request: &Request<'_, Site>,

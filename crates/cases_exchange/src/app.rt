@@ -2,6 +2,7 @@
 use crate::changer::Changer;
 use crate::page::Page;
 use crate::routes::{CATCHERS, CatcherRow, ROUTES, RouteRow};
+use crate::source::Paused;
 use cases::CaseError;
 use rkt_base::{NoMemory, Want};
 use rkt_data::MemorySource;
@@ -17,7 +18,7 @@ use std::alloc::Global;
 pub struct Site;
 
 impl Types for Site {
-    type Source = MemorySource;
+    type Source = Paused;
 
     type Stream = MemorySource;
 

@@ -1,5 +1,6 @@
 //! Requests, as lines say them.
 use crate::app::Site;
+use crate::source::Paused;
 use cases::{CaseError, cut, first_word, numbers, pair, parsed, written};
 use rkt_base::{NoMemory, Seq, Text};
 use rkt_data::{CancellableIo, Data, MemorySource};
@@ -13,6 +14,8 @@ pub struct Asked {
     bytes: Vec<u8>,
     /// The reads of the body that are refused.
     fails: Vec<u64>,
+    /// How many of its reads wait.
+    waits: u64,
     pub when: When,
 }
 
@@ -52,6 +55,11 @@ fn set_fails(alloc: Global, asked: &mut Asked, text: &str) -> Result<(), CaseErr
     Ok(())
 }
 
+fn set_waits(asked: &mut Asked, text: &str) -> Result<(), CaseError> {
+    asked.waits = parsed::<u64>(text)?;
+    Ok(())
+}
+
 fn set_moment(when: &mut When, text: &str) -> Result<(), CaseError> {
     when.moment = parsed::<u64>(text)?;
     Ok(())
@@ -62,14 +70,22 @@ fn show_jar(when: &mut When) -> Result<(), CaseError> {
     Ok(())
 }
 
-/// Takes `body TEXT`, `fails N,..`, `at MOMENT`, `jar`, or a header.
+/// Takes `at MOMENT`, `jar`, or a header.
+fn take_other(alloc: Global, asked: &mut Asked, piece: &str) -> Result<(), CaseError> {
+    match first_word(piece) {
+        ("at", text) => set_moment(&mut asked.when, text),
+        ("jar", "") => show_jar(&mut asked.when),
+        _ => push_header(alloc, &mut asked.head, piece),
+    }
+}
+
+/// Takes `body TEXT`, `fails N,..`, `waits N`, or one of the others.
 fn take(alloc: Global, asked: &mut Asked, piece: &str) -> Result<(), CaseError> {
     match first_word(piece) {
         ("body", text) => written(asked.bytes.extend_from_slice(text.as_bytes())),
         ("fails", text) => set_fails(alloc, asked, text),
-        ("at", text) => set_moment(&mut asked.when, text),
-        ("jar", "") => show_jar(&mut asked.when),
-        _ => push_header(alloc, &mut asked.head, piece),
+        ("waits", text) => set_waits(asked, text),
+        _ => take_other(alloc, asked, piece),
     }
 }
 
@@ -87,6 +103,7 @@ fn plain(alloc: Global, text: &str) -> Result<Asked, NoMemory> {
         head,
         bytes: Vec::new(alloc),
         fails: Vec::new(alloc),
+        waits: 0,
         when: When {
             moment: 1000,
             shows_jar: false,
@@ -103,12 +120,13 @@ pub fn read_asked(alloc: Global, text: &str) -> Result<Asked, CaseError> {
 
 impl Asked {
     /// What is asked beside the body, and the source of this, which gives four bytes at a time.
-    pub fn parts(self) -> (Head, MemorySource) {
-        (self.head, MemorySource::new(self.bytes, 4, self.fails))
+    pub fn parts(self) -> (Head, Paused) {
+        let inner = MemorySource::new(self.bytes, 4, self.fails);
+        (self.head, Paused::new(inner, self.waits))
     }
 }
 
 /// The body that a source gives.
-pub fn body_of(alloc: Global, source: MemorySource) -> Result<Body0<Site>, NoMemory> {
+pub fn body_of(alloc: Global, source: Paused) -> Result<Body0<Site>, NoMemory> {
     Data::from_source(alloc, CancellableIo::new(source))
 }

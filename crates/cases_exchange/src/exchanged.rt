@@ -4,9 +4,10 @@ ghost use Rattle.std.specs.Prelude.{IfNone, IsSome};
 use crate::app::Site;
 use crate::asked::{Asked, When, body_of};
 use crate::shown::push_ended;
+use crate::source::Paused;
 use cases::CaseError;
 use rkt_base::{NoMemory, Poll};
-use rkt_data::{Gate, MemorySource};
+use rkt_data::Gate;
 use rkt_lifecycle::{Ended, Exchange, Tables};
 use rkt_request::{Body0, Head, Incoming, Request};
 use rkt_turn::{Shutdown, TripWire};
@@ -95,7 +96,7 @@ fn push_source(
     alloc: Global,
     tables: &Tables<Site>,
     head: &Head,
-    source: MemorySource,
+    source: Paused,
     when: When,
     out: &mut String,
 ) -> Result<(), CaseError> {

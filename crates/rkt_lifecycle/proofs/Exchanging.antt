@@ -8,6 +8,7 @@ use Rattle.rkt_request.specs.Seen.{Seen}
 use Rattle.rkt_request.specs.declared.bad.Bad.{Bad}
 use Rattle.rkt_router.specs.Calls.{GateFits}
 use Rattle.rkt_routing.specs.Beginning.{Beginning}
+use Rattle.rkt_routing.specs.Backs.{Backs}
 use Rattle.rkt_routing.specs.BetweenLaws.{backs_more, hands_back_more}
 use Rattle.rkt_routing.specs.Routed.{is_head}
 use Rattle.rkt_routing.specs.Stands.{Holding, StandsAt, PolledGives as RoutingGives}
@@ -23,8 +24,9 @@ use Rattle.rkt_lifecycle.specs.Asks.{Asks, AskedGives, asked_at, StandsFor as As
 use Rattle.rkt_lifecycle.specs.Dressed.{dressed, with_body_rule}
 use Rattle.rkt_lifecycle.specs.Ended.{IfFinished, handle_of}
 use Rattle.rkt_lifecycle.specs.Lifecycle.{Answered, Ends, Routed}
+use Rattle.rkt_lifecycle.specs.Overridden.{Overridden}
 use Rattle.rkt_lifecycle.specs.Relations.{Relations, callbacks}
-use Rattle.rkt_lifecycle.specs.Stands.{EndsSo, IsAnswering, IsAsking, IsBad, IsMoment, IsRefusing, IsRouting, StandsIn, WaitsIn, WasAsked, WasFound, WasRouted, found_of}
+use Rattle.rkt_lifecycle.specs.Stands.{EndsSo, IsAnswering, IsAsking, IsBad, IsMoment, IsPeeking, IsRefusing, IsRouting, StandsIn, WaitsIn, WasAsked, WasFound, WasOpened, WasRouted, found_of, opened_at}
 use Rattle.rkt_lifecycle.specs.Tables.{SeenTables, table_of}
 use Rattle.rkt_lifecycle.specs.declared.calls.AnsweredOf.TheVariants as answered
 use Rattle.rkt_lifecycle.specs.declared.calls.Arrival.{Arrival}
@@ -32,6 +34,7 @@ use Rattle.rkt_lifecycle.specs.declared.calls.AskedOf.TheVariants as asked
 use Rattle.rkt_lifecycle.specs.declared.calls.Departure.{Departure}
 use Rattle.rkt_lifecycle.specs.declared.ended.EndedOf.{EndedOf}
 use Rattle.rkt_lifecycle.specs.declared.ended.EndedOf.TheVariants as ended
+use Rattle.rkt_lifecycle.specs.declared.peeking.PeekingOf.{PeekingOf}
 use Rattle.rkt_lifecycle.specs.declared.phase.Phase.TheVariants as phase
 
 -- a list of no faults, and one of some
@@ -44,21 +47,58 @@ some_faults [] some = absurd (omega (arith, some))
 some_faults (fault ∷ faults) some = (fault, faults, refl)
 
 module _ {V B C S F FTask GTask H HTask K KTask N : Type 0} (rel : Relations V B C S F FTask GTask H HTask K KTask) (first : Beginning V B C) (tables : SeenTables F H K N V) where
-  -- fairings are called for a request
-  pub asking_begins : (asks : Asks V B C F FTask) → first.faults ≡ [] → asks.fairings ≡ tables.fairings → asks.turns ≡ tables.config.turns → AsksStandFor rel.requests rel.gates first.at asks
-      → IsAsking rel first tables asks
-  asking_begins asks good fairings turns stands = record { good = good; fairings = fairings; turns = turns; stands = rw (fairings, turns) at stands }
+  -- the body is peeked at
+  pub peeking_begins : (peeking : PeekingOf (Seen V) B (Lent C)) → first.faults ≡ [] → peeking.request ≡ first.at.request → peeking.body ≡ first.at.body → peeking.ctx.kept ≡ first.at.kept
+      → IsPeeking rel first tables peeking
+  peeking_begins peeking good request body kept =
+      record { good = good; request = request; kept = kept; leads = λ shown after peeks. subst (λ b. rel.peeks b shown after) body peeks }
 
-  pub asking_stands : (asks : Asks V B C F FTask) → IsAsking rel first tables asks → AsksStandFor rel.requests rel.gates first.at asks
+  pub peeking_on : (waits : Gate → B → B → Type 0) (peeking next : PeekingOf (Seen V) B (Lent C)) (gate : Gate) → IsPeeking rel first tables peeking → next ≡ record peeking { body = next.body }
+      → waits gate peeking.body next.body → ((shown : List ℕ) (after : B) → rel.peeks next.body shown after → rel.peeks peeking.body shown after)
+      → StandsIn rel first tables (phase.Peeking next) × WaitsIn rel first tables waits gate (phase.Peeking next)
+  peeking_on waits peeking next gate is same wait on =
+      let request : next.request ≡ first.at.request = ap (λ p. p.request) same ∙ is.request in
+      let kept : next.ctx.kept ≡ first.at.kept = ap (λ p. p.ctx.kept) same ∙ is.kept in (
+        record { good = is.good; request = request; kept = kept; leads = λ shown after peeks. is.leads shown after (on shown after peeks) },
+        (peeking.body, record { good = is.good; request = request; kept = kept; leads = is.leads }, wait),
+      )
+
+  pub peeking_done : (peeking opened : PeekingOf (Seen V) B (Lent C)) (shown : List ℕ) → IsPeeking rel first tables peeking → opened.ctx ≡ peeking.ctx → rel.peeks peeking.body shown opened.body
+      → Overridden peeking.request shown opened.request → WasOpened rel first tables (opened_at opened)
+  peeking_done peeking opened shown is ctx peeks over = record {
+    good = is.good;
+    opens = record {
+      front = shown;
+      peeks = is.leads shown opened.body peeks;
+      request = subst (λ r. Overridden r shown opened.request) is.request over;
+      kept = ap (λ c. c.kept) ctx ∙ is.kept;
+    };
+  }
+
+  -- fairings are called for a request
+  pub asking_begins : (asks : Asks V B C F FTask) (opened : RequestAt V B C) → WasOpened rel first tables opened → asks.fairings ≡ tables.fairings → asks.turns ≡ tables.config.turns
+      → AsksStandFor rel.requests rel.gates opened asks → IsAsking rel first tables asks
+  asking_begins asks opened was fairings turns stands = record { opened = opened; opens = was; fairings = fairings; turns = turns; stands = rw (fairings, turns) at stands }
+
+  pub asking_stands : (asks : Asks V B C F FTask) (is : IsAsking rel first tables asks) → AsksStandFor rel.requests rel.gates is.opened asks
   asking_stands asks is = rw (is.fairings, is.turns) is.stands
 
-  pub asking_on : (asks next : Asks V B C F FTask) (gate : Gate) → IsAsking rel first tables asks → AskedGives rel.requests rel.gates first.at asks.fairings asks.turns gate (progress.Pending next)
-      → StandsIn rel first tables (phase.Asking next) × WaitsIn rel first tables gate (phase.Asking next)
-  asking_on asks next gate is gives = let at = rw (is.fairings, is.turns) at gives in (record { good = is.good; fairings = at.0; turns = at.1; stands = at.2 }, at.3)
+  pub asking_on : (waits : Gate → B → B → Type 0) (asks next : Asks V B C F FTask) (gate : Gate) (is : IsAsking rel first tables asks)
+      → AskedGives rel.requests rel.gates is.opened asks.fairings asks.turns gate (progress.Pending next)
+      → StandsIn rel first tables (phase.Asking next) × WaitsIn rel first tables waits gate (phase.Asking next)
+  asking_on waits asks next gate is gives =
+      let at = rw (is.fairings, is.turns) at gives in (record { opened = is.opened; opens = is.opens; fairings = at.0; turns = at.1; stands = at.2 }, (is.opened, at.3))
 
-  pub asking_done : (asks : Asks V B C F FTask) (arrival : Arrival (Seen V) B (Lent C)) (gate : Gate) → IsAsking rel first tables asks
-      → AskedGives rel.requests rel.gates first.at asks.fairings asks.turns gate (progress.Ready (asked.Done arrival)) → WasAsked rel first tables arrival.live.calls (asked_at arrival)
-  asking_done asks arrival gate is gives = let at = rw (is.fairings, is.turns) at gives in record { good = is.good; asks = at.0; backs = at.1 }
+  pub asking_done : (asks : Asks V B C F FTask) (arrival : Arrival (Seen V) B (Lent C)) (gate : Gate) (is : IsAsking rel first tables asks)
+      → AskedGives rel.requests rel.gates is.opened asks.fairings asks.turns gate (progress.Ready (asked.Done arrival)) → WasAsked rel first tables arrival.live.calls (asked_at arrival)
+  asking_done asks arrival gate is gives =
+      let at = rw (is.fairings, is.turns) at gives in
+      record { opened = is.opened; opens = is.opens; asks = at.0; backs = subst (λ k. Backs k.shutdown arrival.live.ctx.kept.shutdown arrival.live.calls) is.opens.opens.kept at.1 }
+
+  pub asking_starved : (asks : Asks V B C F FTask) (shutdown : Handle) (gate : Gate) (is : IsAsking rel first tables asks)
+      → AskedGives rel.requests rel.gates is.opened asks.fairings asks.turns gate (progress.Ready (asked.Starved shutdown)) → HandsBack first.at.kept.shutdown shutdown
+  asking_starved asks shutdown gate is gives =
+      subst (λ k. HandsBack k.shutdown shutdown) is.opens.opens.kept gives
 
   -- it is routed
   pub routing_begins : (routing : Holding V B C H HTask K KTask N) (calls : List Call) (head : Bool) (asked : RequestAt V B C) → WasAsked rel first tables calls asked → head ≡ is_head asked.request.method
@@ -69,10 +109,10 @@ module _ {V B C S F FTask GTask H HTask K KTask N : Type 0} (rel : Relations V B
       → StandsAt (callbacks rel) (record { at = is.asked; faults = [] }) routing.table routing.live routing.stage
   routing_stands routing calls head is = rw is.table is.stands
 
-  pub routing_on : (routing next : Holding V B C H HTask K KTask N) (calls : List Call) (head : Bool) (gate : Gate) (is : IsRouting rel first tables routing calls head)
+  pub routing_on : (waits : Gate → B → B → Type 0) (routing next : Holding V B C H HTask K KTask N) (calls : List Call) (head : Bool) (gate : Gate) (is : IsRouting rel first tables routing calls head)
       → RoutingGives (callbacks rel) (record { at = is.asked; faults = [] }) routing.table gate (progress.Pending next)
-      → StandsIn rel first tables (phase.Routing next calls head) × WaitsIn rel first tables gate (phase.Routing next calls head)
-  routing_on routing next calls head gate is gives =
+      → StandsIn rel first tables (phase.Routing next calls head) × WaitsIn rel first tables waits gate (phase.Routing next calls head)
+  routing_on waits routing next calls head gate is gives =
       let at = rw is.table at gives in (record { asked = is.asked; asks = is.asks; head_is = is.head_is; table = at.0; stands = at.2 }, (at.1, is.asked, at.3))
 
   pub routing_found : (routing : Holding V B C H HTask K KTask N) (calls : List Call) (head : Bool) (gate : Gate) (live : Live (Seen V) (Lent C)) (response : ResponseOf S)
@@ -115,10 +155,10 @@ module _ {V B C S F FTask GTask H HTask K KTask N : Type 0} (rel : Relations V B
       → AnswersStandFor rel.responses rel.gates is.out answers
   answering_stands answers calls head moment is = rw (is.fairings, is.turns) is.stands
 
-  pub answering_on : (answers next : Answers V C S F GTask) (calls : List Call) (head : Bool) (moment : ℕ) (gate : Gate) (is : IsAnswering rel first tables answers calls head moment)
+  pub answering_on : (waits : Gate → B → B → Type 0) (answers next : Answers V C S F GTask) (calls : List Call) (head : Bool) (moment : ℕ) (gate : Gate) (is : IsAnswering rel first tables answers calls head moment)
       → AnsweredGives rel.responses rel.gates is.out answers.fairings answers.turns gate (progress.Pending next)
-      → StandsIn rel first tables (phase.Answering next calls head moment) × WaitsIn rel first tables gate (phase.Answering next calls head moment)
-  answering_on answers next calls head moment gate is gives =
+      → StandsIn rel first tables (phase.Answering next calls head moment) × WaitsIn rel first tables waits gate (phase.Answering next calls head moment)
+  answering_on waits answers next calls head moment gate is gives =
       let at = rw (is.fairings, is.turns) at gives in (record { out = is.out; routed = is.routed; fairings = at.0; turns = at.1; stands = at.2 }, (is.out, at.3))
 
   pub answering_starved : (answers : Answers V C S F GTask) (calls : List Call) (head : Bool) (moment : ℕ) (gate : Gate) (shutdown : Handle) (is : IsAnswering rel first tables answers calls head moment)
@@ -137,7 +177,8 @@ module _ {V B C S F FTask GTask H HTask K KTask N : Type 0} (rel : Relations V B
       let was = is.routed in
       let kept_is : record { jar = run.jar; cache = run.cache; shutdown = shutdown } ≡ departure.live.ctx.kept = rw (jar, cache, handle) refl in
       record {
-        lifecycle = subst (λ fs. Ends rel tables fs first.at run.calls (record { kept = record { jar = run.jar; cache = run.cache; shutdown = shutdown }; moment = run.moment; response = response })) (sym was.asks.good) (record {
+        lifecycle = subst (λ fs. Ends rel tables fs first.at run.calls (record { kept = record { jar = run.jar; cache = run.cache; shutdown = shutdown }; moment = run.moment; response = response })) (sym was.asks.opens.good) (record {
+          opened = was.asks.opened;
           asked = was.asked;
           found = was.found;
           left = answered_at departure;
@@ -145,6 +186,7 @@ module _ {V B C S F FTask GTask H HTask K KTask N : Type 0} (rel : Relations V B
           between = was.between;
           behind = departure.live.calls;
           calls_are = calls_are ∙ ap (λ cs. cs ++ departure.live.calls) was.calls_are;
+          opens = was.asks.opens.opens;
           asks = was.asks.asks;
           finds = was.finds;
           answers = subst (λ out. Answered rel tables out departure.live.calls (answered_at departure)) (was.out_is ∙ ap (λ m. dressed tables.config.ident m was.found) (sym moment_is)) at.1;
@@ -166,9 +208,9 @@ module _ {V B C S F FTask GTask H HTask K KTask N : Type 0} (rel : Relations V B
   pub refusing_stands : (routing : Holding V B C H HTask K KTask N) → IsRefusing rel first tables routing → StandsAt (callbacks rel) first routing.table routing.live routing.stage
   refusing_stands routing is = rw is.table is.stands
 
-  pub refusing_on : (routing next : Holding V B C H HTask K KTask N) (gate : Gate) → IsRefusing rel first tables routing → RoutingGives (callbacks rel) first routing.table gate (progress.Pending next)
-      → StandsIn rel first tables (phase.Refusing next) × WaitsIn rel first tables gate (phase.Refusing next)
-  refusing_on routing next gate is gives = let at = rw is.table at gives in (record { bad = is.bad; table = at.0; stands = at.2 }, (at.1, at.3))
+  pub refusing_on : (waits : Gate → B → B → Type 0) (routing next : Holding V B C H HTask K KTask N) (gate : Gate) → IsRefusing rel first tables routing → RoutingGives (callbacks rel) first routing.table gate (progress.Pending next)
+      → StandsIn rel first tables (phase.Refusing next) × WaitsIn rel first tables waits gate (phase.Refusing next)
+  refusing_on waits routing next gate is gives = let at = rw is.table at gives in (record { bad = is.bad; table = at.0; stands = at.2 }, (at.1, at.3))
 
   pub refused_ends : (routing : Holding V B C H HTask K KTask N) (gate : Gate) (live : Live (Seen V) (Lent C)) (response : ResponseOf S) → GateFits rel.gates gate → IsRefusing rel first tables routing
       → RoutingGives (callbacks rel) first routing.table gate (progress.Ready (routed.Found live response))

@@ -1,3 +1,5 @@
 pub mod Chaining
 pub mod Cookies
 pub mod Exchanging
+pub mod Peeks
+pub mod SetMethods

@@ -1,5 +1,5 @@
 -- One exchange, from what came in to its response.
-use Rattle.std.specs.Prelude.{◌≡◌, ◌++◌, List, [], ◌∷◌}
+use Rattle.std.specs.Prelude.{◌≡◌, ◌++◌, ℕ, List, [], ◌∷◌}
 use Rattle.rkt_fairing.specs.Callbacks.{RequestAt, ResponseAt}
 use Rattle.rkt_request.specs.declared.bad.Bad.{Bad}
 use Rattle.rkt_routing.specs.Beginning.{Beginning}
@@ -10,8 +10,16 @@ use Rattle.rkt_lifecycle.specs.Answers.{Leads as AnswersLead, Outgoing}
 use Rattle.rkt_lifecycle.specs.Asks.{Leads as AsksLead}
 use Rattle.rkt_lifecycle.specs.Beginning.{Over}
 use Rattle.rkt_lifecycle.specs.Dressed.{dressed, with_body_rule}
+use Rattle.rkt_lifecycle.specs.Overridden.{Overridden}
 use Rattle.rkt_lifecycle.specs.Relations.{Relations, callbacks}
 use Rattle.rkt_lifecycle.specs.Tables.{SeenTables, table_of}
+
+-- the body is peeked at, and a form's field may set the method
+pub record Opens {V B C S F FTask GTask H HTask K KTask : Type 0} (rel : Relations V B C S F FTask GTask H HTask K KTask) (first opened : RequestAt V B C) : Type 0 where
+  pub front : List ℕ
+  pub peeks : rel.peeks first.body front opened.body
+  pub request : Overridden first.request front opened.request
+  pub kept : opened.kept ≡ first.kept
 
 module _ {V B C S F FTask GTask H HTask K KTask N : Type 0} (rel : Relations V B C S F FTask GTask H HTask K KTask) (tables : SeenTables F H K N V) where
   -- the fairings are called for a request, in order
@@ -26,9 +34,10 @@ module _ {V B C S F FTask GTask H HTask K KTask N : Type 0} (rel : Relations V B
   abbrev pub Answered : Outgoing V C S → List Call → ResponseAt S C → Type 0
   Answered = AnswersLead rel.responses rel.gates tables.fairings tables.config.turns
 
-  -- a request that is not bad: fairings are called for it, it is routed, its response gets its cookies and the server's name,
-  -- fairings are called for this, and the body rule is kept, as the method is before routing
+  -- a request that is not bad: it gets its method, fairings are called for it, it is routed, its response gets its cookies and the
+  -- server's name, fairings are called for this, and the body rule is kept, as the method is before routing
   pub record Lives (first : RequestAt V B C) (calls : List Call) (over : Over C S) : Type 0 where
+    pub opened : RequestAt V B C
     pub asked : RequestAt V B C
     pub found : Found V C S
     pub left : ResponseAt S C
@@ -36,7 +45,8 @@ module _ {V B C S F FTask GTask H HTask K KTask N : Type 0} (rel : Relations V B
     pub between : List Call
     pub behind : List Call
     pub calls_are : calls ≡ before ++ between ++ behind
-    pub asks : Asked first before asked
+    pub opens : Opens rel first opened
+    pub asks : Asked opened before asked
     pub finds : Routed [] asked between found
     pub answers : Answered (dressed tables.config.ident over.moment found) behind left
     pub kept : over.kept ≡ left.kept

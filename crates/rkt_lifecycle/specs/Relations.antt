@@ -1,5 +1,5 @@
--- What the callbacks of an application mean, and the Gates under which they are polled.
-use Rattle.std.specs.Prelude.{Option, Result}
+-- What the callbacks of an application mean, what a peek at a body leaves of it, and the Gates under which they are polled.
+use Rattle.std.specs.Prelude.{ℕ, List, Option, Result}
 use Rattle.rkt_fairing.specs.Callbacks.{RequestAt, ResponseAt}
 use Rattle.rkt_fairing.specs.declared.slot.Slot.{Slot}
 use Rattle.rkt_http.specs.declared.status.Status.{Status}
@@ -19,13 +19,17 @@ pub record Relations (V B C S F FTask GTask H HTask K KTask : Type 0) : Type 1 w
   pub responses : Calling (Slot F) (Seen V) (ResponseAt S C) (Unit {0}) (Option GTask)
   pub handlers : Calling H (Handed V B) (Kept C) (Reply S B) HTask
   pub catchers : Calling K (Refused V) (Kept C) (Result (ResponseOf S) Status) KTask
+  -- what a peek may leave of a body, and what it shows
+  pub peeks : B → List ℕ → B → Type 0
   -- which Gates a callback may be polled under
   pub gates : GateRule
 
-abbrev pub relations : {V B C S F FTask GTask H HTask K KTask : Type 0} → Calling (Slot F) (Unit {0}) (RequestAt V B C) (Unit {0}) (Option FTask)
+-- bodies are peeked at under the Gates of the same rule
+abbrev pub relations : {V B C S F FTask GTask H HTask K KTask : Type 0} → (GateRule → B → List ℕ → B → Type 0) → Calling (Slot F) (Unit {0}) (RequestAt V B C) (Unit {0}) (Option FTask)
     → Calling (Slot F) (Seen V) (ResponseAt S C) (Unit {0}) (Option GTask) → Calling H (Handed V B) (Kept C) (Reply S B) HTask
     → Calling K (Refused V) (Kept C) (Result (ResponseOf S) Status) KTask → GateRule → Relations V B C S F FTask GTask H HTask K KTask
-relations requests responses handlers catchers gates = record { requests = requests; responses = responses; handlers = handlers; catchers = catchers; gates = gates }
+relations peeks requests responses handlers catchers gates =
+    record { requests = requests; responses = responses; handlers = handlers; catchers = catchers; peeks = peeks gates; gates = gates }
 
 -- those by which a request is routed
 abbrev pub callbacks : {V B C S F FTask GTask H HTask K KTask : Type 0} → Relations V B C S F FTask GTask H HTask K KTask → Callbacks V B C S H HTask K KTask

@@ -24,11 +24,12 @@ use Rattle.rkt_lifecycle.specs.Answers.{Answers, AnswerStands, Outgoing, Pends a
 use Rattle.rkt_lifecycle.specs.Asks.{Asks, AskStands, Pends as AskPends}
 use Rattle.rkt_lifecycle.specs.Beginning.{Over}
 use Rattle.rkt_lifecycle.specs.Dressed.{dressed}
-use Rattle.rkt_lifecycle.specs.Lifecycle.{Asked, Lifecycle, Routed}
+use Rattle.rkt_lifecycle.specs.Lifecycle.{Asked, Lifecycle, Opens, Routed}
 use Rattle.rkt_lifecycle.specs.Relations.{Relations, callbacks}
 use Rattle.rkt_lifecycle.specs.Tables.{SeenTables, table_of}
 use Rattle.rkt_lifecycle.specs.declared.ended.EndedOf.{EndedOf}
 use Rattle.rkt_lifecycle.specs.declared.ended.EndedOf.TheVariants as ended
+use Rattle.rkt_lifecycle.specs.declared.peeking.PeekingOf.{PeekingOf}
 use Rattle.rkt_lifecycle.specs.declared.phase.Phase.{Phase}
 use Rattle.rkt_lifecycle.specs.declared.phase.Phase.TheVariants as phase
 
@@ -40,13 +41,17 @@ IsMoment rule moment = (gate : Gate) × GateFits rule gate × (gate.moment ≡ m
 abbrev pub IsBad : List Bad → Type 0
 IsBad faults = (fault : Bad) × (others : List Bad) × (faults ≡ fault ∷ others)
 
+-- a request whose body was peeked at, as fairings are lent it
+abbrev pub opened_at : {V B C : Type 0} → PeekingOf (Seen V) B (Lent C) → RequestAt V B C
+opened_at opened = record { request = opened.request; body = opened.body; kept = opened.ctx.kept }
+
 -- what was found, as it is lent
 abbrev pub found_of : {V C S : Type 0} → Live (Seen V) (Lent C) → ResponseOf S → Found V C S
 found_of live response = record { response = response; request = live.request; kept = live.ctx.kept }
 
 -- where an exchange stands, as contracts see it
 abbrev pub SeenPhase : (V B C S F FTask GTask H HTask K KTask N : Type 0) → Type 0
-SeenPhase V B C S F FTask GTask H HTask K KTask N = Phase (Asks V B C F FTask) (Holding V B C H HTask K KTask N) (Answers V C S F GTask)
+SeenPhase V B C S F FTask GTask H HTask K KTask N = Phase (PeekingOf (Seen V) B (Lent C)) (Asks V B C F FTask) (Holding V B C H HTask K KTask N) (Answers V C S F GTask)
 
 -- an exchange as contracts see it
 pub record SeenExchange (V B C S F FTask GTask H HTask K KTask N : Type 0) : Type 0 where
@@ -54,10 +59,16 @@ pub record SeenExchange (V B C S F FTask GTask H HTask K KTask N : Type 0) : Typ
   pub phase : Option (SeenPhase V B C S F FTask GTask H HTask K KTask N)
 
 module _ {V B C S F FTask GTask H HTask K KTask N : Type 0} (rel : Relations V B C S F FTask GTask H HTask K KTask) (first : Beginning V B C) (tables : SeenTables F H K N V) where
-  -- the fairings were called for a request
-  pub record WasAsked (calls : List Call) (asked : RequestAt V B C) : Type 0 where
+  -- a request has its method
+  pub record WasOpened (opened : RequestAt V B C) : Type 0 where
     pub good : first.faults ≡ []
-    pub asks : Asked rel tables first.at calls asked
+    pub opens : Opens rel first.at opened
+
+  -- and the fairings were called for it
+  pub record WasAsked (calls : List Call) (asked : RequestAt V B C) : Type 0 where
+    pub opened : RequestAt V B C
+    pub opens : WasOpened opened
+    pub asks : Asked rel tables opened calls asked
     pub backs : Backs first.at.kept.shutdown asked.kept.shutdown calls
 
   -- and it was routed, and its response dressed at a moment; `head` says whether its method was HEAD
@@ -82,12 +93,20 @@ module _ {V B C S F FTask GTask H HTask K KTask N : Type 0} (rel : Relations V B
     pub finds : Routed rel tables [] asked live.calls (found_of live response)
     pub backs : Backs asked.kept.shutdown live.ctx.kept.shutdown live.calls
 
+  -- a body is being peeked at: what a peek that goes on from here may leave and show, one from the beginning may
+  pub record IsPeeking (peeking : PeekingOf (Seen V) B (Lent C)) : Type 0 where
+    pub good : first.faults ≡ []
+    pub request : peeking.request ≡ first.at.request
+    pub kept : peeking.ctx.kept ≡ first.at.kept
+    pub leads : (front : List ℕ) (after : B) → rel.peeks peeking.body front after → rel.peeks first.at.body front after
+
   -- fairings are being called for a request
   pub record IsAsking (asks : Asks V B C F FTask) : Type 0 where
-    pub good : first.faults ≡ []
+    pub opened : RequestAt V B C
+    pub opens : WasOpened opened
     pub fairings : asks.fairings ≡ tables.fairings
     pub turns : asks.turns ≡ tables.config.turns
-    pub stands : AskStands rel.requests rel.gates tables.fairings tables.config.turns first.at asks.lent asks.next
+    pub stands : AskStands rel.requests rel.gates tables.fairings tables.config.turns opened asks.lent asks.next
 
   -- it is being routed
   pub record IsRouting (routing : Holding V B C H HTask K KTask N) (calls : List Call) (head : Bool) : Type 0 where
@@ -112,19 +131,11 @@ module _ {V B C S F FTask GTask H HTask K KTask N : Type 0} (rel : Relations V B
     pub stands : AnswerStands rel.responses rel.gates tables.fairings tables.config.turns out answers.lent answers.next
 
   abbrev pub StandsIn : SeenPhase V B C S F FTask GTask H HTask K KTask N → Type 0
+  StandsIn (phase.Peeking peeking) = IsPeeking peeking
   StandsIn (phase.Asking asks) = IsAsking asks
   StandsIn (phase.Routing routing calls head) = IsRouting routing calls head
   StandsIn (phase.Refusing routing) = IsRefusing routing
   StandsIn (phase.Answering answers calls head moment) = IsAnswering answers calls head moment
-
-  -- a callback was Pending, and this is the Gate of its last poll
-  abbrev pub WaitsIn : Gate → SeenPhase V B C S F FTask GTask H HTask K KTask N → Type 0
-  WaitsIn gate (phase.Asking asks) = AskPends rel.requests rel.gates tables.fairings tables.config.turns first.at gate asks.lent asks.next
-  WaitsIn gate (phase.Routing routing calls head) =
-      (routing.live.ctx.gate ≡ gate) × (asked : RequestAt V B C) × WaitsAt (callbacks rel) (record { at = asked; faults = [] }) (table_of tables) routing.live routing.stage
-  WaitsIn gate (phase.Refusing routing) = (routing.live.ctx.gate ≡ gate) × WaitsAt (callbacks rel) first (table_of tables) routing.live routing.stage
-  WaitsIn gate (phase.Answering answers calls head moment) =
-      (out : Outgoing V C S) × AnswerPends rel.responses rel.gates tables.fairings tables.config.turns out gate answers.lent answers.next
 
   -- how an exchange ends: with a run that leads to its response, and the handle; each word that the run recorded is the one
   -- that the handle has seen, and its moment is that of a Gate
@@ -138,16 +149,29 @@ module _ {V B C S F FTask GTask H HTask K KTask N : Type 0} (rel : Relations V B
       IsFinished run.calls (record { kept = record { jar = run.jar; cache = run.cache; shutdown = shutdown }; moment = run.moment; response = response })
   EndsSo (ended.Starved shutdown) = HandsBack first.at.kept.shutdown shutdown
 
-  -- what a poll under a Gate gives
-  abbrev pub PolledGives : Gate → Progress (SeenPhase V B C S F FTask GTask H HTask K KTask N) (EndedOf C S Handle) → Type 0
-  PolledGives gate (progress.Pending now) = StandsIn now × WaitsIn gate now
-  PolledGives gate (progress.Ready over) = EndsSo over
-
-  -- the same of an exchange, unless it has ended
+  -- an exchange stands so, unless it has ended
   abbrev pub StandsFor : Option (SeenPhase V B C S F FTask GTask H HTask K KTask N) → Type 0
   StandsFor None = ⊤
   StandsFor (Some now) = StandsIn now
 
-  abbrev pub ExchangeGives : Gate → Option (SeenPhase V B C S F FTask GTask H HTask K KTask N) → Poll (EndedOf C S Handle) → Type 0
-  ExchangeGives gate phase poll.Pending = IsSomeAnd phase (λ now. StandsIn now × WaitsIn gate now)
-  ExchangeGives gate phase (poll.Ready over) = EndsSo over
+  -- where the source of a body is Pending in the poll under a Gate that leads from one body to the other as `waits` says
+  module _ (waits : Gate → B → B → Type 0) where
+    -- a callback or the source of the body was Pending, and this is the Gate of its last poll
+    abbrev pub WaitsIn : Gate → SeenPhase V B C S F FTask GTask H HTask K KTask N → Type 0
+    WaitsIn gate (phase.Peeking peeking) = (before : B) × IsPeeking (record peeking { body = before }) × waits gate before peeking.body
+    WaitsIn gate (phase.Asking asks) = (opened : RequestAt V B C) × AskPends rel.requests rel.gates tables.fairings tables.config.turns opened gate asks.lent asks.next
+    WaitsIn gate (phase.Routing routing calls head) =
+        (routing.live.ctx.gate ≡ gate) × (asked : RequestAt V B C) × WaitsAt (callbacks rel) (record { at = asked; faults = [] }) (table_of tables) routing.live routing.stage
+    WaitsIn gate (phase.Refusing routing) = (routing.live.ctx.gate ≡ gate) × WaitsAt (callbacks rel) first (table_of tables) routing.live routing.stage
+    WaitsIn gate (phase.Answering answers calls head moment) =
+        (out : Outgoing V C S) × AnswerPends rel.responses rel.gates tables.fairings tables.config.turns out gate answers.lent answers.next
+
+    -- what a poll under a Gate gives
+    abbrev pub PolledGives : Gate → Progress (SeenPhase V B C S F FTask GTask H HTask K KTask N) (EndedOf C S Handle) → Type 0
+    PolledGives gate (progress.Pending now) = StandsIn now × WaitsIn gate now
+    PolledGives gate (progress.Ready over) = EndsSo over
+
+    -- the same of an exchange
+    abbrev pub ExchangeGives : Gate → Option (SeenPhase V B C S F FTask GTask H HTask K KTask N) → Poll (EndedOf C S Handle) → Type 0
+    ExchangeGives gate phase poll.Pending = IsSomeAnd phase (λ now. StandsIn now × WaitsIn gate now)
+    ExchangeGives gate phase (poll.Ready over) = EndsSo over

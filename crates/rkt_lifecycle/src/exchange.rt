@@ -10,12 +10,13 @@ ghost use Rattle.rkt_lifecycle.specs.Asks.{asked_at};
 ghost use Rattle.rkt_lifecycle.specs.Beginning.{beginning};
 ghost use Rattle.rkt_lifecycle.specs.Dressed.{dressed, with_body_rule};
 ghost use Rattle.rkt_lifecycle.specs.Ended.{IfFinished, handle_of};
+ghost use Rattle.rkt_lifecycle.specs.Peeks.{peeks_of, waits_of};
 ghost use Rattle.rkt_lifecycle.specs.Relations.{relations};
-ghost use Rattle.rkt_lifecycle.specs.Stands.{ExchangeGives, IsAnswering, IsAsking, IsRefusing, IsRouting, PolledGives, StandsFor, StandsIn, WasAsked, WasFound, found_of};
+ghost use Rattle.rkt_lifecycle.specs.Stands.{ExchangeGives, IsAnswering, IsAsking, IsPeeking, IsRefusing, IsRouting, PolledGives, StandsFor, StandsIn, WasAsked, WasFound, WasOpened, found_of, opened_at};
 
 use crate::calls::{AnsweredOf, Arrival, ArrivalOf, AskedOf, Departure, DepartureOf};
 use crate::dress::{dress, keep_body_rule};
-use crate::{AnsweringOf, AskingOf, Ended, EndedOf, Phase, RunOf, TablesOf};
+use crate::{AnsweringOf, AskingOf, Ended, EndedOf, Peeking, PeekingOf, Phase, RunOf, TablesOf};
 use rkt_base::{NoMemory, Poll, Seq};
 use rkt_data::Gate;
 use rkt_fairing::{App, Fairing, Parts, RequestCallback, ResponseCallback};
@@ -31,6 +32,7 @@ use std::mem;
 
 /// Where an exchange stands, for an application.
 pub type PhaseOf<'a, T, F, P, Q, H, K, N> = Phase<
+    Peeking<'a, T>,
     AskingOf<'a, T, F, P>,
     RoutingOf<'a, T, H, K, N>,
     AnsweringOf<'a, T, F, Q>,
@@ -199,7 +201,7 @@ impl<
         ensures tables { result.tables ≡ tables.entry.now }
         ensures going { IsSome result.phase }
         ensures stands { (rule : GateRule)
-            → StandsFor (relations (slot_request P.calling) (slot_response Q.calling) H.calling K.calling rule) (beginning incoming.entry.request incoming.entry.jar incoming.entry.faults body shutdown) result.tables result.phase }
+            → StandsFor (relations (peeks_of T.Source.meaning) (slot_request P.calling) (slot_response Q.calling) H.calling K.calling rule) (beginning incoming.entry.request incoming.entry.jar incoming.entry.faults body shutdown) result.tables result.phase }
     {
         let Incoming {
             request,
@@ -209,7 +211,7 @@ impl<
         let ctx = Ctx::new(alloc, jar, shutdown, gate);
         let turns = tables.config.turns;
         let phase = match faults.as_slice() {
-            [] => Phase::Asking(AskingOf::new(alloc, &tables.fairings, turns, request, body, ctx)),
+            [] => Phase::Peeking(PeekingOf { request, body, ctx }),
             faults => Phase::Refusing(RoutingOf::new(
                 alloc,
                 &tables.router,
@@ -234,8 +236,8 @@ impl<
         ensures tables { self.new.tables ≡ self.old.tables }
         ensures going { result ≡ Poll.Pending → IsSome self.new.phase }
         ensures gives { (rule : GateRule) (first : Beginning T.Value (Body (Cancellable T.Source)) T.Cached) → GateFits rule gate
-            → StandsFor (relations (slot_request P.calling) (slot_response Q.calling) H.calling K.calling rule) first self.old.tables self.old.phase
-            → ExchangeGives (relations (slot_request P.calling) (slot_response Q.calling) H.calling K.calling rule) first self.new.tables gate self.new.phase result }
+            → StandsFor (relations (peeks_of T.Source.meaning) (slot_request P.calling) (slot_response Q.calling) H.calling K.calling rule) first self.old.tables self.old.phase
+            → ExchangeGives (relations (peeks_of T.Source.meaning) (slot_request P.calling) (slot_response Q.calling) H.calling K.calling rule) first self.new.tables (waits_of T.Source.meaning T.Source.shuts T.Source.polled) gate self.new.phase result }
     {
         let Some(phase) = self.phase.take() else {
             unreachable!();
@@ -255,10 +257,11 @@ impl<
         gate: Gate,
     ) -> Advance<'a, T, F, P, Q, H, K, N>
         ensures { (rule : GateRule) (first : Beginning T.Value (Body (Cancellable T.Source)) T.Cached) → GateFits rule gate
-            → StandsIn (relations (slot_request P.calling) (slot_response Q.calling) H.calling K.calling rule) first self.now.tables phase.entry
-            → PolledGives (relations (slot_request P.calling) (slot_response Q.calling) H.calling K.calling rule) first self.now.tables gate result }
+            → StandsIn (relations (peeks_of T.Source.meaning) (slot_request P.calling) (slot_response Q.calling) H.calling K.calling rule) first self.now.tables phase.entry
+            → PolledGives (relations (peeks_of T.Source.meaning) (slot_request P.calling) (slot_response Q.calling) H.calling K.calling rule) first self.now.tables (waits_of T.Source.meaning T.Source.shuts T.Source.polled) gate result }
     {
         match phase {
+            Phase::Peeking(peeking) => self.peek(peeking, gate),
             Phase::Asking(asking) => self.ask(asking, gate),
             Phase::Routing {
                 routing,
@@ -275,11 +278,36 @@ impl<
         }
     }
 
+    // Peeks at the body, and goes on behind that.
+    fn peek(&self, peeking: Peeking<'a, T>, gate: Gate) -> Advance<'a, T, F, P, Q, H, K, N>
+        ensures { (rule : GateRule) (first : Beginning T.Value (Body (Cancellable T.Source)) T.Cached) → GateFits rule gate
+            → IsPeeking (relations (peeks_of T.Source.meaning) (slot_request P.calling) (slot_response Q.calling) H.calling K.calling rule) first self.now.tables peeking.entry
+            → PolledGives (relations (peeks_of T.Source.meaning) (slot_request P.calling) (slot_response Q.calling) H.calling K.calling rule) first self.now.tables (waits_of T.Source.meaning T.Source.shuts T.Source.polled) gate result }
+    {
+        match peeking.poll(gate) {
+            Progress::Pending(peeking) => Progress::Pending(Phase::Peeking(peeking)),
+            Progress::Ready(opened) => self.begin_asking(opened, gate),
+        }
+    }
+
+    // Calls fairings for the request, which has its method.
+    fn begin_asking(&self, opened: Peeking<'a, T>, gate: Gate) -> Advance<'a, T, F, P, Q, H, K, N>
+        ensures { (rule : GateRule) (first : Beginning T.Value (Body (Cancellable T.Source)) T.Cached) → GateFits rule gate
+            → WasOpened (relations (peeks_of T.Source.meaning) (slot_request P.calling) (slot_response Q.calling) H.calling K.calling rule) first self.now.tables (opened_at opened.entry)
+            → PolledGives (relations (peeks_of T.Source.meaning) (slot_request P.calling) (slot_response Q.calling) H.calling K.calling rule) first self.now.tables (waits_of T.Source.meaning T.Source.shuts T.Source.polled) gate result }
+    {
+        let PeekingOf { request, body, ctx } = opened;
+        let (alloc, tables) = (self.alloc, self.tables);
+        let (fairings, turns) = (&tables.fairings, tables.config.turns);
+        let asking = AskingOf::new(alloc, fairings, turns, request, body, ctx);
+        self.ask(asking, gate)
+    }
+
     // Calls fairings for the request, and goes on behind them.
     fn ask(&self, asking: AskingOf<'a, T, F, P>, gate: Gate) -> Advance<'a, T, F, P, Q, H, K, N>
         ensures { (rule : GateRule) (first : Beginning T.Value (Body (Cancellable T.Source)) T.Cached) → GateFits rule gate
-            → IsAsking (relations (slot_request P.calling) (slot_response Q.calling) H.calling K.calling rule) first self.now.tables asking.entry
-            → PolledGives (relations (slot_request P.calling) (slot_response Q.calling) H.calling K.calling rule) first self.now.tables gate result }
+            → IsAsking (relations (peeks_of T.Source.meaning) (slot_request P.calling) (slot_response Q.calling) H.calling K.calling rule) first self.now.tables asking.entry
+            → PolledGives (relations (peeks_of T.Source.meaning) (slot_request P.calling) (slot_response Q.calling) H.calling K.calling rule) first self.now.tables (waits_of T.Source.meaning T.Source.shuts T.Source.polled) gate result }
     {
         match asking.poll(gate) {
             Progress::Pending(asking) => Progress::Pending(Phase::Asking(asking)),
@@ -297,8 +325,8 @@ impl<
         gate: Gate,
     ) -> Advance<'a, T, F, P, Q, H, K, N>
         ensures { (rule : GateRule) (first : Beginning T.Value (Body (Cancellable T.Source)) T.Cached) → GateFits rule gate
-            → WasAsked (relations (slot_request P.calling) (slot_response Q.calling) H.calling K.calling rule) first self.now.tables arrival.entry.live.calls (asked_at arrival.entry)
-            → PolledGives (relations (slot_request P.calling) (slot_response Q.calling) H.calling K.calling rule) first self.now.tables gate result }
+            → WasAsked (relations (peeks_of T.Source.meaning) (slot_request P.calling) (slot_response Q.calling) H.calling K.calling rule) first self.now.tables arrival.entry.live.calls (asked_at arrival.entry)
+            → PolledGives (relations (peeks_of T.Source.meaning) (slot_request P.calling) (slot_response Q.calling) H.calling K.calling rule) first self.now.tables (waits_of T.Source.meaning T.Source.shuts T.Source.polled) gate result }
     {
         let Arrival { live, body } = arrival;
         let Live {
@@ -322,8 +350,8 @@ impl<
         gate: Gate,
     ) -> Advance<'a, T, F, P, Q, H, K, N>
         ensures { (rule : GateRule) (first : Beginning T.Value (Body (Cancellable T.Source)) T.Cached) → GateFits rule gate
-            → IsRouting (relations (slot_request P.calling) (slot_response Q.calling) H.calling K.calling rule) first self.now.tables routing.entry calls head
-            → PolledGives (relations (slot_request P.calling) (slot_response Q.calling) H.calling K.calling rule) first self.now.tables gate result }
+            → IsRouting (relations (peeks_of T.Source.meaning) (slot_request P.calling) (slot_response Q.calling) H.calling K.calling rule) first self.now.tables routing.entry calls head
+            → PolledGives (relations (peeks_of T.Source.meaning) (slot_request P.calling) (slot_response Q.calling) H.calling K.calling rule) first self.now.tables (waits_of T.Source.meaning T.Source.shuts T.Source.polled) gate result }
     {
         match routing.poll(gate) {
             Progress::Pending(routing) => Progress::Pending(Phase::Routing {
@@ -350,8 +378,8 @@ impl<
         gate: Gate,
     ) -> Advance<'a, T, F, P, Q, H, K, N>
         ensures { (rule : GateRule) (first : Beginning T.Value (Body (Cancellable T.Source)) T.Cached) → GateFits rule gate
-            → WasFound (relations (slot_request P.calling) (slot_response Q.calling) H.calling K.calling rule) first self.now.tables calls head live.entry response
-            → PolledGives (relations (slot_request P.calling) (slot_response Q.calling) H.calling K.calling rule) first self.now.tables gate result }
+            → WasFound (relations (peeks_of T.Source.meaning) (slot_request P.calling) (slot_response Q.calling) H.calling K.calling rule) first self.now.tables calls head live.entry response
+            → PolledGives (relations (peeks_of T.Source.meaning) (slot_request P.calling) (slot_response Q.calling) H.calling K.calling rule) first self.now.tables (waits_of T.Source.meaning T.Source.shuts T.Source.polled) gate result }
     {
         let (alloc, tables) = (self.alloc, self.tables);
         let ident = tables.config.ident.as_str();
@@ -380,8 +408,8 @@ impl<
         gate: Gate,
     ) -> Advance<'a, T, F, P, Q, H, K, N>
         ensures { (rule : GateRule) (first : Beginning T.Value (Body (Cancellable T.Source)) T.Cached) → GateFits rule gate
-            → IsAnswering (relations (slot_request P.calling) (slot_response Q.calling) H.calling K.calling rule) first self.now.tables answering.entry calls head moment
-            → PolledGives (relations (slot_request P.calling) (slot_response Q.calling) H.calling K.calling rule) first self.now.tables gate result }
+            → IsAnswering (relations (peeks_of T.Source.meaning) (slot_request P.calling) (slot_response Q.calling) H.calling K.calling rule) first self.now.tables answering.entry calls head moment
+            → PolledGives (relations (peeks_of T.Source.meaning) (slot_request P.calling) (slot_response Q.calling) H.calling K.calling rule) first self.now.tables (waits_of T.Source.meaning T.Source.shuts T.Source.polled) gate result }
     {
         match answering.poll(gate) {
             Progress::Pending(answering) => Progress::Pending(Phase::Answering {
@@ -406,8 +434,8 @@ impl<
         gate: Gate,
     ) -> Advance<'a, T, F, P, Q, H, K, N>
         ensures { (rule : GateRule) (first : Beginning T.Value (Body (Cancellable T.Source)) T.Cached) → GateFits rule gate
-            → IsRefusing (relations (slot_request P.calling) (slot_response Q.calling) H.calling K.calling rule) first self.now.tables routing.entry
-            → PolledGives (relations (slot_request P.calling) (slot_response Q.calling) H.calling K.calling rule) first self.now.tables gate result }
+            → IsRefusing (relations (peeks_of T.Source.meaning) (slot_request P.calling) (slot_response Q.calling) H.calling K.calling rule) first self.now.tables routing.entry
+            → PolledGives (relations (peeks_of T.Source.meaning) (slot_request P.calling) (slot_response Q.calling) H.calling K.calling rule) first self.now.tables (waits_of T.Source.meaning T.Source.shuts T.Source.polled) gate result }
     {
         match routing.poll(gate) {
             Progress::Pending(routing) => Progress::Pending(Phase::Refusing(routing)),

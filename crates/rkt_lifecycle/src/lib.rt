@@ -1,5 +1,5 @@
-//! One exchange, poll by poll: fairings are called for its request, this is routed to its response, and fairings are called for
-//! that.
+//! One exchange, poll by poll: its request gets its method, fairings are called for it, it is routed to its response, and fairings
+//! are called for that.
 #![tactic(auto)]
 
 mod answering;
@@ -8,6 +8,8 @@ mod calls;
 mod dress;
 mod ended;
 mod exchange;
+mod overriding;
+mod peeking;
 mod phase;
 mod tables;
 
@@ -16,5 +18,7 @@ pub use asking::{Asked, AskingOf};
 pub use calls::{AnsweredOf, Arrival, ArrivalOf, AskedOf, Departure, DepartureOf};
 pub use ended::{Ended, EndedOf, Run, RunOf};
 pub use exchange::{Exchange, ExchangeOf, PhaseOf};
+pub use overriding::has_one_override;
+pub use peeking::{Peeking, PeekingOf};
 pub use phase::Phase;
 pub use tables::{Tables, TablesOf};

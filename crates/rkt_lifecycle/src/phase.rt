@@ -1,9 +1,12 @@
 use rkt_base::Seq;
 use rkt_routing::Call;
 
-/// Where an exchange stands: A is the type of calls for a request, R that of routing, and W that of calls for a response.
+/// Where an exchange stands: P is the type of peeks at a body, A that of calls for a request, R that of routing, and W that of
+/// calls for a response.
 #[derive(Drop)]
-pub enum Phase<A, R, W> {
+pub enum Phase<P, A, R, W> {
+    /// The front of the request's body is peeked at.
+    Peeking(P),
     /// Fairings are called for the request.
     Asking(A),
     /// It is routed, behind these calls; `head` where its method was HEAD.

@@ -53,9 +53,9 @@ fit_before rule grace mercy old now new rises fit moment amid = fit moment (reco
 
 module _ {V B C R F FTask GTask H HTask K KTask N : Type 0} (rel : Relations V B C R F FTask GTask H HTask K KTask) (first : Beginning V B C) (tables : SeenTables F H K N V) where
   -- one that was Pending goes on
-  pub goes_on : (gate : Gate) (phase : Option (SeenPhase V B C R F FTask GTask H HTask K KTask N)) → ExchangeGives rel first tables gate phase Pending → StandsFor rel first tables phase
-  goes_on gate None gives = absurd gives
-  goes_on gate (Some now) gives = gives.0
+  pub goes_on : (waits : Gate → B → B → Type 0) (gate : Gate) (phase : Option (SeenPhase V B C R F FTask GTask H HTask K KTask N)) → ExchangeGives rel first tables waits gate phase Pending → StandsFor rel first tables phase
+  goes_on waits gate None gives = absurd gives
+  goes_on waits gate (Some now) gives = gives.0
 
   pub ended_back : (ended : EndedOf C R Handle) → EndsSo rel first tables ended → HandsBack first.at.kept.shutdown (handle_of ended)
   ended_back (Finished run response handle) ends = ends.backs.hands_back
@@ -75,9 +75,9 @@ module _ {V S C R F FTask GTask H HTask K KTask N : Type 0} (requests : Calling 
     (handlers : Calling H (Handed V (Body (Cancellable S))) (Kept C) (Reply R (Body (Cancellable S))) HTask) (catchers : Calling K (Refused V) (Kept C) (Result (ResponseOf R) Status) KTask)
     (rule : GateRule) (tables : SeenTables F H K N V) (sources : S → Meaning) where
   pub ended_lifecycle : (asked : Asked) (head : Head) (source : S) (handle : Handle) (exchange : SeenExchange V (Body (Cancellable S)) C R F FTask GTask H HTask K KTask N) (ended : EndedOf C R Handle)
-      → asked.head ≡ head → IsUntouched (sources source) → GivesBody asked (sources source) → (begun : IsBegun requests responses handlers catchers tables head source handle exchange)
-      → EndsSo (callbacks_with requests responses handlers catchers rule) (beginning begun.request begun.jar begun.faults (body_from source) handle) tables ended
-      → IfFinished ended (Lifecycle (callbacks_with requests responses handlers catchers rule) tables sources asked)
+      → asked.head ≡ head → IsUntouched (sources source) → GivesBody asked (sources source) → (begun : IsBegun sources requests responses handlers catchers tables head source handle exchange)
+      → EndsSo (callbacks_with sources requests responses handlers catchers rule) (beginning begun.request begun.jar begun.faults (body_from source) handle) tables ended
+      → IfFinished ended (Lifecycle (callbacks_with sources requests responses handlers catchers rule) tables sources asked)
   ended_lifecycle asked head source handle exchange (Starved back) same untouched gives begun ends = tt
   ended_lifecycle asked head source handle exchange (Finished run response back) same untouched gives begun ends = record {
     request = begun.request;

@@ -1,5 +1,5 @@
 -- Where an exchange with a link begins, and under which Gates it is polled.
-use Rattle.std.specs.Prelude.{◌≡◌, ℕ, List, None, Option, Result, IsSome}
+use Rattle.std.specs.Prelude.{◌≡◌, ℕ, List, None, Result, IsSome}
 use Rattle.rkt_cancel.specs.Cancel.{Cancellable}
 use Rattle.rkt_cookie.specs.Jar.{JarParts}
 use Rattle.rkt_data.specs.Body.{Body}
@@ -17,6 +17,7 @@ use Rattle.rkt_request.specs.declared.head.Head.{Head}
 use Rattle.rkt_router.specs.Callbacks.{Handed, Refused, Reply}
 use Rattle.rkt_router.specs.Calling.{Calling}
 use Rattle.rkt_router.specs.Calls.{GateFits, GateRule}
+use Rattle.rkt_source.specs.Source.{Meaning}
 use Rattle.rkt_source.specs.declared.source.Gate.{Gate}
 use Rattle.rkt_turn.specs.Shutdown.{Handle}
 use Rattle.rkt_serve.specs.Clock.{ClockMeaning, IsAmid}
@@ -36,7 +37,7 @@ abbrev pub AllFit : GateRule → ℕ → ℕ → ClockMeaning → ClockMeaning �
 AllFit rule grace mercy old new = (moment : ℕ) → IsAmid old new moment → GateFits rule (gate_with moment grace mercy)
 
 -- an exchange stands where what a head asks begins, with the body of this source and with this handle
-pub record IsBegun {V S C R F FTask GTask H HTask K KTask N : Type 0} (requests : Calling F (Unit {0}) (RequestAt V (Body (Cancellable S)) C) (Unit {0}) FTask) (responses : Calling F (Seen V) (ResponseAt R C) (Unit {0}) GTask)
+pub record IsBegun {V S C R F FTask GTask H HTask K KTask N : Type 0} (sources : S → Meaning) (requests : Calling F (Unit {0}) (RequestAt V (Body (Cancellable S)) C) (Unit {0}) FTask) (responses : Calling F (Seen V) (ResponseAt R C) (Unit {0}) GTask)
     (handlers : Calling H (Handed V (Body (Cancellable S))) (Kept C) (Reply R (Body (Cancellable S))) HTask) (catchers : Calling K (Refused V) (Kept C) (Result (ResponseOf R) Status) KTask)
     (tables : SeenTables F H K N V) (head : Head) (source : S) (handle : Handle) (exchange : SeenExchange V (Body (Cancellable S)) C R F FTask GTask H HTask K KTask N) : Type 0 where
   pub request : Seen V
@@ -45,4 +46,4 @@ pub record IsBegun {V S C R F FTask GTask H HTask K KTask N : Type 0} (requests 
   pub incoming : IsIncoming head tables.config tables.managed request jar faults
   pub going : IsSome exchange.phase
   pub same : exchange.tables ≡ tables
-  pub stands : (rule : GateRule) → StandsFor (callbacks_with requests responses handlers catchers rule) (beginning request jar faults (body_from source) handle) exchange.tables exchange.phase
+  pub stands : (rule : GateRule) → StandsFor (callbacks_with sources requests responses handlers catchers rule) (beginning request jar faults (body_from source) handle) exchange.tables exchange.phase

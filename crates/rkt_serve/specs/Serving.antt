@@ -6,6 +6,7 @@ use Rattle.rkt_fairing.specs.Callbacks.{RequestAt, ResponseAt}
 use Rattle.rkt_fairing.specs.InSlot.{slot_request, slot_response}
 use Rattle.rkt_fairing.specs.declared.slot.Slot.{Slot}
 use Rattle.rkt_http.specs.declared.status.Status.{Status}
+use Rattle.rkt_lifecycle.specs.Peeks.{peeks_of}
 use Rattle.rkt_lifecycle.specs.Relations.{Relations, relations}
 use Rattle.rkt_lifecycle.specs.Tables.{SeenTables}
 use Rattle.rkt_message.specs.Response.{ResponseOf}
@@ -39,11 +40,11 @@ abbrev pub serving : {V S C R F FTask GTask H HTask K KTask L : Type 0} → Call
 serving requests responses handlers catchers sources streams links window =
     record { requests = slot_request requests; responses = slot_response responses; handlers = handlers; catchers = catchers; sources = sources; streams = streams; links = links; window = window }
 
--- what the callbacks mean, in their slots, under the Gates of a rule
-abbrev pub callbacks_with : {V B C R F FTask GTask H HTask K KTask : Type 0} → Calling F (Unit {0}) (RequestAt V B C) (Unit {0}) FTask → Calling F (Seen V) (ResponseAt R C) (Unit {0}) GTask
-    → Calling H (Handed V B) (Kept C) (Reply R B) HTask → Calling K (Refused V) (Kept C) (Result (ResponseOf R) Status) KTask → GateRule
-    → Relations V B C R F FTask GTask H HTask K KTask
-callbacks_with requests responses handlers catchers rule = relations (slot_request requests) (slot_response responses) handlers catchers rule
+-- what the sources of bodies and the callbacks mean, these in their slots, under the Gates of a rule
+abbrev pub callbacks_with : {V S C R F FTask GTask H HTask K KTask : Type 0} → (S → Meaning) → Calling F (Unit {0}) (RequestAt V (Body (Cancellable S)) C) (Unit {0}) FTask
+    → Calling F (Seen V) (ResponseAt R C) (Unit {0}) GTask → Calling H (Handed V (Body (Cancellable S))) (Kept C) (Reply R (Body (Cancellable S))) HTask
+    → Calling K (Refused V) (Kept C) (Result (ResponseOf R) Status) KTask → GateRule → Relations V (Body (Cancellable S)) C R F FTask GTask H HTask K KTask
+callbacks_with sources requests responses handlers catchers rule = relations (peeks_of sources) (slot_request requests) (slot_response responses) handlers catchers rule
 
 -- Gates of a clock's moments, with these delays and no trip
 abbrev pub gates_with : Option (ℕ × ℕ) → ℕ → ℕ → GateRule
@@ -56,4 +57,4 @@ gates_of window tables = gates_with window tables.config.grace tables.config.mer
 -- what the callbacks mean under those
 abbrev pub callbacks_of : {V S C R F FTask GTask H HTask K KTask L N : Type 0} → Serving V S C R F FTask GTask H HTask K KTask L → SeenTables F H K N V
     → Relations V (Body (Cancellable S)) C R F FTask GTask H HTask K KTask
-callbacks_of of_ tables = relations of_.requests of_.responses of_.handlers of_.catchers (gates_of of_.window tables)
+callbacks_of of_ tables = relations (peeks_of of_.sources) of_.requests of_.responses of_.handlers of_.catchers (gates_of of_.window tables)

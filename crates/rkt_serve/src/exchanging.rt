@@ -50,7 +50,7 @@ fn begin<'a, A: App>(
     shutdown: Shutdown<A::Reason>,
     gate: Gate,
 ) -> Result<Exchange<'a, A>, Shutdown<A::Reason>>
-    ensures begun { IfOk result (IsBegun A.Fairing.Requests.calling A.Fairing.Responses.calling A.Handler.calling A.Catch.calling tables.entry.now head.now source shutdown) }
+    ensures begun { IfOk result (IsBegun A.Source.meaning A.Fairing.Requests.calling A.Fairing.Responses.calling A.Handler.calling A.Catch.calling tables.entry.now head.now source shutdown) }
     ensures handle { IfErr result (λ back. back ≡ shutdown) }
 {
     let Ok(incoming) = Request::from_incoming(alloc, head, &tables.config, &tables.managed) else {
@@ -73,8 +73,8 @@ fn to_end<A: App, R: Wait, C: Clock>(
     requires going { IsSome exchange.old.phase }
     // Whatever rule all Gates fit that it may be polled under.
     ensures ends { (rule : GateRule) (first : Beginning A.Value (Body (Cancellable A.Source)) A.Cached) → AllFit rule grace mercy (C.meaning clock.old) (C.meaning clock.new)
-        → StandsFor (callbacks_with A.Fairing.Requests.calling A.Fairing.Responses.calling A.Handler.calling A.Catch.calling rule) first exchange.old.tables exchange.old.phase
-        → EndsSo (callbacks_with A.Fairing.Requests.calling A.Fairing.Responses.calling A.Handler.calling A.Catch.calling rule) first exchange.old.tables result.0 }
+        → StandsFor (callbacks_with A.Source.meaning A.Fairing.Requests.calling A.Fairing.Responses.calling A.Handler.calling A.Catch.calling rule) first exchange.old.tables exchange.old.phase
+        → EndsSo (callbacks_with A.Source.meaning A.Fairing.Requests.calling A.Fairing.Responses.calling A.Handler.calling A.Catch.calling rule) first exchange.old.tables result.0 }
     ensures last { result.1 ≡ (C.meaning clock.new).last }
     ensures clock { TellsOn (C.meaning clock.old) (C.meaning clock.new) }
 {
@@ -102,7 +102,7 @@ pub(crate) fn run_exchange<A: App, R: Wait, C: Clock>(
     clock: &mut C,
 ) -> (Ended<A>, u64)
     ensures lifecycle { (asked : Asked) → asked.head ≡ head.now → IsUntouched (A.Source.meaning source) → GivesBody asked (A.Source.meaning source)
-        → IfFinished result.0 (Lifecycle (callbacks_with A.Fairing.Requests.calling A.Fairing.Responses.calling A.Handler.calling A.Catch.calling (gates_of (C.meaning clock.old).window tables.now)) tables.now A.Source.meaning asked) }
+        → IfFinished result.0 (Lifecycle (callbacks_with A.Source.meaning A.Fairing.Requests.calling A.Fairing.Responses.calling A.Handler.calling A.Catch.calling (gates_of (C.meaning clock.old).window tables.now)) tables.now A.Source.meaning asked) }
     ensures moment { IfFinished result.0 (λ run response. IsAmid (C.meaning clock.old) (C.meaning clock.new) run.moment) }
     ensures last { IfFinished result.0 (λ run response. result.1 ≡ (C.meaning clock.new).last) }
     ensures handle { HandsBack shutdown (handle_of result.0) }

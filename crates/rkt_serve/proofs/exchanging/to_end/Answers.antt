@@ -1,4 +1,5 @@
 use Rattle.std.proofs.Common.{refl, sym, subst, ◌∙◌, ap, arith}
+use Rattle.rkt_lifecycle.specs.Peeks.{waits_of}
 use Rattle.rkt_lifecycle.specs.Stands.{EndsSo}
 use Rattle.rkt_router.specs.Calls.{GateFits}
 use Rattle.rkt_serve.proofs.Endings.{fit_before, goes_on}
@@ -26,7 +27,7 @@ loop-preserved g c =
       tells_more told before now c.now-moment.result inv.4 c.now-moment.ensures.rises c.now-moment.ensures.last,
       λ rule first fit stands.
           let fits = subst (λ gate. GateFits rule gate) (sym c.gate_with-gate.ensures) (fit c.now-moment.result (record { from = omega (arith, inv.4.rises, c.now-moment.ensures.rises); to = omega (arith, last); within = within })) in
-          goes_on (callbacks_with g.A-Fairing-Requests-RequestCallback.calling g.A.Fairing.Responses.ResponseCallback.calling g.A-Handler-Handler.calling g.A.Catch.CatchHandler.calling rule) first c.poll.new.self.tables c.gate_with-gate.result c.poll.new.self.phase
+          goes_on (callbacks_with g.A.Source.Source.meaning g.A-Fairing-Requests-RequestCallback.calling g.A.Fairing.Responses.ResponseCallback.calling g.A-Handler-Handler.calling g.A.Catch.CatchHandler.calling rule) first c.poll.new.self.tables (waits_of g.A.Source.Source.meaning g.A.Source.Shut.shuts g.A.Source.Source.polled) c.gate_with-gate.result c.poll.new.self.phase
           (polled.gives rule first fits (inv.5 rule first (fit_before rule c.args.grace c.args.mercy told before now (omega (arith, last, c.now-moment.ensures.rises)) fit) stands)),
     )
 
@@ -40,7 +41,7 @@ returns-in-Ready-clause-ends g c rule first fit stands =
     let within = told_within told before c.now-moment.result inv.4 c.now-moment.ensures.window in
     let fits = subst (λ gate. GateFits rule gate) (sym c.gate_with-gate.ensures) (fit c.now-moment.result (record { from = omega (arith, inv.4.rises, c.now-moment.ensures.rises); to = omega (arith, last); within = within })) in
     let polled = c.in-Ready.ensures in
-    subst (λ ts. EndsSo (callbacks_with g.A-Fairing-Requests-RequestCallback.calling g.A.Fairing.Responses.ResponseCallback.calling g.A-Handler-Handler.calling g.A.Catch.CatchHandler.calling rule) first ts c.in-Ready.ended) (polled.tables ∙ inv.3)
+    subst (λ ts. EndsSo (callbacks_with g.A.Source.Source.meaning g.A-Fairing-Requests-RequestCallback.calling g.A.Fairing.Responses.ResponseCallback.calling g.A-Handler-Handler.calling g.A.Catch.CatchHandler.calling rule) first ts c.in-Ready.ended) (polled.tables ∙ inv.3)
     (polled.gives rule first fits (inv.5 rule first (fit_before rule c.args.grace c.args.mercy told before now (omega (arith, last, c.now-moment.ensures.rises)) fit) stands))
 
 pub returns-in-Ready-clause-last : goal.returns-in-Ready-clause-last

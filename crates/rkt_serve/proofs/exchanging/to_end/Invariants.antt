@@ -17,5 +17,5 @@ invariant-loop g l =
     × TellsOn (g.C.Clock.meaning l.initial.clock) (g.C.Clock.meaning l.clock)
     × ((rule : GateRule) (first : Beginning g.row.A-Value.Denot (Body (Cancellable g.row.A-Source.Denot)) g.row.A-Cached.Denot)
     → AllFit rule l.grace l.mercy (g.C.Clock.meaning l.initial.clock) (g.C.Clock.meaning l.clock)
-    → StandsFor (callbacks_with g.A-Fairing-Requests-RequestCallback.calling g.A.Fairing.Responses.ResponseCallback.calling g.A-Handler-Handler.calling g.A.Catch.CatchHandler.calling rule) first l.initial.exchange.tables l.initial.exchange.phase
-    → StandsFor (callbacks_with g.A-Fairing-Requests-RequestCallback.calling g.A.Fairing.Responses.ResponseCallback.calling g.A-Handler-Handler.calling g.A.Catch.CatchHandler.calling rule) first l.exchange.tables l.exchange.phase)
+    → StandsFor (callbacks_with g.A.Source.Source.meaning g.A-Fairing-Requests-RequestCallback.calling g.A.Fairing.Responses.ResponseCallback.calling g.A-Handler-Handler.calling g.A.Catch.CatchHandler.calling rule) first l.initial.exchange.tables l.initial.exchange.phase
+    → StandsFor (callbacks_with g.A.Source.Source.meaning g.A-Fairing-Requests-RequestCallback.calling g.A.Fairing.Responses.ResponseCallback.calling g.A-Handler-Handler.calling g.A.Catch.CatchHandler.calling rule) first l.exchange.tables l.exchange.phase)

@@ -1,5 +1,8 @@
 use Rattle.rkt_lifecycle.proofs.exchange.ExchangeOf.advance.Goals as goal
 
+pub returns-in-Peeking : goal.returns-in-Peeking
+returns-in-Peeking g c = λ rule first fits stands. c.peek.ensures rule first fits (rw c.in-Peeking.is at stands)
+
 pub returns-in-Asking : goal.returns-in-Asking
 returns-in-Asking g c = λ rule first fits stands. c.ask.ensures rule first fits (rw c.in-Asking.is at stands)
 

@@ -1,7 +1,8 @@
-use Rattle.std.proofs.Common.{◌∙◌, ap}
+use Rattle.std.proofs.Common.{◌∙◌, ap, refl}
 use Rattle.rkt_fairing.specs.InSlot.{slot_request, slot_response}
-use Rattle.rkt_lifecycle.proofs.Exchanging.{asking_begins, no_faults, refusing_begins, some_faults}
+use Rattle.rkt_lifecycle.proofs.Exchanging.{no_faults, peeking_begins, refusing_begins, some_faults}
 use Rattle.rkt_lifecycle.specs.Beginning.{beginning}
+use Rattle.rkt_lifecycle.specs.Peeks.{peeks_of}
 use Rattle.rkt_lifecycle.specs.Relations.{relations}
 use Rattle.rkt_lifecycle.specs.Tables.{table_of}
 use Rattle.rkt_lifecycle.proofs.exchange.ExchangeOf.new.Goals.{in-empty, in_default}
@@ -11,10 +12,9 @@ pub returns-clause-stands : goal.returns-clause-stands
 returns-clause-stands g c = λ rule.
     let first = beginning c.args.incoming.request c.args.incoming.jar c.args.incoming.faults c.args.body c.args.shutdown in
     elim c.if-as_slice-lt1.branch [
-      | in-empty w ↦ rw w.phase-is (asking_begins (relations (slot_request g.P.RequestCallback.calling) (slot_response g.Q.ResponseCallback.calling) g.H.Handler.calling g.K.CatchHandler.calling rule) first c.args.tables.now w.new.result
-          (no_faults c.args.incoming.faults (rw c.as_slice.ensures at w.in-empty.len_below))
-          (w.new.ensures.fairings ∙ ap (λ t. t.fairings) c.tables.view_is) (w.new.ensures.turns ∙ ap (λ t. t.config.turns) c.tables.view_is) (rw c.new-ctx.ensures at (w.new.ensures.stands rule)))
-      | in_default w ↦ rw w.phase-is (refusing_begins (relations (slot_request g.P.RequestCallback.calling) (slot_response g.Q.ResponseCallback.calling) g.H.Handler.calling g.K.CatchHandler.calling rule) first c.args.tables.now w.new-in_default.result
+      | in-empty w ↦ rw w.phase-is (peeking_begins (relations (peeks_of g.T.Source.Source.meaning) (slot_request g.P.RequestCallback.calling) (slot_response g.Q.ResponseCallback.calling) g.H.Handler.calling g.K.CatchHandler.calling rule) first c.args.tables.now (record { request = c.args.incoming.request; body = c.args.body; ctx = c.new-ctx.result })
+          (no_faults c.args.incoming.faults (rw c.as_slice.ensures at w.in-empty.len_below)) refl refl (ap (λ x. x.kept) c.new-ctx.ensures))
+      | in_default w ↦ rw w.phase-is (refusing_begins (relations (peeks_of g.T.Source.Source.meaning) (slot_request g.P.RequestCallback.calling) (slot_response g.Q.ResponseCallback.calling) g.H.Handler.calling g.K.CatchHandler.calling rule) first c.args.tables.now w.new.result
           (some_faults c.args.incoming.faults (rw c.as_slice.ensures at w.in_default.len_at_least))
-          (w.new-in_default.ensures.table ∙ ap table_of c.tables.view_is) (rw (c.new-ctx.ensures, c.as_slice.ensures) at (w.new-in_default.ensures.stands rule)))
+          (w.new.ensures.table ∙ ap table_of c.tables.view_is) (rw (c.new-ctx.ensures, c.as_slice.ensures) at (w.new.ensures.stands rule)))
     ]
