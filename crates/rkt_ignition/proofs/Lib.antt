@@ -1,0 +1,4 @@
+pub mod Layers
+pub mod OfRoutes
+pub mod Refusals
+pub mod Walks
