@@ -9,7 +9,7 @@ use rkt_router::Sentry;
 
 /// What a sentry says of itself, without what it asks.
 #[derive(Clone, Copy, Debug, Drop)]
-pub struct Node {
+pub(crate) struct Node {
     pub key: Key,
     pub parent: Option<Key>,
     pub specialized: bool,
@@ -17,7 +17,7 @@ pub struct Node {
 
 impl Node {
     /// What a sentry says.
-    pub(crate) fn of<S>(sentry: &Sentry<S>) -> Node
+    pub fn of<S>(sentry: &Sentry<S>) -> Node
         ensures { result ≡ node_of sentry.now }
     {
         Node {
