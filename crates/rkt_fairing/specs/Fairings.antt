@@ -52,6 +52,10 @@ admitted slot told fairings =
     (if has_ignited told.key fairings then record fairings { failures = fairings.failures ++ told.info ∷ [] } else with_slot slot told (without_key told.key fairings))
     else with_slot slot told fairings
 
+-- one more has failed
+abbrev pub with_failure : {F : Type 0} → SeenInfo → SeenFairings F → SeenFairings F
+with_failure info fairings = record fairings { failures = fairings.failures ++ info ∷ [] }
+
 -- one is attached, which tells its key and what it is
 abbrev pub added : {F : Type 0} → (F → Key) → (F → SeenInfo) → SeenFairings F → Slot F → SeenFairings F
 added key info fairings slot = admitted slot (record { key = slot_key key slot; info = slot_info info slot }) fairings

@@ -1,6 +1,6 @@
-ghost use Rattle.std.specs.Prelude.{◌≡◌, ◌≢◌, ◌↔◌, ◌<◌, [], IfErr, IsSome, OnOk, OnErr, fold, length, map};
+ghost use Rattle.std.specs.Prelude.{◌≡◌, ◌≢◌, ◌↔◌, ◌<◌, [], IfErr, IsSome, IsTrue, OnOk, OnErr, fold, length, map};
 ghost use Rattle.std.specs.Option.{option_copied};
-ghost use Rattle.rkt_fairing.specs.Fairings.{added, fairing_at, no_fairings};
+ghost use Rattle.rkt_fairing.specs.Fairings.{added, fairing_at, no_fairings, with_failure};
 ghost use Rattle.rkt_fairing.specs.Info.{seen_info};
 ghost use Rattle.rkt_fairing.specs.Places.{active_places, places_of};
 
@@ -58,6 +58,22 @@ impl<F> Fairings<F> {
     {
         let place = *self.lists.places.of(callback).get(n)?;
         self.lists.slots.get(place)
+    }
+
+    /// Whether one of those that are called at ignition still waits.
+    pub fn waits(&self) -> bool
+        ensures { IsTrue result ↔ (self.now.ignited < length self.now.places.ignite) }
+    {
+        self.lists.ignited < self.lists.places.of(Callback::Ignite).len()
+    }
+
+    /// Puts one behind the failures that `audit` gives.
+    pub fn push_failure(&mut self, info: Info) -> Result<(), NoMemory>
+        ensures ok { OnOk result (self.new ≡ with_failure (seen_info info) self.old) }
+        ensures err { OnErr result (self.new ≡ self.old) }
+    {
+        self.lists.failures.push(info)?;
+        Ok(())
     }
 
     /// Refuses what has a singleton that came after one of its key had ignited, with all of these.

@@ -1,0 +1,5 @@
+pub mod Layers
+pub mod Meeting
+pub mod OfRoutes
+pub mod Refusals
+pub mod Walks

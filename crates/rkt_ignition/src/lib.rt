@@ -1,0 +1,23 @@
+//! Ignition: what was built of a rocket becomes what it may be launched with, or is refused.
+#![tactic(auto)]
+
+mod accepting;
+mod answer;
+mod asking;
+mod calling;
+mod error;
+mod igniting;
+mod laws;
+mod node;
+mod parts;
+mod reach;
+mod rounds;
+mod routed;
+mod sentries;
+
+pub use answer::{IgniteAnswer, IgniteCall};
+pub use asking::query;
+pub use error::{Aborted, IgniteError};
+pub use igniting::{IgnitedParts, ignite};
+pub use laws::{at_most_one_catches, ranks_differ};
+pub use parts::IgnitedPartsOf;
