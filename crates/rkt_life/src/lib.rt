@@ -5,6 +5,7 @@ mod building;
 mod default_catcher;
 mod handed;
 mod igniting;
+mod ignition;
 mod lends;
 mod no_fairing;
 mod phase;
@@ -20,6 +21,7 @@ pub use rkt_fairing::{
     AdHoc, App, AtOnce, Attach, ChangesRequest, ChangesResponse, Fairing, Fairings, Info, Kind,
     Parts, Quiet, RequestCallback, ResponseCallback, Slot,
 };
+pub use rkt_ignition::{Aborted, IgniteAnswer, IgniteCall, IgniteError};
 pub use rkt_lifecycle::{Ended, EndedOf, Exchange, ExchangeOf, Run, RunOf, Tables, TablesOf};
 pub use rkt_routing::{Answer, Call, Which};
 pub use rocket::{Rocket, RocketOf};

@@ -1,0 +1,37 @@
+//! A rocket that was built, and ignites.
+ghost use Rattle.std.specs.Prelude.{◌≡◌, IfOk};
+ghost use Rattle.rkt_base.specs.Want.{IfRefused};
+ghost use Rattle.rkt_ignition.specs.Ignited.{IsIgnited, IsRefused};
+ghost use Rattle.rkt_life.specs.Ignition.{IgnitesTo};
+ghost use Rattle.rkt_turn.specs.Shutdown.{fresh};
+
+use crate::{Ignite, Rocket, RocketOf};
+use rkt_base::Want;
+use rkt_fairing::{App, AppBuilding, Fairing};
+use rkt_ignition::{IgniteError, ignite};
+use rkt_lifecycle::TablesOf;
+use rkt_router::Aborts;
+use std::alloc::Global;
+
+impl<A: App<Sentinel: Aborts<A>>> RocketOf<AppBuilding<A>, A> {
+    /// Calls the fairings of ignition, reads the configuration, and asks for collisions and sentinels. For want of memory, and
+    /// where it is refused, all of it is dropped.
+    pub fn ignite(self, alloc: Global) -> Result<Rocket<Ignite, A>, Want<IgniteError>>
+        // Its tables are those of what has ignited.
+        ensures ignited { IfOk result (λ rocket. IgnitesTo (IsIgnited A.Fairing.Ignites.calling A.Fairing.key A.Fairing.info A.Sentinel.may self) rocket.tables) }
+        // Each refusal has its cause, and comes only where those before it did not.
+        ensures refused { IfRefused result (IsRefused A.Fairing.Ignites.calling A.Fairing.key A.Fairing.info A.Sentinel.may self) }
+        ensures fresh { IfOk result (λ rocket. rocket.handle ≡ fresh rocket.handle.wire) }
+    {
+        let parts = ignite::<A, A::Fairing, <A::Fairing as Fairing<A>>::Ignites>(
+            alloc, self.state,
+        )?;
+        let tables = TablesOf {
+            router: parts.router,
+            fairings: parts.fairings,
+            config: parts.config,
+            managed: parts.managed,
+        };
+        Ok(Rocket::<Ignite, A>::from_tables(alloc, tables)?)
+    }
+}
