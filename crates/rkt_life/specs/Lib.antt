@@ -1,5 +1,8 @@
+pub mod AnswersData
+pub mod BuildError
 pub mod Built
 pub mod DefaultCatcher
 pub mod Handed
 pub mod NoFairing
+pub mod OneOf
 pub mod Rocket
