@@ -1,14 +1,18 @@
 //! What callers get of them: the framework's promises, by the bounds alone.
-ghost use Rattle.std.specs.Prelude.{◌≡◌};
+ghost use Rattle.std.specs.Prelude.{◌≡◌, IfOk, codes};
 
 use crate::author::{Depth, Hex, Loud, NoPoint, Point, Site, Stopped, Token};
+use crate::callbacks::Motto;
 use cases::{CaseError, plain, written};
 use rkt_base::{NoMemory, Poll, Want};
 use rkt_cookie::CookieJar;
 use rkt_data::{Data, Gate, MemorySource};
 use rkt_http::{Header, Method, Origin, Outcome, Status};
-use rkt_request::{Body0, Config, Ctx, DataOutcome, FromData, Managed, Parsed, Request, TextError};
+use rkt_request::{
+    Body0, Config, Ctx, DataOutcome, FromData, Managed, Parsed, Request, TextError, Types,
+};
 use rkt_response::{Responder, Response};
+use rkt_router::Answers;
 use rkt_turn::TripWire;
 use std::alloc::Global;
 
@@ -155,6 +159,13 @@ pub fn push_point(
 ) -> Result<(), CaseError> {
     let bytes = text.as_bytes().to_vec(alloc)?;
     push_body(alloc, out, request, Data::local(bytes))
+}
+
+/// What a handler answers that promises it: its callers know the text by that alone.
+pub fn motto<T: Types>(alloc: Global, request: &Request<'_, T>) -> Result<&'static str, NoMemory>
+    ensures { IfOk result (λ text. text.now ≡ codes "we prove it") }
+{
+    Motto.answer(alloc, request)
 }
 
 /// Adds the size of a response's body, if it is known.

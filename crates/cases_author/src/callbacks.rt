@@ -1,9 +1,10 @@
 //! Handlers and catchers as an author writes them who says nothing of them to the prover.
-use crate::author::{Site, Token};
+use crate::author::{Point, Site, Token};
 use rkt_base::NoMemory;
 use rkt_cookie::Cookie;
 use rkt_http::{Outcome, Status};
-use rkt_request::{Ctx, Request, Types};
+use rkt_life::{AnswersData, PlainText};
+use rkt_request::{Ctx, Parsed, Request, Types};
 use rkt_router::{Answers, AnswersIf, AnswersWith, Catches, CatchesWith};
 use std::alloc::Global;
 
@@ -20,6 +21,23 @@ impl<T: Types> Answers<T> for Greets {
         };
         let text = format!(in alloc; "hello {name}")?;
         Ok(Some(text))
+    }
+}
+
+/// Answers its motto, and promises so.
+#[derive(Drop)]
+pub struct Motto;
+
+impl<T: Types> Answers<T> for Motto {
+    ghost use Rattle.std.specs.Prelude.{◌≡◌, codes};
+
+    type Value = &'static str;
+
+    // It answers nothing else, whatever the request.
+    ghost may = { λ motto request text. text.now ≡ codes "we prove it" };
+
+    fn answer(&self, _alloc: Global, _request: &Request<'_, T>) -> Result<&'static str, NoMemory> {
+        Ok("we prove it")
     }
 }
 
@@ -41,6 +59,27 @@ impl AnswersIf<Site> for Shows {
             Outcome::Error((status, _)) => Ok(Outcome::Error(status)),
             Outcome::Forward(status) => Ok(Outcome::Forward(status)),
         }
+    }
+}
+
+/// Says where the point is that a body spells.
+#[derive(Drop)]
+pub struct Places;
+
+impl<T: Types> AnswersData<T> for Places {
+    type Data = Parsed<Point>;
+
+    type Value = PlainText;
+
+    fn answer(
+        &self,
+        alloc: Global,
+        _request: &Request<'_, T>,
+        taken: Parsed<Point>,
+        _ctx: &mut Ctx<T>,
+    ) -> Result<PlainText, NoMemory> {
+        let Parsed(Point { x, y }) = taken;
+        Ok(PlainText(format!(in alloc; "{x} right, {y} up")?))
     }
 }
 

@@ -36,7 +36,7 @@ fn handled<T: Types, H: Handler<T>>(
     None
 }
 
-/// What a handler gives in one turn.
+/// What a handler gives in one turn, without a body.
 pub fn push_handled<H: Handler<Site>>(
     alloc: Global,
     out: &mut String,
@@ -44,14 +44,19 @@ pub fn push_handled<H: Handler<Site>>(
     request: &Request<'_, Site>,
     ctx: &mut Ctx<Site>,
 ) -> Result<(), CaseError> {
-    match handled(
-        alloc,
-        handler,
-        1,
-        request,
-        ctx,
-        Data::local(Vec::new(alloc)),
-    ) {
+    push_taken(alloc, out, handler, request, ctx, Vec::new(alloc))
+}
+
+/// The same with the bytes of a body.
+pub fn push_taken<H: Handler<Site>>(
+    alloc: Global,
+    out: &mut String,
+    handler: &H,
+    request: &Request<'_, Site>,
+    ctx: &mut Ctx<Site>,
+    bytes: Vec<u8>,
+) -> Result<(), CaseError> {
+    match handled(alloc, handler, 1, request, ctx, Data::local(bytes)) {
         Some(Final::Done(reply)) => push_reply(out, reply),
         Some(Final::Starved) => Err(CaseError::NoMemory),
         _ => written(out.push_str("failed turn")),

@@ -10,25 +10,30 @@
 //! | `point TEXT` | the point that a body of this text spells, or the status of the error |
 //! | `loud TEXT` | the status of the response, or of the error, and the size of its body |
 //! | `greets PATH`, `shows TEXT` | the same of a handler's answer: it greets the first segment, or shows the token |
+//! | `motto` | the same of one that promises which text it answers, and that text |
+//! | `places TEXT` | the same of one that reads a body of this text |
+//! | `rocket` | how many routes and catchers the application's rocket has |
 //! | `visits` | the same of one that leaves a cookie, and how many changes of cookies it leaves |
 //! | `says STATUS PATH`, `notes STATUS PATH` | the same of a catcher's answer, and how many changes of cookies it leaves |
 //!
 //! Any other line answers `? line`.
 #![tactic(auto)]
 
+mod app;
 mod asked;
 mod author;
 mod callbacks;
 mod called;
 mod question;
 
+use crate::app::{places, push_rocket};
 use crate::asked::{
-    Setting, context, made_setting, push_depth, push_loud, push_param, push_point, push_token,
-    request, show_token,
+    Setting, context, made_setting, motto, push_depth, push_loud, push_param, push_point,
+    push_token, request, show_token,
 };
 use crate::author::Site;
-use crate::callbacks::{Greets, Notes, Says, Shows, Visits};
-use crate::called::{push_caught, push_handled};
+use crate::callbacks::{Greets, Motto, Notes, Says, Shows, Visits};
+use crate::called::{push_caught, push_handled, push_taken};
 use crate::question::{Callback, Question, parse_line};
 use cases::{Answers, CaseError, answer_lines_if_made, written};
 use rkt_base::NoMemory;
@@ -78,6 +83,30 @@ fn push_shown(
     push_handled(alloc, out, &AnsweringIf(Shows), request, ctx)
 }
 
+/// The status and the size of the response, and the motto that it is made of.
+fn push_motto(
+    alloc: Global,
+    out: &mut String,
+    request: &Request<'_, Site>,
+    ctx: &mut Ctx<Site>,
+) -> Result<(), CaseError> {
+    push_handled(alloc, out, &Answering(Motto), request, ctx)?;
+    write!(out, ", {}", motto(alloc, request)?)?;
+    Ok(())
+}
+
+/// Through the type of the application's pages.
+fn push_places(
+    alloc: Global,
+    out: &mut String,
+    request: &Request<'_, Site>,
+    ctx: &mut Ctx<Site>,
+    text: &str,
+) -> Result<(), CaseError> {
+    let bytes = text.as_bytes().to_vec(alloc)?;
+    push_taken(alloc, out, &places(), request, ctx, bytes)
+}
+
 fn push_visit(
     alloc: Global,
     out: &mut String,
@@ -119,6 +148,8 @@ fn push_called(
 ) -> Result<(), CaseError> {
     match callback {
         Callback::Greets => push_handled(alloc, out, &Answering(Greets), request, ctx),
+        Callback::Motto => push_motto(alloc, out, request, ctx),
+        Callback::Places(text) => push_places(alloc, out, request, ctx, text),
         Callback::Shows(token) => push_shown(alloc, out, request, ctx, token),
         Callback::Visits => push_visit(alloc, out, request, ctx),
         Callback::Says(status) => push_said(alloc, out, request, ctx, status),
@@ -169,6 +200,9 @@ fn ask(
 
 impl Answers for Program {
     fn answer(&mut self, alloc: Global, line: &str, out: &mut String) -> Result<(), CaseError> {
+        if line == "rocket" {
+            return push_rocket(alloc, out);
+        }
         let (question, path) = parse_line(line)?;
         self.ctx = context(alloc)?;
         ask(alloc, out, self, question, path)

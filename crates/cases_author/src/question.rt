@@ -21,6 +21,9 @@ pub enum Question<'a> {
 #[derive(Clone, Copy)]
 pub enum Callback<'a> {
     Greets,
+    Motto,
+    /// With a body of this text.
+    Places(&'a str),
     /// For a request that shows this token.
     Shows(&'a str),
     Visits,
@@ -51,8 +54,10 @@ fn parse_callback<'a>(
 ) -> Result<(Question<'a>, &'a str), CaseError> {
     match command {
         "greets" => Ok((Question::Call(Callback::Greets), rest)),
+        "motto" => Ok((Question::Call(Callback::Motto), "/")),
         "shows" => Ok((Question::Call(Callback::Shows(rest)), "/")),
         "visits" => Ok((Question::Call(Callback::Visits), "/")),
+        "places" => Ok((Question::Call(Callback::Places(rest)), "/")),
         _ => parse_catcher(command, rest),
     }
 }

@@ -1,92 +1,133 @@
-use rkt_base::{NoMemory, Want};
-use rkt_data::MemorySource;
-use rkt_http::{InvalidUri, Method};
-use rkt_life::{App, DefaultCatcher, Fairings, Ignite, NoFairing, Parts, Rocket, TablesOf};
-use rkt_request::{Config, Managed, Request, Types};
-use rkt_router::{Answering, Answers, Route, Router};
-use rkt_turn::Reason;
+use rkt_life::{
+    AdHoc, Answering, AnsweringWith, AnswersWith, App, Build, BuildError, Catcher, Catches,
+    ChangesResponse, Config, Cookie, Ctx, Ignite, Key, MemorySource, Method, NoMemory, OnResponse,
+    Parts, PlainText, Request, Response, Rocket, Route, Slot, Status, Stopped, Types,
+};
 use std::alloc::Global;
 
 /// The application, by its types.
 pub struct Site;
-
-/// The one reason for which the site may be shut down.
-#[derive(Clone, Copy)]
-pub struct Stopped;
-
-impl Reason for Stopped {
-    fn word(self) -> u64 {
-        1
-    }
-}
 
 impl Types for Site {
     type Source = MemorySource;
 
     type Stream = MemorySource;
 
-    type Cached = u64;
+    type Cached = ();
 
-    type Value = u64;
+    type Value = &'static str;
 
     type Reason = Stopped;
 }
 
-/// Answers with its own text.
-#[derive(Drop)]
-pub struct Page {
-    text: &'static str,
-}
-
-impl<T: Types> Answers<T> for Page {
-    type Value = &'static str;
-
-    fn answer(&self, _alloc: Global, _request: &Request<'_, T>) -> Result<&'static str, NoMemory> {
-        Ok(self.text)
-    }
-}
-
 impl Parts for Site {
-    type Handler = Answering<Page>;
+    type Handler = AnsweringWith<Page>;
 
-    type Catch = DefaultCatcher;
+    type Catch = Answering<Missing>;
 
-    type Sentinel = u8;
+    type Sentinel = ();
 }
 
 impl App for Site {
-    type Fairing = NoFairing;
+    type Fairing = OnResponse<Stamp>;
 }
 
-type SiteRouter = Router<Answering<Page>, DefaultCatcher, u8>;
+/// Where the greeting is managed.
+const GREETING: Key = Key(1);
 
-fn mount(
-    alloc: Global,
-    router: &mut SiteRouter,
-    path: &str,
-    text: &'static str,
-) -> Result<(), Want<InvalidUri>> {
-    let route = Route::new(alloc, Method::Get, path, Answering(Page { text }))?;
-    Ok(router.add_route(route)?)
+/// What answers the routes.
+#[derive(Drop)]
+pub enum Page {
+    Index,
+    Hello,
 }
 
-fn made_router(alloc: Global) -> Result<SiteRouter, Want<InvalidUri>> {
-    let mut router = SiteRouter::new(alloc);
-    mount(alloc, &mut router, "/", "welcome")?;
-    mount(alloc, &mut router, "/about/us", "we prove it")?;
-    Ok(router)
+impl AnswersWith<Site> for Page {
+    type Value = PlainText;
+
+    fn answer(
+        &self,
+        alloc: Global,
+        request: &Request<'_, Site>,
+        ctx: &mut Ctx<Site>,
+    ) -> Result<PlainText, NoMemory> {
+        match self {
+            Page::Index => {
+                ctx.cookies_mut().add(Cookie::new(alloc, "seen", "1")?)?;
+                Ok(PlainText(String::from_str(alloc, "Try /hello/you.")?))
+            }
+            Page::Hello => {
+                let greeting = request.managed().get(GREETING).copied().unwrap_or("");
+                let name = request.routed_segment(1).unwrap_or("");
+                Ok(PlainText(format!(in alloc; "{greeting}, {name}!")?))
+            }
+        }
+    }
 }
 
-/// The site's rocket, with no fairing, the default configuration and no managed value.
-pub fn rocket(alloc: Global) -> Result<Rocket<Ignite, Site>, Want<InvalidUri>> {
-    let router = made_router(alloc)?;
-    let fairings = Fairings::new(alloc);
+/// The page for 404.
+#[derive(Drop)]
+pub struct Missing;
+
+impl Catches<Site> for Missing {
+    type Value = (Status, PlainText);
+
+    fn catch(
+        &self,
+        alloc: Global,
+        status: Status,
+        request: &Request<'_, Site>,
+    ) -> Result<(Status, PlainText), NoMemory> {
+        let text = format!(in alloc; "Nothing is at {}.", request.uri().as_str())?;
+        Ok((status, PlainText(text)))
+    }
+}
+
+/// Says on each response who made it.
+#[derive(Drop)]
+pub struct Stamp;
+
+impl ChangesResponse<Site> for Stamp {
+    fn on_response(
+        &self,
+        _alloc: Global,
+        _request: &Request<'_, Site>,
+        response: &mut Response<MemorySource>,
+        _ctx: &mut Ctx<Site>,
+    ) -> Result<(), NoMemory> {
+        response.adjoin_raw_header("X-Made-With", "Hagluvei")
+    }
+}
+
+type Pages = Vec<Route<AnsweringWith<Page>, ()>>;
+
+fn pages(alloc: Global) -> Result<Pages, BuildError> {
+    let index = Route::new(alloc, Method::Get, "/", AnsweringWith(Page::Index))?;
+    let hello = AnsweringWith(Page::Hello);
+    let hello = Route::new(alloc, Method::Get, "/hello/<name>", hello)?;
+    Ok(vec![in alloc; index, hello]?)
+}
+
+fn catchers(alloc: Global) -> Result<Vec<Catcher<Answering<Missing>>>, BuildError> {
+    let missing = Catcher::new(alloc, Some(404), Answering(Missing))?;
+    Ok(vec![in alloc; missing]?)
+}
+
+fn built(alloc: Global) -> Result<Rocket<Build, Site>, BuildError> {
+    let pages = pages(alloc)?;
+    let catchers = catchers(alloc)?;
+    let stamp = Slot::App(AdHoc::on_response("stamp", Key(2), Stamp));
+    Ok(
+        Rocket::<Build, Site>::build(alloc)?
+            .mount(alloc, "/", pages)?
+            .register(alloc, "/", catchers)?
+            .manage(GREETING, "Hello")?
+            .attach(stamp)?,
+    )
+}
+
+/// The site's rocket.
+pub fn rocket(alloc: Global) -> Result<Rocket<Ignite, Site>, BuildError> {
     let config = Config::default(alloc)?;
-    let tables = TablesOf {
-        router,
-        fairings,
-        config,
-        managed: Managed::new(alloc),
-    };
-    Ok(Rocket::<Ignite, Site>::from_tables(alloc, tables)?)
+    Ok(built(alloc)?.assemble(alloc, config)?)
 }

@@ -1,6 +1,8 @@
-//! A rocket, and the phases that it goes through.
+//! A rocket, and the phases that it goes through. What an application names of the crates below is offered here too.
 #![tactic(auto)]
 
+mod answers_data;
+mod build_error;
 mod building;
 mod default_catcher;
 mod handed;
@@ -8,20 +10,42 @@ mod igniting;
 mod ignition;
 mod lends;
 mod no_fairing;
+mod one_of;
 mod phase;
+mod plain_text;
 mod rocket;
 mod routed;
+mod stopped;
 
+pub use answers_data::{AnsweringData, AnswersData, Taking};
+pub use build_error::BuildError;
 pub use default_catcher::DefaultCatcher;
 pub use handed::Handed;
 pub use igniting::{Igniting, IgnitingOf};
 pub use no_fairing::NoFairing;
+pub use one_of::OneOf;
 pub use phase::{Build, Ignite, Phase};
+pub use plain_text::PlainText;
+pub use rkt_base::{NoMemory, Want};
+pub use rkt_cookie::Cookie;
+pub use rkt_data::MemorySource;
 pub use rkt_fairing::{
-    AdHoc, App, AtOnce, Attach, ChangesRequest, ChangesResponse, Fairing, Fairings, Info, Kind,
-    Parts, Quiet, RequestCallback, ResponseCallback, Slot,
+    AdHoc, App, AtOnce, Attach, ChangesRequest, ChangesResponse, Fairing, Fairings, Info,
+    InvalidBase, Kind, OnRequest, OnResponse, Parts, Quiet, RequestCallback, ResponseCallback,
+    Slot,
 };
+pub use rkt_http::{Key, Method, Outcome, Status};
 pub use rkt_ignition::{Aborted, IgniteAnswer, IgniteCall, IgniteError};
 pub use rkt_lifecycle::{Ended, EndedOf, Exchange, ExchangeOf, Run, RunOf, Tables, TablesOf};
+pub use rkt_request::{
+    Body0, Config, ConfigTable, Ctx, FromData, FromText, Managed, Parsed, Request, Types,
+};
+pub use rkt_response::{Responder, Response, ResponseResult};
+pub use rkt_router::{
+    Answering, AnsweringIf, AnsweringWith, Answers, AnswersIf, AnswersWith, Catcher, Catches,
+    CatchesWith, Route, Router,
+};
 pub use rkt_routing::{Answer, Call, Which};
+pub use rkt_turn::Reason;
 pub use rocket::{Rocket, RocketOf};
+pub use stopped::Stopped;
