@@ -1,7 +1,7 @@
 use rkt_life::{
     AdHoc, Answering, AnsweringWith, AnswersWith, App, Build, BuildError, Catcher, Catches,
-    ChangesResponse, Config, Cookie, Ctx, Ignite, Key, MemorySource, Method, NoMemory, OnResponse,
-    Parts, PlainText, Request, Response, Rocket, Route, Slot, Status, Stopped, Types,
+    ChangesResponse, Cookie, Ctx, Ignite, Key, MemorySource, Method, NoMemory, OnResponse, Parts,
+    PlainText, Request, Response, Rocket, Route, Slot, Status, Stopped, Types,
 };
 use std::alloc::Global;
 
@@ -128,6 +128,5 @@ fn built(alloc: Global) -> Result<Rocket<Build, Site>, BuildError> {
 
 /// The site's rocket.
 pub fn rocket(alloc: Global) -> Result<Rocket<Ignite, Site>, BuildError> {
-    let config = Config::default(alloc)?;
-    Ok(built(alloc)?.assemble(alloc, config)?)
+    Ok(built(alloc)?.ignite(alloc)?)
 }

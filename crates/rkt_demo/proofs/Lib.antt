@@ -1,7 +1,9 @@
+pub mod Apart
 pub mod Choices
 pub mod Cookies
 pub mod Cuts
 pub mod Headers
+pub mod Igniting
 pub mod Lines
 pub mod LivesOnce
 pub mod Mounting
@@ -15,3 +17,4 @@ pub mod SectionsOnce
 pub mod Serving
 pub mod Shielding
 pub mod StreamLemmas
+pub mod WordLemmas

@@ -44,6 +44,7 @@ use Rattle.rkt_demo.proofs.SampleCalls.{BodiesAlike, Body, HasNoSource, IsAtHand
 use Rattle.rkt_demo.proofs.Shielding.{answered_shielded, asked_nothing}
 use Rattle.rkt_demo.specs.Sample.{IsSample, SampleTables}
 use Rattle.rkt_demo.specs.Shown.{IsMade, LeadsTo, asked_for, served_in}
+use Rattle.rkt_demo.specs.Words.{Table}
 use Rattle.rkt_demo.specs.declared.script.ScriptRequest.{ScriptRequest}
 
 -- what is found is dressed, shielded, and kept to the body rule
@@ -108,7 +109,7 @@ begun_alike one other log log' floor floor' = record { log = log' ∙ sym log; f
 abbrev pub OneResponse : Response → Response → Type 0
 OneResponse response response' = (response' ≡ response) × HasNoSource response
 
-module _ (laws : Spelling) (window window' : Option (ℕ × ℕ)) (tables : SampleTables) (sample : IsSample tables) where
+module _ (laws : Spelling) (window window' : Option (ℕ × ℕ)) (table : Table) (tables : SampleTables) (sample : IsSample table tables) where
   abbrev Rel : Option (ℕ × ℕ) → Relations ℕ Body ℕ SourceInMemory NoFairing (Unit {0}) (Unit {0}) SampleRoute (Option Body) SampleCatcher Status
   Rel w = callbacks_of (served_in w) tables
 
@@ -202,8 +203,8 @@ module _ (laws : Spelling) (window window' : Option (ℕ × ℕ)) (tables : Samp
       (from_source life.source request life.untouched life.gives) (from_source life'.source request life'.untouched life'.gives) kepts life.leads leads'
 
 -- so an exchange makes one response
-pub made_once : (laws : Spelling) (window window' : Option (ℕ × ℕ)) (request : ScriptRequest) (response response' : Response) → IsMade window request response → IsMade window' request response' → OneResponse response response'
-made_once laws window window' request response response' made made' =
-    let tables = tables_once made.tables made'.tables made.sample made'.sample in
-    leads_once laws window window' made.tables made.sample request made.run made'.run response response' made.lifecycle
+pub made_once : (laws : Spelling) (table : Table) (window window' : Option (ℕ × ℕ)) (request : ScriptRequest) (response response' : Response) → IsMade table window request response → IsMade table window' request response' → OneResponse response response'
+made_once laws table window window' request response response' made made' =
+    let tables = tables_once table made.tables made'.tables made.sample made'.sample in
+    leads_once laws window window' table made.tables made.sample request made.run made'.run response response' made.lifecycle
     (subst (λ (t : SampleTables). LeadsTo window' t (asked_for request) made'.run response') tables made'.lifecycle)

@@ -28,7 +28,7 @@ fits_of : SaysWhatItSpells → (text : List ℕ) → IsOrigin Request text → I
 fits_of says text is = subst (IsTarget Request) (sym (says Request text is.0 is.1)) is.1.fits
 
 -- an own base such as is read
-abbrev HasRouteBase : Route SampleRoute ℕ → Type 0
+abbrev HasRouteBase : Route SampleRoute (Unit {0}) → Type 0
 HasRouteBase route = IsBase route.uri.base
 
 abbrev HasCatcherBase : Catcher SampleCatcher → Type 0

@@ -23,6 +23,7 @@ use Rattle.rkt_uri.specs.Host.{SpellsHost, SpellsOneHost}
 use Rattle.rkt_uri.specs.Origin.{SaysWhatItSpells, Spells, Target}
 use Rattle.rkt_uri.specs.declared.origin_place.Profile.TheVariants.{Request}
 use Rattle.rkt_demo.specs.Sample.{IsSample, SampleTables}
+use Rattle.rkt_demo.specs.Words.{Table}
 
 -- what a text is read as, where it spells one thing at most
 read_once : {X : Type 0} (Spells : List ℕ → X → Type 0) → ((text : List ℕ) (a b : X) → Spells text a → Spells text b → a ≡ b)
@@ -97,15 +98,15 @@ module _ {V : Type 0} (laws : Spelling) where
       }
 
 -- a table gives one configuration
-config_once : (table : List (List ℕ × List ℕ)) (config config' : Config) → IsConfig table config → IsConfig table config' → config' ≡ config
+config_once : (table : Table) (config config' : Config) → IsConfig table config → IsConfig table config' → config' ≡ config
 config_once table config config' is is' =
     let same : record { ident = config'.ident; ip_header = config'.ip_header; limits = config'.limits; grace = config'.grace; mercy = config'.mercy; turns = config'.turns } ≡ config =
     rw (is'.ident ∙ sym is.ident, is'.ip_header ∙ sym is.ip_header, is'.limits ∙ sym is.limits, is'.grace ∙ sym is.grace, is'.mercy ∙ sym is.mercy, is'.turns ∙ sym is.turns) refl in
     same
 
 -- the sample has one list of tables
-pub tables_once : (tables tables' : SampleTables) → IsSample tables → IsSample tables' → tables' ≡ tables
-tables_once tables tables' is is' =
+pub tables_once : (table : Table) (tables tables' : SampleTables) → IsSample table tables → IsSample table tables' → tables' ≡ tables
+tables_once table tables tables' is is' =
     let same : record { router = record { routes = tables'.router.routes; catchers = tables'.router.catchers }; fairings = tables'.fairings; config = tables'.config; managed = tables'.managed } ≡ tables =
-    rw (is'.routes ∙ sym is.routes, is'.catchers ∙ sym is.catchers, is'.fairings ∙ sym is.fairings, config_once [] tables.config tables'.config is.config is'.config, is'.managed ∙ sym is.managed) refl in
+    rw (is'.routes ∙ sym is.routes, is'.catchers ∙ sym is.catchers, is'.fairings ∙ sym is.fairings, config_once table tables.config tables'.config is.config is'.config, is'.managed ∙ sym is.managed) refl in
     same

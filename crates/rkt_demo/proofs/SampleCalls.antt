@@ -92,7 +92,7 @@ page_at_hand : (json : Bool) (code : ℕ) → HasNoSource (page_of json code)
 page_at_hand true code = tt
 page_at_hand false code = tt
 
-module _ (laws : Spelling) (rule rule' : GateRule) (untripped : rule.may_trip ≡ false) (untripped' : rule'.may_trip ≡ false) (table : SeenTable SampleRoute SampleCatcher ℕ) where
+module _ (laws : Spelling) (rule rule' : GateRule) (untripped : rule.may_trip ≡ false) (untripped' : rule'.may_trip ≡ false) (table : SeenTable SampleRoute SampleCatcher (Unit {0})) where
   abbrev Reply' : Type 0
   Reply' = Reply SourceInMemory Body
 

@@ -15,6 +15,7 @@ use Rattle.rkt_demo.proofs.SampleCalls.{IsAtHand, Response}
 use Rattle.rkt_demo.specs.Output.{answered_section, body_bytes, failed_section, head_text, sent_section}
 use Rattle.rkt_demo.specs.Script.{lines_of, requests_of}
 use Rattle.rkt_demo.specs.Shown.{IsAnswered, IsSection, IsServed, Shown, ShownFrom, ShownOnce}
+use Rattle.rkt_demo.specs.Words.{Table}
 use Rattle.rkt_demo.specs.declared.script.ScriptRequest.{ScriptRequest}
 
 heads_of_chunks : (chunks : List (List ℕ)) → flat_map head_text (map Chunk chunks ++ End ∷ []) ≡ []
@@ -54,24 +55,24 @@ told_once : (t : Bool) (k : ℕ) (response : Response) (section section' : List 
 told_once true k response section section' here told told' = answered_once k response section section' here told told'
 told_once false k response section section' here told told' = told' ∙ sym told
 
-served_once : (laws : Spelling) (window window' : Option (ℕ × ℕ)) (k : ℕ) (request : ScriptRequest) (section section' : List ℕ) → IsServed window k request section → IsServed window' k request section' → section' ≡ section
-served_once laws window window' k request section section' served served' =
-    let one = made_once laws window window' request served.response served'.response served.made served'.made in
+served_once : (laws : Spelling) (table : Table) (window window' : Option (ℕ × ℕ)) (k : ℕ) (request : ScriptRequest) (section section' : List ℕ) → IsServed table window k request section → IsServed table window' k request section' → section' ≡ section
+served_once laws table window window' k request section section' served served' =
+    let one = made_once laws table window window' request served.response served'.response served.made served'.made in
     told_once (has_head served.response) k served.response section section' one.1 served.told
     (subst (λ (r : Response). MatchBool (has_head r) (IsAnswered k r section') (section' ≡ failed_section k)) one.0 served'.told)
 
-section_once : (laws : Spelling) (window window' : Option (ℕ × ℕ)) (starved : Bool) (k : ℕ) (request : ScriptRequest) (section section' : List ℕ) → IsSection starved window k request section
-    → IsSection starved window' k request section' → section' ≡ section
-section_once laws window window' true k request section section' is is' = is' ∙ sym is
-section_once laws window window' false k request section section' is is' = served_once laws window window' k request section section' is is'
+section_once : (laws : Spelling) (table : Table) (window window' : Option (ℕ × ℕ)) (starved : Bool) (k : ℕ) (request : ScriptRequest) (section section' : List ℕ) → IsSection starved table window k request section
+    → IsSection starved table window' k request section' → section' ≡ section
+section_once laws table window window' true k request section section' is is' = is' ∙ sym is
+section_once laws table window window' false k request section section' is is' = served_once laws table window window' k request section section' is is'
 
-from_once : (laws : Spelling) (window window' : Option (ℕ × ℕ)) (starved : ℕ → Bool) (k : ℕ) (requests : List ScriptRequest) (text text' : List ℕ) → ShownFrom window starved k requests text
-    → ShownFrom window' starved k requests text' → text' ≡ text
-from_once laws window window' starved k [] text text' is is' = is' ∙ sym is
-from_once laws window window' starved k (request ∷ requests) text text' is is' =
-    let first : is'.0 ≡ is.0 = section_once laws window window' (starved k) k request is.0 is'.0 is.2 is'.2 in
-    let rest : is'.1 ≡ is.1 = from_once laws window window' starved (k + 1) requests is.1 is'.1 is.3 is'.3 in
+from_once : (laws : Spelling) (table : Table) (window window' : Option (ℕ × ℕ)) (starved : ℕ → Bool) (k : ℕ) (requests : List ScriptRequest) (text text' : List ℕ) → ShownFrom table window starved k requests text
+    → ShownFrom table window' starved k requests text' → text' ≡ text
+from_once laws table window window' starved k [] text text' is is' = is' ∙ sym is
+from_once laws table window window' starved k (request ∷ requests) text text' is is' =
+    let first : is'.0 ≡ is.0 = section_once laws table window window' (starved k) k request is.0 is'.0 is.2 is'.2 in
+    let rest : is'.1 ≡ is.1 = from_once laws table window window' starved (k + 1) requests is.1 is'.1 is.3 is'.3 in
     is'.4 ∙ rw (first, rest) (sym is.4)
 
 pub one_text : Spelling → ShownOnce
-one_text laws window window' starved script text text' is is' = from_once laws window window' starved 0 (requests_of (lines_of script)) text text' is is'
+one_text laws table window window' starved script text text' is is' = from_once laws table window window' starved 0 (requests_of (lines_of script)) text text' is is'

@@ -28,6 +28,7 @@ use Rattle.rkt_demo.proofs.SampleCalls.{IsAtHand}
 use Rattle.rkt_demo.specs.Entries.{ended_section, entry_section, entries_text, AreEntries}
 use Rattle.rkt_demo.specs.Sample.{IsSample, SampleTables}
 use Rattle.rkt_demo.specs.Shown.{IsMade, IsSection, LeadsTo, ShownFrom, asked_for, served_in}
+use Rattle.rkt_demo.specs.Words.{Table}
 use Rattle.rkt_demo.specs.declared.script.ScriptRequest.{ScriptRequest}
 
 abbrev Kept : Type 0
@@ -75,9 +76,9 @@ never_fails turns (content.Sized rest size) d at_hand (inr may) = may
 never_fails turns (content.Phantom length size) d at_hand (inl errs) = errs.1
 never_fails turns (content.Phantom length size) d at_hand (inr may) = may
 
-module _ (laws : Spelling) (window : Option (ℕ × ℕ)) (tables : SampleTables) (sample : IsSample tables) where
+module _ (laws : Spelling) (window : Option (ℕ × ℕ)) (table : Table) (tables : SampleTables) (sample : IsSample table tables) where
   -- the response of an entry was made of its request
-  made_of : (request : ScriptRequest) (entry : Kept) (ended : Ending) (ran : Ran (served_in window) tables entry ended) → ServedFor window tables request entry → IsMade window request ran.first
+  made_of : (request : ScriptRequest) (entry : Kept) (ended : Ending) (ran : Ran (served_in window) tables entry ended) → ServedFor window tables request entry → IsMade table window request ran.first
   made_of request entry ended ran served = record {
     tables = tables;
     sample = sample;
@@ -87,7 +88,7 @@ module _ (laws : Spelling) (window : Option (ℕ × ℕ)) (tables : SampleTables
   }
 
   section_of_cause : (k : ℕ) (request : ScriptRequest) (entry : Kept) (ended : Ending) → CausedAs (served_in window) tables entry ended → ServedFor window tables request entry
-      → IsSection (is_starved ended) window k request (ended_section k ended entry.link.held)
+      → IsSection (is_starved ended) table window k request (ended_section k ended entry.link.held)
   section_of_cause k request entry Starved caused served = refl
   section_of_cause k request entry Answered caused served = record {
     response = caused.first;
@@ -101,7 +102,7 @@ module _ (laws : Spelling) (window : Option (ℕ × ℕ)) (tables : SampleTables
   }
   section_of_cause k request entry (Failed BodyFault) caused served =
       let made = made_of request entry (Failed BodyFault) caused served in
-      let one = made_once laws window window request caused.first caused.first made made in
+      let one = made_once laws table window window request caused.first caused.first made made in
       absurd (never_fails _ caused.first.body.content caused.response.body.content one.1 caused.sent.0)
 
   -- the i-th entry is one of the i-th request
@@ -109,7 +110,7 @@ module _ (laws : Spelling) (window : Option (ℕ × ℕ)) (tables : SampleTables
   ServedAt entries i request = (entry : Kept) × (slice_get entries i ≡ Some (Some entry)) × ServedFor window tables request entry
 
   shown_from : (starved : ℕ → Bool) (k : ℕ) (entries : List (Option Kept)) (requests : List ScriptRequest) → length entries ≡ length requests → ((i : ℕ) → starved (k + i) ≡ entry_starved (slice_get entries i))
-      → ((i : ℕ) (request : ScriptRequest) → slice_get requests i ≡ Some request → ServedAt entries i request) → ShownFrom window starved k requests (entries_text k entries)
+      → ((i : ℕ) (request : ScriptRequest) → slice_get requests i ≡ Some request → ServedAt entries i request) → ShownFrom table window starved k requests (entries_text k entries)
   shown_from starved k [] [] same told served = refl
   shown_from starved k [] (request ∷ requests) same told served = absurd (omega (arith, same))
   shown_from starved k (entry ∷ entries) [] same told served = absurd (omega (arith, same))
@@ -118,9 +119,9 @@ module _ (laws : Spelling) (window : Option (ℕ × ℕ)) (tables : SampleTables
       let is : entry ≡ Some here.0 = same_Some entry (Some here.0) here.1 in
       let number : k + 0 ≡ k = omega arith in
       let now : starved k ≡ is_starved here.0.end = ap starved (sym number) ∙ told 0 ∙ ap (λ (e : Option Kept). entry_starved (Some e)) is in
-      let section : IsSection (starved k) window k request (entry_section k entry) =
-      subst (λ (e : Option Kept). IsSection (starved k) window k request (entry_section k e)) (sym is)
-      (subst (λ (b : Bool). IsSection b window k request (ended_section k here.0.end here.0.link.held)) (sym now) (section_of_cause k request here.0 here.0.end here.2.caused here.2)) in (
+      let section : IsSection (starved k) table window k request (entry_section k entry) =
+      subst (λ (e : Option Kept). IsSection (starved k) table window k request (entry_section k e)) (sym is)
+      (subst (λ (b : Bool). IsSection b table window k request (ended_section k here.0.end here.0.link.held)) (sym now) (section_of_cause k request here.0 here.0.end here.2.caused here.2)) in (
         entry_section k entry,
         entries_text (k + 1) entries,
         section,
@@ -130,7 +131,7 @@ module _ (laws : Spelling) (window : Option (ℕ × ℕ)) (tables : SampleTables
 
   pub launched_shown : (given : Option (List Asked)) (events : List (EventOf ℕ SourceInMemory LinkInMemory)) (entries : List (Option Kept)) (links : List LinkInMemory) (requests : List ScriptRequest)
       → map asked_of links ≡ map asked_for requests → given ≡ Some (map asked_of links) → AllAdmitted given events → AllTimed window events
-      → ((k : ℕ) → k < admitted events → HasEntry (served_in window) tables given events k) → AreEntries events entries → (starved : ℕ → Bool) × ShownFrom window starved 0 requests (entries_text 0 entries)
+      → ((k : ℕ) → k < admitted events → HasEntry (served_in window) tables given events k) → AreEntries events entries → (starved : ℕ → Bool) × ShownFrom table window starved 0 requests (entries_text 0 entries)
   launched_shown given events entries links requests same all_given all timed has are =
       let asks : List Asked = map asked_for requests in
       let given_is : given ≡ Some asks = all_given ∙ ap Some same in
@@ -138,16 +139,16 @@ module _ (laws : Spelling) (window : Option (ℕ × ℕ)) (tables : SampleTables
       let starved : ℕ → Bool = λ n. entry_starved (slice_get entries n) in (
         starved,
         shown_from starved 0 entries requests (are.count ∙ count) (λ i. let same : 0 + i ≡ i = omega arith in ap starved same) (λ i request there.
-        let within : i < admitted events = omega (arith, slice_get_within requests i request there, count) in
-        let entry = has i within in
-        let asked : Some (asked_of entry.entry.link) ≡ Some (asked_for request) =
-        entry.asks asks given_is ∙ slice_get-map asked_for requests i ∙ ap (option_map asked_for) there in (
-          entry.entry,
-          are.each i within ∙ ap Some entry.found,
-          record {
-            caused = entry.caused;
-            asks = same_Some _ _ asked;
-            timed = timed_end window i events entry.entry timed entry.found;
-          },
-        )),
+            let within : i < admitted events = omega (arith, slice_get_within requests i request there, count) in
+            let entry = has i within in
+            let asked : Some (asked_of entry.entry.link) ≡ Some (asked_for request) =
+            entry.asks asks given_is ∙ slice_get-map asked_for requests i ∙ ap (option_map asked_for) there in (
+              entry.entry,
+              are.each i within ∙ ap Some entry.found,
+              record {
+                caused = entry.caused;
+                asks = same_Some _ _ asked;
+                timed = timed_end window i events entry.entry timed entry.found;
+              },
+            )),
       )

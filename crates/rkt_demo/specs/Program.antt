@@ -1,12 +1,22 @@
--- What the program writes, by the script that it reads.
-use Rattle.std.specs.Prelude.{◌≡◌, ◌⊎◌, ℕ, ◌+◌, ◌++◌, List, [], Bool, Option, Some, codes, drop}
+-- What the program writes, by the words and the script that it reads.
+use Rattle.std.specs.Prelude.{◌≡◌, ◌≢◌, ◌⊎◌, ℕ, ◌+◌, ◌++◌, List, [], Bool, Option, Some, None, codes, drop}
 use Rattle.std.specs.Fmt.{decimal}
 use Rattle.std.specs.Option.{ForSome}
+use Rattle.rkt_config.specs.Config.{first_bad}
 use Rattle.rkt_source.specs.Source.{Meaning}
 use Rattle.rkt_demo.specs.declared.script.TheConstants.{SCRIPT_LIMIT}
 use Rattle.rkt_demo.specs.Script.{lines_of, AreGood, IsFirstBad}
 use Rattle.rkt_demo.specs.Shown.{Shown}
 use Rattle.rkt_demo.specs.Streams.{IsReadTo}
+use Rattle.rkt_demo.specs.Words.{Commands, Table}
+
+-- a fact of what the words set, where they are a command
+abbrev pub OfCommand : List (List ℕ) → (Table → Type 0) → Type 0
+OfCommand words P = (table : Table) × Commands words table × P table
+
+-- each setting takes its text
+abbrev pub IsAccepted : Table → Type 0
+IsAccepted table = first_bad table ≡ None
 
 -- a fact of the script: of what the source has not given yet, where it tells that
 abbrev pub OfScript : Meaning → (List ℕ → Type 0) → Type 0
@@ -28,10 +38,16 @@ IsFirstBadLine script number = IsFirstBad 1 SCRIPT_LIMIT [] (lines_of script) nu
 abbrev pub refusal : ℕ → List ℕ
 refusal number = codes "script line " ++ decimal number ++ codes "\n"
 
--- what a script is answered with: the first line that is not of the grammar, or a text that shows its requests
-abbrev pub IsText : Option (ℕ × ℕ) → List ℕ → List ℕ → Type 0
-IsText window script text = ((number : ℕ) × IsFirstBadLine script number × (text ≡ refusal number))
-    ⊎ (IsGoodScript script × ((starved : ℕ → Bool) × Shown window starved script text))
+-- the text that says that a setting does not take its text
+abbrev pub config_refusal : List ℕ
+config_refusal = codes "error 18 aborting due to invalid configuration\n"
+
+-- What a script is answered with, by what the words set: the first line that is not of the grammar; or that a setting does not
+-- take its text; or a text that shows its requests.
+abbrev pub IsText : Table → Option (ℕ × ℕ) → List ℕ → List ℕ → Type 0
+IsText table window script text = ((number : ℕ) × IsFirstBadLine script number × (text ≡ refusal number))
+    ⊎ (IsGoodScript script × ¬ IsAccepted table × (text ≡ config_refusal))
+    ⊎ (IsGoodScript script × IsAccepted table × ((starved : ℕ → Bool) × Shown table window starved script text))
 
 -- all of the source was read, or so many bytes that a line leaves the grammar
 abbrev pub IsAllRead : Meaning → Meaning → Type 0

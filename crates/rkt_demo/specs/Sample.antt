@@ -9,19 +9,20 @@ use Rattle.rkt_lifecycle.specs.Tables.{SeenTables}
 use Rattle.rkt_sample.specs.Mounted.{sample_catchers, sample_routes}
 use Rattle.rkt_sample.specs.declared.catcher.SampleCatcher.{SampleCatcher}
 use Rattle.rkt_sample.specs.declared.route.SampleRoute.{SampleRoute}
+use Rattle.rkt_demo.specs.Words.{Table}
 use Rattle.rkt_shield.specs.Shield.{default_headers}
 
 abbrev pub SampleTables : Type 0
-SampleTables = SeenTables NoFairing SampleRoute SampleCatcher ℕ ℕ
+SampleTables = SeenTables NoFairing SampleRoute SampleCatcher (Unit {0}) ℕ
 
 -- the shield, with its policies by default
 abbrev pub shield_alone : SeenFairings NoFairing
 shield_alone = with_slot (Shield default_headers) (record { key = record { 0 = 0 }; info = shield_info }) no_fairings
 
--- the sample's routes and catchers, the shield, the default configuration, and no managed value
-pub record IsSample (tables : SampleTables) : Type 0 where
+-- the sample's routes and catchers, the shield, the configuration that a table spells, and no managed value
+pub record IsSample (table : Table) (tables : SampleTables) : Type 0 where
   pub routes : tables.router.routes ≡ sample_routes
   pub catchers : tables.router.catchers ≡ sample_catchers
   pub fairings : tables.fairings ≡ shield_alone
-  pub config : IsConfig [] tables.config
+  pub config : IsConfig table tables.config
   pub managed : tables.managed ≡ []

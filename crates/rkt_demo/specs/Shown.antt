@@ -21,6 +21,7 @@ use Rattle.rkt_source.specs.Memory.{SourceInMemory, source_meaning}
 use Rattle.rkt_demo.specs.Output.{failed_section, last_line, sent_section, starved_section}
 use Rattle.rkt_demo.specs.Sample.{IsSample, SampleTables}
 use Rattle.rkt_demo.specs.Script.{lines_of, requests_of}
+use Rattle.rkt_demo.specs.Words.{Table}
 use Rattle.rkt_demo.specs.declared.script.ScriptRequest.{ScriptRequest}
 
 -- the sample, served over links in memory in this window of moments
@@ -35,10 +36,10 @@ asked_for request = record { head = request.head; body = Some request.body; body
 abbrev pub LeadsTo : Option (ℕ × ℕ) → SampleTables → Asked → RunOf ℕ → ResponseOf SourceInMemory → Type 0
 LeadsTo window tables asked run response = Lifecycle (callbacks_of (served_in window) tables) tables source_meaning asked run response
 
--- an exchange of the sample made this response to a request, at a moment of the window
-pub record IsMade (window : Option (ℕ × ℕ)) (request : ScriptRequest) (response : ResponseOf SourceInMemory) : Type 0 where
+-- an exchange of the sample, configured by a table, made this response to a request, at a moment of the window
+pub record IsMade (table : Table) (window : Option (ℕ × ℕ)) (request : ScriptRequest) (response : ResponseOf SourceInMemory) : Type 0 where
   pub tables : SampleTables
-  pub sample : IsSample tables
+  pub sample : IsSample table tables
   pub run : RunOf ℕ
   pub timed : IsWithin window run.moment
   pub lifecycle : LeadsTo window tables (asked_for request) run response
@@ -50,26 +51,27 @@ pub record IsAnswered (k : ℕ) (response : ResponseOf SourceInMemory) (section 
   pub text : section ≡ sent_section k pieces
 
 -- the section of the request with this number: of a response that an exchange made, sent where a head of it can be formed
-pub record IsServed (window : Option (ℕ × ℕ)) (k : ℕ) (request : ScriptRequest) (section : List ℕ) : Type 0 where
+pub record IsServed (table : Table) (window : Option (ℕ × ℕ)) (k : ℕ) (request : ScriptRequest) (section : List ℕ) : Type 0 where
   pub response : ResponseOf SourceInMemory
-  pub made : IsMade window request response
+  pub made : IsMade table window request response
   pub told : MatchBool (has_head response) (IsAnswered k response section) (section ≡ failed_section k)
 
 -- the section of a request for which there was memory, or not
-abbrev pub IsSection : Bool → Option (ℕ × ℕ) → ℕ → ScriptRequest → List ℕ → Type 0
-IsSection true window k request section = section ≡ starved_section k
-IsSection false window k request section = IsServed window k request section
+abbrev pub IsSection : Bool → Table → Option (ℕ × ℕ) → ℕ → ScriptRequest → List ℕ → Type 0
+IsSection true table window k request section = section ≡ starved_section k
+IsSection false table window k request section = IsServed table window k request section
 
 -- the sections of requests, from the number k on, of which these numbers had no memory, and the last line
-abbrev pub ShownFrom : Option (ℕ × ℕ) → (ℕ → Bool) → ℕ → List ScriptRequest → List ℕ → Type 0
-ShownFrom window starved k [] text = text ≡ last_line k
-ShownFrom window starved k (request ∷ requests) text = (section : List ℕ) × (rest : List ℕ)
-    × IsSection (starved k) window k request section × ShownFrom window starved (k + 1) requests rest × (text ≡ section ++ rest)
+abbrev pub ShownFrom : Table → Option (ℕ × ℕ) → (ℕ → Bool) → ℕ → List ScriptRequest → List ℕ → Type 0
+ShownFrom table window starved k [] text = text ≡ last_line k
+ShownFrom table window starved k (request ∷ requests) text = (section : List ℕ) × (rest : List ℕ)
+    × IsSection (starved k) table window k request section × ShownFrom table window starved (k + 1) requests rest × (text ≡ section ++ rest)
 
--- the text tells of the requests of a script, served in this window of moments, but for those that had no memory
-abbrev pub Shown : Option (ℕ × ℕ) → (ℕ → Bool) → List ℕ → List ℕ → Type 0
-Shown window starved script text = ShownFrom window starved 0 (requests_of (lines_of script)) text
+-- the text tells of the requests of a script, served with the configuration of this table in this window of moments, but for
+-- those that had no memory
+abbrev pub Shown : Table → Option (ℕ × ℕ) → (ℕ → Bool) → List ℕ → List ℕ → Type 0
+Shown table window starved script text = ShownFrom table window starved 0 (requests_of (lines_of script)) text
 
 -- one script is shown as one text at most, whatever the moments
 abbrev pub ShownOnce : Type 0
-ShownOnce = (window window' : Option (ℕ × ℕ)) (starved : ℕ → Bool) (script text text' : List ℕ) → Shown window starved script text → Shown window' starved script text' → text' ≡ text
+ShownOnce = (table : Table) (window window' : Option (ℕ × ℕ)) (starved : ℕ → Bool) (script text text' : List ℕ) → Shown table window starved script text → Shown table window' starved script text' → text' ≡ text

@@ -1,5 +1,6 @@
-//! Laws of what the program writes. Their functions do nothing.
+//! Laws of what the program reads and writes. Their functions do nothing.
 ghost use Rattle.rkt_demo.specs.Shown.{ShownOnce};
+ghost use Rattle.rkt_demo.specs.Words.{SetsOnce};
 
 use rkt_http::{says_what_it_spells, spells_one_host, spells_one_media_type};
 
@@ -10,4 +11,10 @@ pub fn shown_once()
     says_what_it_spells();
     spells_one_host();
     spells_one_media_type();
+}
+
+/// A law of commands: each sets one table.
+pub fn sets_once()
+    ensures { SetsOnce }
+{
 }

@@ -9,8 +9,8 @@ mod script;
 mod stream;
 mod words;
 
-pub use laws::shown_once;
-pub use program::run;
+pub use laws::{sets_once, shown_once};
+pub use program::{CONFIG_REFUSAL, run};
 pub use sample::{Sample, Stopped};
 pub use script::SCRIPT_LIMIT;
 pub use words::USAGE;

@@ -1,26 +1,33 @@
 //! The program: reads the words and the script, serves, and writes.
-ghost use Rattle.std.specs.Prelude.{◌≡◌, ◌⊎◌, ◌≤◌, ◌+◌, List, ℕ, Bool, false, IfOk, map, string_bytes};
+ghost use Rattle.std.specs.Prelude.{◌≡◌, ◌⊎◌, ◌≤◌, ◌+◌, List, ℕ, Bool, false, IfOk, OnOk, map, string_bytes};
 ghost use Rattle.std.specs.List.{AllByRecursion};
 ghost use Rattle.rkt_base.specs.Counts.{Rose};
+ghost use Rattle.rkt_base.specs.Want.{IfRefused};
 ghost use Rattle.rkt_source.specs.Sink.{Gains};
 ghost use Rattle.rkt_serve.specs.Memory.{IsUnused, asked_of};
-ghost use Rattle.rkt_demo.specs.Program.{OfScript, IsScript, IsGoodScript, IsFirstBadLine, IsText, IsAllRead, refusal};
+ghost use Rattle.rkt_demo.specs.Program.{OfCommand, IsAccepted, OfScript, IsScript, IsGoodScript, IsFirstBadLine, IsText, IsAllRead, refusal};
+ghost use Rattle.rkt_demo.specs.Sample.{IsSample};
 ghost use Rattle.rkt_demo.specs.Shown.{Shown, ShownFrom, asked_for};
 ghost use Rattle.rkt_demo.specs.Streams.{GainsFront, GainsUnlessRefused};
-ghost use Rattle.rkt_demo.specs.Words.{IsCommand, IsStatus};
+ghost use Rattle.rkt_demo.specs.Words.{Commands, IsCommand, IsStatus, Table};
 
 use crate::output::print_history;
 use crate::sample::Sample;
 use crate::script::{SCRIPT_LIMIT, ScriptRequest, parse_script};
 use crate::stream::{StreamError, read_all, write_all};
-use crate::words::{USAGE, is_command};
+use crate::words::{USAGE, read_command};
 use rkt_base::{NoMemory, Want};
 use rkt_data::{Sink, Source};
 use rkt_http::{says_what_it_spells, spells_one_host, spells_one_media_type};
+use rkt_life::{Ignite, IgniteError, Rocket};
+use rkt_request::ConfigTable;
 use rkt_serve::{Clock, Launch, ListListener, MemoryLink};
 use std::alloc::{AllocError, Global};
 use std::sync::Wait;
 use std::thread::Threads;
+
+/// What to write where a setting does not take its text.
+pub const CONFIG_REFUSAL: &str = "error 18 aborting due to invalid configuration\n";
 
 // A link for each request.
 fn links_for(alloc: Global, requests: Vec<ScriptRequest>) -> Result<Vec<MemoryLink>, NoMemory>
@@ -35,14 +42,15 @@ fn links_for(alloc: Global, requests: Vec<ScriptRequest>) -> Result<Vec<MemoryLi
     Ok(links)
 }
 
-// Serves requests, and tells how they ended.
+// Serves requests by a rocket, and tells how they ended.
 fn serve_requests<R: Wait + Threads, C: Clock>(
     rt: &R,
     alloc: Global,
+    rocket: Rocket<Ignite, Sample>,
     requests: Vec<ScriptRequest>,
     clock: C,
 ) -> Result<Vec<u8>, NoMemory>
-    ensures { IfOk result (λ text. (starved : ℕ → Bool) × ShownFrom (C.meaning clock).window starved 0 requests.items text.items) }
+    ensures { (table : Table) → IsSample table rocket.tables → IfOk result (λ text. (starved : ℕ → Bool) × ShownFrom table (C.meaning clock).window starved 0 requests.items text.items) }
 {
     // So two readings of one text are one.
     says_what_it_spells();
@@ -50,7 +58,6 @@ fn serve_requests<R: Wait + Threads, C: Clock>(
     spells_one_media_type();
     let links = links_for(alloc, requests)?;
     let listener = ListListener::new(alloc, links, Vec::new(alloc))?;
-    let rocket = Sample::rocket(alloc)?;
     match rocket.launch(rt, alloc, listener, clock, 0) {
         Ok(launched) => {
             let text = print_history(alloc, &launched.history);
@@ -62,6 +69,22 @@ fn serve_requests<R: Wait + Threads, C: Clock>(
             Err(AllocError)
         }
     }
+}
+
+// Serves requests with what a table sets.
+fn serve_with<R: Wait + Threads, C: Clock>(
+    rt: &R,
+    alloc: Global,
+    table: ConfigTable,
+    requests: Vec<ScriptRequest>,
+    clock: C,
+) -> Result<Vec<u8>, Want<IgniteError>>
+    ensures served { IfOk result (λ text. (starved : ℕ → Bool) × ShownFrom table (C.meaning clock).window starved 0 requests.items text.items) }
+    ensures accepted { OnOk result (IsAccepted table) }
+    ensures refused { IfRefused result (λ _. ¬ IsAccepted table) }
+{
+    let rocket = Sample::rocket(alloc, table)?;
+    Ok(serve_requests(rt, alloc, rocket, requests, clock)?)
 }
 
 // Says how the program is called.
@@ -89,6 +112,19 @@ fn refuse_line<R: Wait, K: Sink>(rt: &R, alloc: Global, sink: &mut K, number: us
     match write_all(rt, sink, text.as_bytes()) {
         Ok(()) => 3,
         Err(StreamError::Fault) => 3,
+        Err(StreamError::NoMemory) => 6,
+    }
+}
+
+// Says that a setting does not take its text.
+fn refuse_config<R: Wait, K: Sink>(rt: &R, sink: &mut K) -> u8
+    ensures known { (result ≡ 1) ⊎ (result ≡ 6) }
+    ensures config { result ≡ 1 → GainsUnlessRefused (K.meaning sink.old) (K.meaning sink.new) CONFIG_REFUSAL.now }
+    ensures front { GainsFront (K.meaning sink.old) (K.meaning sink.new) CONFIG_REFUSAL.now }
+{
+    match write_all(rt, sink, CONFIG_REFUSAL.as_bytes()) {
+        Ok(()) => 1,
+        Err(StreamError::Fault) => 1,
         Err(StreamError::NoMemory) => 6,
     }
 }
@@ -132,35 +168,43 @@ pub fn run<R: Wait + Threads, S: Source, K: Sink, C: Clock>(
     // 3: a line is not of the grammar, and the first such is named.
     ensures script { result ≡ 3 → OfScript (S.meaning source.old) (λ script. (number : ℕ)
         × IsFirstBadLine script number × GainsUnlessRefused (K.meaning sink.old) (K.meaning sink.new) (refusal number)) }
-    ensures good { (result ≡ 0) ⊎ (result ≡ 5) → OfScript (S.meaning source.old) IsGoodScript }
+    ensures good { (result ≡ 0) ⊎ (result ≡ 1) ⊎ (result ≡ 5) → OfScript (S.meaning source.old) IsGoodScript }
+
+    // 1: the script is good, a setting does not take its text, and the error says so.
+    ensures config { result ≡ 1 → OfCommand (map string_bytes words.now) (λ table. ¬ IsAccepted table) }
+    ensures config_text { result ≡ 1 → GainsUnlessRefused (K.meaning sink.old) (K.meaning sink.new) CONFIG_REFUSAL.now }
 
     // 5: the sink refused, and has taken a front of the text.
     ensures write { result ≡ 5 → Rose (K.meaning sink.old).faults (K.meaning sink.new).faults }
-    ensures write_text { result ≡ 5 → OfScript (S.meaning source.old) (λ script. (starved : ℕ → Bool) × (text : List ℕ)
-        × Shown (C.meaning clock).window starved script text × GainsFront (K.meaning sink.old) (K.meaning sink.new) text) }
+    ensures write_text { result ≡ 5 → OfCommand (map string_bytes words.now) (λ table. IsAccepted table × OfScript (S.meaning source.old) (λ script.
+        (starved : ℕ → Bool) × (text : List ℕ) × Shown table (C.meaning clock).window starved script text × GainsFront (K.meaning sink.old) (K.meaning sink.new) text)) }
 
     // 6: there was no memory, and the sink has taken nothing, or a front of what was to be written.
     ensures memory_usage { result ≡ 6 → ¬ IsCommand (map string_bytes words.now) → GainsFront (K.meaning sink.old) (K.meaning sink.new) USAGE.now }
-    ensures memory_text { result ≡ 6 → IsCommand (map string_bytes words.now) → (sink.new ≡ sink.old) ⊎ OfScript (S.meaning source.old) (λ script.
-        (text : List ℕ) × IsText (C.meaning clock).window script text × GainsFront (K.meaning sink.old) (K.meaning sink.new) text) }
+    ensures memory_text { result ≡ 6 → IsCommand (map string_bytes words.now) → (sink.new ≡ sink.old)
+        ⊎ OfCommand (map string_bytes words.now) (λ table. OfScript (S.meaning source.old) (λ script.
+        (text : List ℕ) × IsText table (C.meaning clock).window script text × GainsFront (K.meaning sink.old) (K.meaning sink.new) text)) }
 
     // 0: the text shows every request of the script. There is one such text but for the starved, as a law of texts says.
-    ensures text { result ≡ 0 → OfScript (S.meaning source.old) (λ script. (starved : ℕ → Bool) × (text : List ℕ)
-        × Shown (C.meaning clock).window starved script text × Gains (K.meaning sink.old) (K.meaning sink.new) text) }
+    ensures text { result ≡ 0 → OfCommand (map string_bytes words.now) (λ table. IsAccepted table × OfScript (S.meaning source.old) (λ script.
+        (starved : ℕ → Bool) × (text : List ℕ) × Shown table (C.meaning clock).window starved script text × Gains (K.meaning sink.old) (K.meaning sink.new) text)) }
 
-    // Words and script of the grammar, and no fault of a stream: nothing but want of memory is in the way.
-    ensures complete { (script : List ℕ) → IsCommand (map string_bytes words.now) → IsScript (S.meaning source.old) script → IsGoodScript script
+    // Words and script of the grammar, settings that take their texts, and no fault of a stream: nothing but want of memory is
+    // in the way. One command sets one table, as a law says.
+    ensures complete { (table : Table) (script : List ℕ) → Commands (map string_bytes words.now) table → IsAccepted table → IsScript (S.meaning source.old) script → IsGoodScript script
         → ¬ Rose (S.meaning source.old).faults (S.meaning source.new).faults → ¬ Rose (K.meaning sink.old).faults (K.meaning sink.new).faults
         → (result ≡ 0) ⊎ (result ≡ 6) }
 
     // How much was read, and that no trip was shown to the source.
-    ensures taken { (result ≡ 0) ⊎ (result ≡ 3) ⊎ (result ≡ 5) → IsAllRead (S.meaning source.old) (S.meaning source.new) }
+    ensures taken { (result ≡ 0) ⊎ (result ≡ 1) ⊎ (result ≡ 3) ⊎ (result ≡ 5) → IsAllRead (S.meaning source.old) (S.meaning source.new) }
     ensures bound { (S.meaning source.new).taken ≤ (S.meaning source.old).taken + SCRIPT_LIMIT + 1 }
     ensures unwarned { (S.meaning source.new).warned ≡ false }
 {
-    if !is_command(words) {
-        return refuse_words(rt, sink);
-    }
+    let table = match read_command(alloc, words) {
+        Ok(table) => table,
+        Err(Want::Refused(_)) => return refuse_words(rt, sink),
+        Err(Want::NoMemory) => return 6,
+    };
     let script = match read_all(rt, alloc, source, SCRIPT_LIMIT + 1) {
         Ok(script) => script,
         Err(StreamError::Fault) => return 4,
@@ -171,8 +215,9 @@ pub fn run<R: Wait + Threads, S: Source, K: Sink, C: Clock>(
         Err(Want::Refused(bad)) => return refuse_line(rt, alloc, sink, bad.number),
         Err(Want::NoMemory) => return 6,
     };
-    match serve_requests(rt, alloc, requests, clock) {
+    match serve_with(rt, alloc, table, requests, clock) {
         Ok(text) => write_text(rt, sink, text.as_slice()),
-        Err(_) => 6,
+        Err(Want::Refused(_)) => refuse_config(rt, sink),
+        Err(Want::NoMemory) => 6,
     }
 }

@@ -1,13 +1,15 @@
 //! The sample application.
-ghost use Rattle.std.specs.Prelude.{◌≡◌, ◌++◌, IfOk};
+ghost use Rattle.std.specs.Prelude.{◌≡◌, ◌++◌, IfOk, OnOk};
+ghost use Rattle.rkt_base.specs.Want.{IfRefused};
+ghost use Rattle.rkt_demo.specs.Program.{IsAccepted};
 ghost use Rattle.rkt_demo.specs.Sample.{IsSample};
 ghost use Rattle.rkt_sample.specs.Mounted.{sample_catchers, sample_routes};
 
 use rkt_base::{NoMemory, Want};
 use rkt_data::MemorySource;
 use rkt_http::says_what_it_spells;
-use rkt_life::{App, Build, Handed, Ignite, NoFairing, Parts, Rocket};
-use rkt_request::{Config, ConfigTable, Types};
+use rkt_life::{App, Build, Handed, Ignite, IgniteError, NoFairing, Parts, Rocket};
+use rkt_request::{ConfigTable, Types};
 use rkt_sample::{SampleCatcher, SampleRoute, catchers, routes};
 use rkt_turn::Reason;
 use std::alloc::{AllocError, Global};
@@ -44,7 +46,7 @@ impl Parts for Sample {
 
     type Catch = SampleCatcher;
 
-    type Sentinel = u8;
+    type Sentinel = ();
 }
 
 impl App for Sample {
@@ -90,14 +92,19 @@ fn with_catchers(
 }
 
 impl Sample {
-    /// The application with the shield and the default configuration, ready to be launched.
-    pub fn rocket(alloc: Global) -> Result<Rocket<Ignite, Sample>, NoMemory>
-        ensures { IfOk result (λ rocket. IsSample rocket.tables) }
+    /// The application with the shield, configured by a table and ready to be launched.
+    pub fn rocket(
+        alloc: Global,
+        table: ConfigTable,
+    ) -> Result<Rocket<Ignite, Sample>, Want<IgniteError>>
+        ensures made { IfOk result (λ rocket. IsSample table rocket.tables) }
+        ensures accepted { OnOk result (IsAccepted table) }
+        // Nothing of it is refused but its table.
+        ensures refused { IfRefused result (λ _. ¬ IsAccepted table) }
     {
-        let config = Config::default(alloc)?;
-        let rocket = Rocket::<Build, Sample>::custom(alloc, ConfigTable::new(alloc))?;
+        let rocket = Rocket::<Build, Sample>::custom(alloc, table)?;
         let rocket = with_routes(alloc, rocket)?;
         let rocket = with_catchers(alloc, rocket)?;
-        rocket.assemble(alloc, config)
+        rocket.ignite(alloc)
     }
 }

@@ -1,4 +1,5 @@
-//! What is called at the events of a rocket's life, which nobody calls yet. Such a callback may change the fairing itself.
+//! What is called at the events of a rocket's life. Such a callback may change the fairing itself. Those of liftoff and of a
+//! shutdown are called by nobody yet.
 ghost use Rattle.std.specs.Prelude.{Result};
 
 use crate::{Building, Parts, View};

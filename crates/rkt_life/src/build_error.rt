@@ -1,12 +1,13 @@
 //! Why a rocket could not be built. All that the calls of a builder answer converts into it, so that its author writes `?`.
 ghost use Rattle.std.specs.Prelude.{◌≡◌};
 ghost use Rattle.rkt_life.specs.BuildError.{of_duplicate, of_want};
-ghost use Rattle.rkt_life.specs.declared.build_error.BuildError.TheVariants.{Base, Code, Config, NoMemory as OutOfMemory, Uri};
+ghost use Rattle.rkt_life.specs.declared.build_error.BuildError.TheVariants.{Base, Code, Config, Ignite, NoMemory as OutOfMemory, Uri};
 
 use crate::Handed;
 use rkt_base::{NoMemory, Want};
 use rkt_fairing::InvalidBase;
 use rkt_http::{InvalidUri, Key};
+use rkt_ignition::IgniteError;
 use rkt_request::{BadConfig, DuplicateState};
 use rkt_route::BadCode;
 use std::alloc::{AllocError, AllocFailed};
@@ -30,6 +31,9 @@ pub enum BuildError {
     /// The configuration cannot be read.
     #[error("the configuration: {0}")]
     Config(BadConfig),
+    /// What was built does not ignite.
+    #[error("ignition: {0}")]
+    Ignite(IgniteError),
     #[error("out of memory")]
     NoMemory,
 }
@@ -89,6 +93,17 @@ impl From<Want<BadConfig>> for BuildError {
     fn from(want: Want<BadConfig>) -> BuildError {
         match want {
             Want::Refused(error) => BuildError::Config(error),
+            Want::NoMemory => BuildError::NoMemory,
+        }
+    }
+}
+
+impl From<Want<IgniteError>> for BuildError {
+    ghost from_gives = { λ want error. error ≡ of_want Ignite want };
+
+    fn from(want: Want<IgniteError>) -> BuildError {
+        match want {
+            Want::Refused(error) => BuildError::Ignite(error),
             Want::NoMemory => BuildError::NoMemory,
         }
     }

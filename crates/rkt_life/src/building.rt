@@ -8,16 +8,13 @@ ghost use Rattle.rkt_fairing.specs.Below.{IsBase, catcher_below, route_below};
 ghost use Rattle.rkt_fairing.specs.Fairings.{added};
 ghost use Rattle.rkt_life.specs.Built.{built};
 ghost use Rattle.rkt_life.specs.Handed.{IfHanded};
-ghost use Rattle.rkt_turn.specs.Shutdown.{fresh};
 ghost use Rattle.rkt_uri.specs.Origin.{IsOrigin, target_of};
 
-use crate::routed::routed;
-use crate::{Build, Handed, Ignite, Rocket, RocketOf};
+use crate::{Build, Handed, Rocket, RocketOf};
 use rkt_base::{NoMemory, Want};
 use rkt_fairing::{App, AppBuilding, BuildingOf, InvalidBase, Slot};
 use rkt_http::{Key, Profile};
-use rkt_lifecycle::TablesOf;
-use rkt_request::{Config, ConfigTable, DuplicateState};
+use rkt_request::{ConfigTable, DuplicateState};
 use rkt_route::{Catcher, Route};
 use rkt_shield::Shield;
 use std::alloc::Global;
@@ -163,26 +160,5 @@ impl<A: App> RocketOf<AppBuilding<A>, A> {
         ensures { result.now ≡ self.now.table }
     {
         &self.state.table
-    }
-
-    /// The rocket that is built of these, with a configuration that was read, and a wire of its own. For want of memory all of
-    /// it is dropped.
-    pub fn assemble(self, alloc: Global, config: Config) -> Result<Rocket<Ignite, A>, NoMemory>
-        ensures routes { IfOk result (λ rocket. rocket.tables.router.routes ≡ self.routes) }
-        ensures catchers { IfOk result (λ rocket. rocket.tables.router.catchers ≡ self.catchers) }
-        ensures fairings { IfOk result (λ rocket. rocket.tables.fairings ≡ self.fairings) }
-        ensures managed { IfOk result (λ rocket. rocket.tables.managed ≡ self.managed) }
-        ensures config { IfOk result (λ rocket. rocket.tables.config ≡ config) }
-        ensures fresh { IfOk result (λ rocket. rocket.handle ≡ fresh rocket.handle.wire) }
-    {
-        let parts = self.state.into_parts();
-        let router = routed(alloc, parts.routes, parts.catchers)?;
-        let tables = TablesOf {
-            router,
-            fairings: parts.fairings,
-            config,
-            managed: parts.managed,
-        };
-        Ok(Rocket::<Ignite, A>::from_tables(alloc, tables)?)
     }
 }

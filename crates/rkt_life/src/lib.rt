@@ -14,7 +14,6 @@ mod one_of;
 mod phase;
 mod plain_text;
 mod rocket;
-mod routed;
 mod stopped;
 
 pub use answers_data::{AnsweringData, AnswersData, Taking};

@@ -46,6 +46,15 @@ pub trait Aborts<T: Types> {
         ensures { may self.now rocket.now result };
 }
 
+/// What stands for sentinels where an application has none: it lets every rocket be launched.
+impl<T: Types> Aborts<T> for () {
+    ghost may = { λ _ _ abort. abort ≡ false };
+
+    fn abort(&self, _rocket: &Ignited<'_, T>) -> bool {
+        false
+    }
+}
+
 /// A sentinel as a value.
 #[derive(Clone, Copy, Debug, Drop)]
 pub struct Asks<G> {

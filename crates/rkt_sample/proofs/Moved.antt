@@ -20,7 +20,7 @@ pub moved_catcher : SaysWhatItSpells → (catcher : Catcher SampleCatcher) (base
 moved_catcher says catcher base text moved is moves =
     moves.kept ∙ ap (λ (target : Target). record catcher { base = normalized (path_alone target) }) (sym (says Request text moves.base moves.spelled) ∙ ap target_of is)
 
-pub moved_route : SaysWhatItSpells → (route : Route SampleRoute ℕ) (base text : List ℕ) (moved : Route SampleRoute ℕ) → text ≡ base → IsMovedTo route text moved → moved ≡ route_below base route
+pub moved_route : SaysWhatItSpells → (route : Route SampleRoute (Unit {0})) (base text : List ℕ) (moved : Route SampleRoute (Unit {0})) → text ≡ base → IsMovedTo route text moved → moved ≡ route_below base route
 moved_route says route base text moved is moves =
     moves.kept
     ∙ ap (λ u. record route { uri = u })

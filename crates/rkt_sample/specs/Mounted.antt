@@ -54,13 +54,13 @@ rank_of route.Tried = Some (pos 2)
 rank_of _ = None
 
 -- a route at the base `/`, and below another one
-abbrev pub route_at_root : SampleRoute → Route SampleRoute ℕ
+abbrev pub route_at_root : SampleRoute → Route SampleRoute (Unit {0})
 route_at_root route = route_at (rank_of route) (method_of route) route (mounted_at root (target_of (path_of route)))
 
-abbrev pub route_below : List ℕ → Route SampleRoute ℕ → Route SampleRoute ℕ
+abbrev pub route_below : List ℕ → Route SampleRoute (Unit {0}) → Route SampleRoute (Unit {0})
 route_below base route = record route { uri = mounted_at (target_of base) route.uri.unmounted }
 
-abbrev pub mounted_route : SampleRoute → Route SampleRoute ℕ
+abbrev pub mounted_route : SampleRoute → Route SampleRoute (Unit {0})
 mounted_route route = route_below (base_of route) (route_at_root route)
 
 abbrev pub all_routes : List SampleRoute
@@ -68,7 +68,7 @@ all_routes =
     route.Hello ∷ route.Page ∷ route.HeadPage ∷ route.HeadGone ∷ route.PostForm ∷ route.DeleteForm ∷ route.Trial ∷ route.Tried ∷ route.Spoiled ∷ route.Flash ∷ route.Echo ∷ route.Broken ∷ []
 
 -- the routes, in mounting order
-abbrev pub sample_routes : List (Route SampleRoute ℕ)
+abbrev pub sample_routes : List (Route SampleRoute (Unit {0}))
 sample_routes = map mounted_route all_routes
 
 abbrev pub catch_base_of : SampleCatcher → List ℕ

@@ -86,7 +86,7 @@ impl SampleRoute {
         }
     }
 
-    fn at_root(self, alloc: Global) -> Result<Route<SampleRoute, u8>, NoMemory>
+    fn at_root(self, alloc: Global) -> Result<Route<SampleRoute, ()>, NoMemory>
         ensures { IfOk result (λ route. route ≡ route_at_root self) }
     {
         match Route::ranked(alloc, self.rank(), self.method(), self.path(), self) {
@@ -96,7 +96,7 @@ impl SampleRoute {
         }
     }
 
-    fn mounted(self, alloc: Global) -> Result<Route<SampleRoute, u8>, NoMemory>
+    fn mounted(self, alloc: Global) -> Result<Route<SampleRoute, ()>, NoMemory>
         ensures { IfOk result (λ route. route ≡ mounted_route self) }
     {
         let route = self.at_root(alloc)?;
@@ -108,8 +108,8 @@ impl SampleRoute {
 fn route_below(
     alloc: Global,
     base: &str,
-    route: Route<SampleRoute, u8>,
-) -> Result<Route<SampleRoute, u8>, NoMemory>
+    route: Route<SampleRoute, ()>,
+) -> Result<Route<SampleRoute, ()>, NoMemory>
     requires { IsOrigin Profile.Request base.now }
     ensures { IfOk result (λ moved. moved ≡ route_below base.now route) }
 {
@@ -124,7 +124,7 @@ fn route_below(
 }
 
 /// The routes, in mounting order.
-pub fn routes(alloc: Global) -> Result<Vec<Route<SampleRoute, u8>>, NoMemory>
+pub fn routes(alloc: Global) -> Result<Vec<Route<SampleRoute, ()>>, NoMemory>
     ensures { IfOk result (λ routes. routes.items ≡ sample_routes) }
 {
     let mut routes = Vec::new(alloc);

@@ -1,6 +1,8 @@
 use Rattle.std.proofs.Common.{inl, inr, sym, subst, refl}
 use Rattle.rkt_demo.specs.declared.script.TheConstants.{SCRIPT_LIMIT}
+use Rattle.rkt_demo.specs.Program.{IsAccepted, config_refusal}
 use Rattle.rkt_demo.proofs.Runs.{IsRead, first_bad_read, not_bad, good_script, shown_script}
+use Rattle.rkt_demo.proofs.WordLemmas.{commands_once}
 use Rattle.rkt_demo.proofs.program.run.Goals as goal
 
 pub returns-in-Err-NoMemory-clause-memory_text : goal.returns-in-Err-NoMemory-clause-memory_text
@@ -12,60 +14,78 @@ returns-in-Err-NoMemory-parse_script-clause-memory_text g c six command = inl re
 pub returns-clause-memory_text : goal.returns-clause-memory_text
 returns-clause-memory_text g c six command = inl refl
 
-pub returns-in-Err-Refused-clause-script : goal.returns-in-Err-Refused-clause-script
-returns-in-Err-Refused-clause-script g c three w is =
+pub returns-in-Err-Refused-parse_script-clause-script : goal.returns-in-Err-Refused-parse_script-clause-script
+returns-in-Err-Refused-parse_script-clause-script g c three w is =
     let before = g.S.Source.meaning c.args.source.now in
-    let read = subst (IsRead before.whole before.taken SCRIPT_LIMIT) (sym c.as_slice.ensures.value) c.in-Ok.ensures.bytes in
-    let bad = rw c.in-Err-Refused.field-0-is at c.in-Err-Refused.ensures.line in
+    let read = subst (IsRead before.whole before.taken SCRIPT_LIMIT) (sym c.as_slice.ensures.value) c.in-Ok-read_all.ensures.bytes in
+    let bad = rw c.in-Err-Refused-parse_script.field-0-is at c.in-Err-Refused-parse_script.ensures.line in
     (_, first_bad_read before.whole before.taken SCRIPT_LIMIT _ c.as_slice.result.now read bad w is, c.refuse_line.ensures.script three)
 
-pub returns-in-Err-Refused-clause-memory_text : goal.returns-in-Err-Refused-clause-memory_text
-returns-in-Err-Refused-clause-memory_text g c six command = inr (λ w is.
+pub returns-in-Err-Refused-parse_script-clause-memory_text : goal.returns-in-Err-Refused-parse_script-clause-memory_text
+returns-in-Err-Refused-parse_script-clause-memory_text g c six command = inr (c.in-Ok.table, c.in-Ok.ensures.read, λ w is.
     let before = g.S.Source.meaning c.args.source.now in
-    let read = subst (IsRead before.whole before.taken SCRIPT_LIMIT) (sym c.as_slice.ensures.value) c.in-Ok.ensures.bytes in
-    let bad = rw c.in-Err-Refused.field-0-is at c.in-Err-Refused.ensures.line in
+    let read = subst (IsRead before.whole before.taken SCRIPT_LIMIT) (sym c.as_slice.ensures.value) c.in-Ok-read_all.ensures.bytes in
+    let bad = rw c.in-Err-Refused-parse_script.field-0-is at c.in-Err-Refused-parse_script.ensures.line in
     (_, inl (_, first_bad_read before.whole before.taken SCRIPT_LIMIT _ c.as_slice.result.now read bad w is, refl), c.refuse_line.ensures.front))
 
-pub returns-in-Err-Refused-clause-complete : goal.returns-in-Err-Refused-clause-complete
-returns-in-Err-Refused-clause-complete g c script command is good unread unwritten =
+pub returns-in-Err-Refused-parse_script-clause-complete : goal.returns-in-Err-Refused-parse_script-clause-complete
+returns-in-Err-Refused-parse_script-clause-complete g c table script command accepted is good unread unwritten =
     let before = g.S.Source.meaning c.args.source.now in
-    let read = subst (IsRead before.whole before.taken SCRIPT_LIMIT) (sym c.as_slice.ensures.value) c.in-Ok.ensures.bytes in
-    let bad = rw c.in-Err-Refused.field-0-is at c.in-Err-Refused.ensures.line in
-    absurd (not_bad before script c.in-Err-Refused.bad.number is good (first_bad_read before.whole before.taken SCRIPT_LIMIT _ c.as_slice.result.now read bad))
+    let read = subst (IsRead before.whole before.taken SCRIPT_LIMIT) (sym c.as_slice.ensures.value) c.in-Ok-read_all.ensures.bytes in
+    let bad = rw c.in-Err-Refused-parse_script.field-0-is at c.in-Err-Refused-parse_script.ensures.line in
+    absurd (not_bad before script c.in-Err-Refused-parse_script.bad.number is good (first_bad_read before.whole before.taken SCRIPT_LIMIT _ c.as_slice.result.now read bad))
 
-pub returns-in-Ok-serve_requests-clause-good : goal.returns-in-Ok-serve_requests-clause-good
-returns-in-Ok-serve_requests-clause-good g c done w is =
+pub returns-in-Err-Refused-serve_with-clause-good : goal.returns-in-Err-Refused-serve_with-clause-good
+returns-in-Err-Refused-serve_with-clause-good g c done w is =
     let before = g.S.Source.meaning c.args.source.now in
-    let read = subst (IsRead before.whole before.taken SCRIPT_LIMIT) (sym c.as_slice.ensures.value) c.in-Ok.ensures.bytes in
+    let read = subst (IsRead before.whole before.taken SCRIPT_LIMIT) (sym c.as_slice.ensures.value) c.in-Ok-read_all.ensures.bytes in
     good_script before.whole before.taken SCRIPT_LIMIT c.as_slice.result.now read c.in-Ok-parse_script.ensures.good w is
 
-pub returns-in-Ok-serve_requests-clause-text : goal.returns-in-Ok-serve_requests-clause-text
-returns-in-Ok-serve_requests-clause-text g c served w is =
+pub returns-in-Err-Refused-serve_with-clause-memory_text : goal.returns-in-Err-Refused-serve_with-clause-memory_text
+returns-in-Err-Refused-serve_with-clause-memory_text g c six command = inr (c.in-Ok.table, c.in-Ok.ensures.read, λ w is.
     let before = g.S.Source.meaning c.args.source.now in
-    let read = subst (IsRead before.whole before.taken SCRIPT_LIMIT) (sym c.as_slice.ensures.value) c.in-Ok.ensures.bytes in
-    let window = (g.C.Clock.meaning c.args.clock).window in
-    let text = c.in-Ok-serve_requests.text.items in
-    let told = c.in-Ok-serve_requests.ensures in
-    let shown = shown_script before.whole before.taken SCRIPT_LIMIT c.as_slice.result.now window told.0 c.in-Ok-parse_script.requests.items text read c.in-Ok-parse_script.ensures.good c.in-Ok-parse_script.ensures.requests told.1 in
-    (told.0, text, shown w is, rw c.as_slice-in-Ok-serve_requests.ensures.value at (c.write_text.ensures.whole served))
-
-pub returns-in-Ok-serve_requests-clause-write_text : goal.returns-in-Ok-serve_requests-clause-write_text
-returns-in-Ok-serve_requests-clause-write_text g c refused w is =
-    let before = g.S.Source.meaning c.args.source.now in
-    let read = subst (IsRead before.whole before.taken SCRIPT_LIMIT) (sym c.as_slice.ensures.value) c.in-Ok.ensures.bytes in
-    let window = (g.C.Clock.meaning c.args.clock).window in
-    let text = c.in-Ok-serve_requests.text.items in
-    let told = c.in-Ok-serve_requests.ensures in
-    let shown = shown_script before.whole before.taken SCRIPT_LIMIT c.as_slice.result.now window told.0 c.in-Ok-parse_script.requests.items text read c.in-Ok-parse_script.ensures.good c.in-Ok-parse_script.ensures.requests told.1 in
-    (told.0, text, shown w is, rw c.as_slice-in-Ok-serve_requests.ensures.value at c.write_text.ensures.front)
-
-pub returns-in-Ok-serve_requests-clause-memory_text : goal.returns-in-Ok-serve_requests-clause-memory_text
-returns-in-Ok-serve_requests-clause-memory_text g c refused command = inr (λ w is.
-    let before = g.S.Source.meaning c.args.source.now in
-    let read = subst (IsRead before.whole before.taken SCRIPT_LIMIT) (sym c.as_slice.ensures.value) c.in-Ok.ensures.bytes in
-    let window = (g.C.Clock.meaning c.args.clock).window in
-    let text = c.in-Ok-serve_requests.text.items in
-    let told = c.in-Ok-serve_requests.ensures in
-    let shown = shown_script before.whole before.taken SCRIPT_LIMIT c.as_slice.result.now window told.0 c.in-Ok-parse_script.requests.items text read c.in-Ok-parse_script.ensures.good c.in-Ok-parse_script.ensures.requests told.1 in
+    let read = subst (IsRead before.whole before.taken SCRIPT_LIMIT) (sym c.as_slice.ensures.value) c.in-Ok-read_all.ensures.bytes in
     let good = good_script before.whole before.taken SCRIPT_LIMIT c.as_slice.result.now read c.in-Ok-parse_script.ensures.good w is in
-    (text, inr (good, (told.0, shown w is)), rw c.as_slice-in-Ok-serve_requests.ensures.value at c.write_text.ensures.front))
+    (config_refusal, inr (inl (good, rw c.in-Err-Refused-serve_with.field-0-is at c.in-Err-Refused-serve_with.ensures.refused, refl)), c.refuse_config.ensures.front))
+
+pub returns-in-Err-Refused-serve_with-clause-complete : goal.returns-in-Err-Refused-serve_with-clause-complete
+returns-in-Err-Refused-serve_with-clause-complete g c table script command accepted is good unread unwritten =
+    let refused : ¬ IsAccepted c.in-Ok.table = rw c.in-Err-Refused-serve_with.field-0-is at c.in-Err-Refused-serve_with.ensures.refused in
+    absurd (refused (subst IsAccepted (commands_once _ c.in-Ok.table table c.in-Ok.ensures.read command) accepted))
+
+pub returns-in-Ok-serve_with-clause-good : goal.returns-in-Ok-serve_with-clause-good
+returns-in-Ok-serve_with-clause-good g c done w is =
+    let before = g.S.Source.meaning c.args.source.now in
+    let read = subst (IsRead before.whole before.taken SCRIPT_LIMIT) (sym c.as_slice.ensures.value) c.in-Ok-read_all.ensures.bytes in
+    good_script before.whole before.taken SCRIPT_LIMIT c.as_slice.result.now read c.in-Ok-parse_script.ensures.good w is
+
+pub returns-in-Ok-serve_with-clause-text : goal.returns-in-Ok-serve_with-clause-text
+returns-in-Ok-serve_with-clause-text g c served = (c.in-Ok.table, c.in-Ok.ensures.read, (c.in-Ok-serve_with.ensures.accepted, λ w is.
+    let before = g.S.Source.meaning c.args.source.now in
+    let read = subst (IsRead before.whole before.taken SCRIPT_LIMIT) (sym c.as_slice.ensures.value) c.in-Ok-read_all.ensures.bytes in
+    let window = (g.C.Clock.meaning c.args.clock).window in
+    let text = c.in-Ok-serve_with.text.items in
+    let told = c.in-Ok-serve_with.ensures.served in
+    let shown = shown_script before.whole before.taken SCRIPT_LIMIT c.as_slice.result.now c.in-Ok.table window told.0 c.in-Ok-parse_script.requests.items text read c.in-Ok-parse_script.ensures.good c.in-Ok-parse_script.ensures.requests told.1 in
+    (told.0, text, shown w is, rw c.as_slice-in-Ok-serve_with.ensures.value at (c.write_text.ensures.whole served))))
+
+pub returns-in-Ok-serve_with-clause-write_text : goal.returns-in-Ok-serve_with-clause-write_text
+returns-in-Ok-serve_with-clause-write_text g c refused = (c.in-Ok.table, c.in-Ok.ensures.read, (c.in-Ok-serve_with.ensures.accepted, λ w is.
+    let before = g.S.Source.meaning c.args.source.now in
+    let read = subst (IsRead before.whole before.taken SCRIPT_LIMIT) (sym c.as_slice.ensures.value) c.in-Ok-read_all.ensures.bytes in
+    let window = (g.C.Clock.meaning c.args.clock).window in
+    let text = c.in-Ok-serve_with.text.items in
+    let told = c.in-Ok-serve_with.ensures.served in
+    let shown = shown_script before.whole before.taken SCRIPT_LIMIT c.as_slice.result.now c.in-Ok.table window told.0 c.in-Ok-parse_script.requests.items text read c.in-Ok-parse_script.ensures.good c.in-Ok-parse_script.ensures.requests told.1 in
+    (told.0, text, shown w is, rw c.as_slice-in-Ok-serve_with.ensures.value at c.write_text.ensures.front)))
+
+pub returns-in-Ok-serve_with-clause-memory_text : goal.returns-in-Ok-serve_with-clause-memory_text
+returns-in-Ok-serve_with-clause-memory_text g c refused command = inr (c.in-Ok.table, c.in-Ok.ensures.read, λ w is.
+    let before = g.S.Source.meaning c.args.source.now in
+    let read = subst (IsRead before.whole before.taken SCRIPT_LIMIT) (sym c.as_slice.ensures.value) c.in-Ok-read_all.ensures.bytes in
+    let window = (g.C.Clock.meaning c.args.clock).window in
+    let text = c.in-Ok-serve_with.text.items in
+    let told = c.in-Ok-serve_with.ensures.served in
+    let shown = shown_script before.whole before.taken SCRIPT_LIMIT c.as_slice.result.now c.in-Ok.table window told.0 c.in-Ok-parse_script.requests.items text read c.in-Ok-parse_script.ensures.good c.in-Ok-parse_script.ensures.requests told.1 in
+    let good = good_script before.whole before.taken SCRIPT_LIMIT c.as_slice.result.now read c.in-Ok-parse_script.ensures.good w is in
+    (text, inr (inr (good, c.in-Ok-serve_with.ensures.accepted, (told.0, shown w is))), rw c.as_slice-in-Ok-serve_with.ensures.value at c.write_text.ensures.front))

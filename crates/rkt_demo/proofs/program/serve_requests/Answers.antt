@@ -13,15 +13,15 @@ if_ok P Q (Ok x) so known = so x known
 if_ok P Q (Err error) so known = tt
 
 pub returns-in-Ok : goal.returns-in-Ok
-returns-in-Ok g c =
+returns-in-Ok g c table sampled =
     let launched = c.in-Ok.ensures in
     let window = (g.C.Clock.meaning c.args.clock).window in
     let laws : Spelling = record { origins = c.says_what_it_spells.ensures; hosts = c.spells_one_host.ensures; media = c.spells_one_media_type.ensures.media; accept = c.spells_one_media_type.ensures.accept; preferred = c.spells_one_media_type.ensures.preferred } in
-    let sample : IsSample c.in-Ok.launched.rocket.tables = subst IsSample (sym launched.tables) c.in_ok-rocket.ensures in
+    let sample : IsSample table c.in-Ok.launched.rocket.tables = subst (IsSample table) (sym launched.tables) sampled in
     let offered : c.in_ok-listener.listener.offered ≡ c.in_ok-links.links.items = ap (λ (l : ListenerInMemory). l.offered) c.in_ok-listener.ensures.made in
     let given = launched.offers (map asked_of c.in_ok-listener.listener.offered) refl ∙ ap (λ (ls : List LinkInMemory). Some (map asked_of ls)) offered in
     if_ok _ _ c.print_history-text.result (λ text printed.
-    let shown = launched_shown laws window c.in-Ok.launched.rocket.tables sample (listener_meaning c.in-Ok.launched.listener).given c.in-Ok.launched.history.events printed.0 c.in_ok-links.links.items c.args.requests.items
+    let shown = launched_shown laws window table c.in-Ok.launched.rocket.tables sample (listener_meaning c.in-Ok.launched.listener).given c.in-Ok.launched.history.events printed.0 c.in_ok-links.links.items c.args.requests.items
     c.in_ok-links.ensures.asked given launched.requests launched.moments launched.entries printed.1 in
-    (shown.0, subst (λ (t : List ℕ). ShownFrom window shown.0 0 c.args.requests.items t) (sym printed.2) shown.1))
+    (shown.0, subst (λ (t : List ℕ). ShownFrom table window shown.0 0 c.args.requests.items t) (sym printed.2) shown.1))
     c.print_history-text.ensures
