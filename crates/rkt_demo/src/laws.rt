@@ -16,5 +16,4 @@ pub fn shown_once()
 /// A law of commands: each sets one table.
 pub fn sets_once()
     ensures { SetsOnce }
-{
-}
+{}

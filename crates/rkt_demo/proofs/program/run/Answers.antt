@@ -22,11 +22,15 @@ returns-in-Err-Refused-parse_script-clause-script g c three w is =
     (_, first_bad_read before.whole before.taken SCRIPT_LIMIT _ c.as_slice.result.now read bad w is, c.refuse_line.ensures.script three)
 
 pub returns-in-Err-Refused-parse_script-clause-memory_text : goal.returns-in-Err-Refused-parse_script-clause-memory_text
-returns-in-Err-Refused-parse_script-clause-memory_text g c six command = inr (c.in-Ok.table, c.in-Ok.ensures.read, λ w is.
-    let before = g.S.Source.meaning c.args.source.now in
-    let read = subst (IsRead before.whole before.taken SCRIPT_LIMIT) (sym c.as_slice.ensures.value) c.in-Ok-read_all.ensures.bytes in
-    let bad = rw c.in-Err-Refused-parse_script.field-0-is at c.in-Err-Refused-parse_script.ensures.line in
-    (_, inl (_, first_bad_read before.whole before.taken SCRIPT_LIMIT _ c.as_slice.result.now read bad w is, refl), c.refuse_line.ensures.front))
+returns-in-Err-Refused-parse_script-clause-memory_text g c six command = inr (
+  c.in-Ok.table,
+  c.in-Ok.ensures.read,
+  λ w is.
+      let before = g.S.Source.meaning c.args.source.now in
+      let read = subst (IsRead before.whole before.taken SCRIPT_LIMIT) (sym c.as_slice.ensures.value) c.in-Ok-read_all.ensures.bytes in
+      let bad = rw c.in-Err-Refused-parse_script.field-0-is at c.in-Err-Refused-parse_script.ensures.line in
+      (_, inl (_, first_bad_read before.whole before.taken SCRIPT_LIMIT _ c.as_slice.result.now read bad w is, refl), c.refuse_line.ensures.front),
+)
 
 pub returns-in-Err-Refused-parse_script-clause-complete : goal.returns-in-Err-Refused-parse_script-clause-complete
 returns-in-Err-Refused-parse_script-clause-complete g c table script command accepted is good unread unwritten =
@@ -42,11 +46,15 @@ returns-in-Err-Refused-serve_with-clause-good g c done w is =
     good_script before.whole before.taken SCRIPT_LIMIT c.as_slice.result.now read c.in-Ok-parse_script.ensures.good w is
 
 pub returns-in-Err-Refused-serve_with-clause-memory_text : goal.returns-in-Err-Refused-serve_with-clause-memory_text
-returns-in-Err-Refused-serve_with-clause-memory_text g c six command = inr (c.in-Ok.table, c.in-Ok.ensures.read, λ w is.
-    let before = g.S.Source.meaning c.args.source.now in
-    let read = subst (IsRead before.whole before.taken SCRIPT_LIMIT) (sym c.as_slice.ensures.value) c.in-Ok-read_all.ensures.bytes in
-    let good = good_script before.whole before.taken SCRIPT_LIMIT c.as_slice.result.now read c.in-Ok-parse_script.ensures.good w is in
-    (config_refusal, inr (inl (good, rw c.in-Err-Refused-serve_with.field-0-is at c.in-Err-Refused-serve_with.ensures.refused, refl)), c.refuse_config.ensures.front))
+returns-in-Err-Refused-serve_with-clause-memory_text g c six command = inr (
+  c.in-Ok.table,
+  c.in-Ok.ensures.read,
+  λ w is.
+      let before = g.S.Source.meaning c.args.source.now in
+      let read = subst (IsRead before.whole before.taken SCRIPT_LIMIT) (sym c.as_slice.ensures.value) c.in-Ok-read_all.ensures.bytes in
+      let good = good_script before.whole before.taken SCRIPT_LIMIT c.as_slice.result.now read c.in-Ok-parse_script.ensures.good w is in
+      (config_refusal, inr (inl (good, rw c.in-Err-Refused-serve_with.field-0-is at c.in-Err-Refused-serve_with.ensures.refused, refl)), c.refuse_config.ensures.front),
+)
 
 pub returns-in-Err-Refused-serve_with-clause-complete : goal.returns-in-Err-Refused-serve_with-clause-complete
 returns-in-Err-Refused-serve_with-clause-complete g c table script command accepted is good unread unwritten =
@@ -60,32 +68,50 @@ returns-in-Ok-serve_with-clause-good g c done w is =
     good_script before.whole before.taken SCRIPT_LIMIT c.as_slice.result.now read c.in-Ok-parse_script.ensures.good w is
 
 pub returns-in-Ok-serve_with-clause-text : goal.returns-in-Ok-serve_with-clause-text
-returns-in-Ok-serve_with-clause-text g c served = (c.in-Ok.table, c.in-Ok.ensures.read, (c.in-Ok-serve_with.ensures.accepted, λ w is.
-    let before = g.S.Source.meaning c.args.source.now in
-    let read = subst (IsRead before.whole before.taken SCRIPT_LIMIT) (sym c.as_slice.ensures.value) c.in-Ok-read_all.ensures.bytes in
-    let window = (g.C.Clock.meaning c.args.clock).window in
-    let text = c.in-Ok-serve_with.text.items in
-    let told = c.in-Ok-serve_with.ensures.served in
-    let shown = shown_script before.whole before.taken SCRIPT_LIMIT c.as_slice.result.now c.in-Ok.table window told.0 c.in-Ok-parse_script.requests.items text read c.in-Ok-parse_script.ensures.good c.in-Ok-parse_script.ensures.requests told.1 in
-    (told.0, text, shown w is, rw c.as_slice-in-Ok-serve_with.ensures.value at (c.write_text.ensures.whole served))))
+returns-in-Ok-serve_with-clause-text g c served = (
+  c.in-Ok.table,
+  c.in-Ok.ensures.read,
+  (
+    c.in-Ok-serve_with.ensures.accepted,
+    λ w is.
+        let before = g.S.Source.meaning c.args.source.now in
+        let read = subst (IsRead before.whole before.taken SCRIPT_LIMIT) (sym c.as_slice.ensures.value) c.in-Ok-read_all.ensures.bytes in
+        let window = (g.C.Clock.meaning c.args.clock).window in
+        let text = c.in-Ok-serve_with.text.items in
+        let told = c.in-Ok-serve_with.ensures.served in
+        let shown = shown_script before.whole before.taken SCRIPT_LIMIT c.as_slice.result.now c.in-Ok.table window told.0 c.in-Ok-parse_script.requests.items text read c.in-Ok-parse_script.ensures.good c.in-Ok-parse_script.ensures.requests told.1 in
+        (told.0, text, shown w is, rw c.as_slice-in-Ok-serve_with.ensures.value at (c.write_text.ensures.whole served)),
+  ),
+)
 
 pub returns-in-Ok-serve_with-clause-write_text : goal.returns-in-Ok-serve_with-clause-write_text
-returns-in-Ok-serve_with-clause-write_text g c refused = (c.in-Ok.table, c.in-Ok.ensures.read, (c.in-Ok-serve_with.ensures.accepted, λ w is.
-    let before = g.S.Source.meaning c.args.source.now in
-    let read = subst (IsRead before.whole before.taken SCRIPT_LIMIT) (sym c.as_slice.ensures.value) c.in-Ok-read_all.ensures.bytes in
-    let window = (g.C.Clock.meaning c.args.clock).window in
-    let text = c.in-Ok-serve_with.text.items in
-    let told = c.in-Ok-serve_with.ensures.served in
-    let shown = shown_script before.whole before.taken SCRIPT_LIMIT c.as_slice.result.now c.in-Ok.table window told.0 c.in-Ok-parse_script.requests.items text read c.in-Ok-parse_script.ensures.good c.in-Ok-parse_script.ensures.requests told.1 in
-    (told.0, text, shown w is, rw c.as_slice-in-Ok-serve_with.ensures.value at c.write_text.ensures.front)))
+returns-in-Ok-serve_with-clause-write_text g c refused = (
+  c.in-Ok.table,
+  c.in-Ok.ensures.read,
+  (
+    c.in-Ok-serve_with.ensures.accepted,
+    λ w is.
+        let before = g.S.Source.meaning c.args.source.now in
+        let read = subst (IsRead before.whole before.taken SCRIPT_LIMIT) (sym c.as_slice.ensures.value) c.in-Ok-read_all.ensures.bytes in
+        let window = (g.C.Clock.meaning c.args.clock).window in
+        let text = c.in-Ok-serve_with.text.items in
+        let told = c.in-Ok-serve_with.ensures.served in
+        let shown = shown_script before.whole before.taken SCRIPT_LIMIT c.as_slice.result.now c.in-Ok.table window told.0 c.in-Ok-parse_script.requests.items text read c.in-Ok-parse_script.ensures.good c.in-Ok-parse_script.ensures.requests told.1 in
+        (told.0, text, shown w is, rw c.as_slice-in-Ok-serve_with.ensures.value at c.write_text.ensures.front),
+  ),
+)
 
 pub returns-in-Ok-serve_with-clause-memory_text : goal.returns-in-Ok-serve_with-clause-memory_text
-returns-in-Ok-serve_with-clause-memory_text g c refused command = inr (c.in-Ok.table, c.in-Ok.ensures.read, λ w is.
-    let before = g.S.Source.meaning c.args.source.now in
-    let read = subst (IsRead before.whole before.taken SCRIPT_LIMIT) (sym c.as_slice.ensures.value) c.in-Ok-read_all.ensures.bytes in
-    let window = (g.C.Clock.meaning c.args.clock).window in
-    let text = c.in-Ok-serve_with.text.items in
-    let told = c.in-Ok-serve_with.ensures.served in
-    let shown = shown_script before.whole before.taken SCRIPT_LIMIT c.as_slice.result.now c.in-Ok.table window told.0 c.in-Ok-parse_script.requests.items text read c.in-Ok-parse_script.ensures.good c.in-Ok-parse_script.ensures.requests told.1 in
-    let good = good_script before.whole before.taken SCRIPT_LIMIT c.as_slice.result.now read c.in-Ok-parse_script.ensures.good w is in
-    (text, inr (inr (good, c.in-Ok-serve_with.ensures.accepted, (told.0, shown w is))), rw c.as_slice-in-Ok-serve_with.ensures.value at c.write_text.ensures.front))
+returns-in-Ok-serve_with-clause-memory_text g c refused command = inr (
+  c.in-Ok.table,
+  c.in-Ok.ensures.read,
+  λ w is.
+      let before = g.S.Source.meaning c.args.source.now in
+      let read = subst (IsRead before.whole before.taken SCRIPT_LIMIT) (sym c.as_slice.ensures.value) c.in-Ok-read_all.ensures.bytes in
+      let window = (g.C.Clock.meaning c.args.clock).window in
+      let text = c.in-Ok-serve_with.text.items in
+      let told = c.in-Ok-serve_with.ensures.served in
+      let shown = shown_script before.whole before.taken SCRIPT_LIMIT c.as_slice.result.now c.in-Ok.table window told.0 c.in-Ok-parse_script.requests.items text read c.in-Ok-parse_script.ensures.good c.in-Ok-parse_script.ensures.requests told.1 in
+      let good = good_script before.whole before.taken SCRIPT_LIMIT c.as_slice.result.now read c.in-Ok-parse_script.ensures.good w is in
+      (text, inr (inr (good, c.in-Ok-serve_with.ensures.accepted, (told.0, shown w is))), rw c.as_slice-in-Ok-serve_with.ensures.value at c.write_text.ensures.front),
+)
