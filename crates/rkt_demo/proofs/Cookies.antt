@@ -2,7 +2,7 @@
 use Rattle.std.proofs.Common.{◌≡◌, ◌++◌, ℕ, zero, suc, List, [], ◌∷◌, Bool, true, false, Option, Some, None, drop, if◌then◌else◌, length, map, refl, ap, ◌∙◌, sym}
 use Rattle.std.specs.List.{flat_map, list_any}
 use Rattle.rkt_cookie.specs.Cookie.{Parts}
-use Rattle.rkt_cookie.specs.Jar.{addition, delta, is_named, last_changes, sent}
+use Rattle.rkt_cookie.specs.Jar.{addition, is_named, last_changes, sent}
 use Rattle.rkt_cookie.specs.declared.change.Change.{Change}
 use Rattle.rkt_lifecycle.specs.Dressed.{pending_cookies}
 use Rattle.rkt_request.specs.Lent.{Kept}

@@ -1,5 +1,5 @@
 -- The lines that belong to the request before them.
-use Rattle.std.proofs.Common.{zero, suc, ◌≡◌, ◌<◌, ◌≤◌, ◌+◌, ◌-◌, ◌⊎◌, inl, inr, ◌++◌, ◌&&◌, ℕ, List, [], ◌∷◌, Bool, true, false, codes, get_or, length, take, drop, refl, ap, ◌∙◌, sym, subst, arith}
+use Rattle.std.proofs.Common.{zero, suc, ◌≡◌, ◌<◌, ◌≤◌, ◌+◌, ◌-◌, ◌⊎◌, inl, inr, ◌++◌, ◌&&◌, ℕ, List, [], ◌∷◌, Bool, true, false, get_or, length, take, drop, refl, ap, ◌∙◌, sym, subst, arith}
 use Rattle.std.specs.List.{list_all, prefix_len, take_while}
 use Rattle.std.proofs.lemmas.List.Sums.{prefix_len-le-length, prefix_len_is, prefix_len_passes}
 use Rattle.std.specs.Prelude.{slice_index_or, slice_set}

@@ -1,11 +1,11 @@
 -- How the sample ignites: no fairing is called, and nothing of it is refused but its table.
-use Rattle.std.proofs.Common.{◌≡◌, ◌≢◌, ◌<◌, ◌∙◌, ℕ, [], ◌∷◌, List, Bool, Option, Some, None, Result, Ok, Err, ap, refl, subst, sym, arith}
+use Rattle.std.proofs.Common.{◌≡◌, ◌∙◌, ℕ, [], ◌∷◌, List, Bool, Some, None, Result, Ok, Err, ap, refl, subst, sym, arith}
 use Rattle.std.specs.Prelude.{IfOk, OnOk}
 use Rattle.std.proofs.lemmas.Option.{none-some}
 use Rattle.rkt_base.specs.Want.{IfRefused}
 use Rattle.rkt_base.specs.declared.want.Want.{Want}
 use Rattle.rkt_base.specs.declared.want.Want.TheVariants as want
-use Rattle.rkt_config.specs.Config.{IsConfig, first_bad}
+use Rattle.rkt_config.specs.Config.{first_bad}
 use Rattle.rkt_fairing.specs.Building.{SeenBuilding}
 use Rattle.rkt_fairing.specs.Fairings.{fairing_at}
 use Rattle.rkt_fairing.specs.Info.{SeenInfo}
@@ -13,12 +13,11 @@ use Rattle.rkt_fairing.specs.declared.callback.Callback.TheVariants as callback
 use Rattle.rkt_http.specs.declared.key.Key.{Key}
 use Rattle.rkt_ignition.specs.Aborted.{sentries_of}
 use Rattle.rkt_ignition.specs.Calls.{CallingAtIgnition, SeenCall}
-use Rattle.rkt_ignition.specs.Ignited.{IsIgnited, IsMadeOf, IsRefused, Passes, RefusesLeft}
-use Rattle.rkt_ignition.specs.Ignites.{Igniting, Ignites, IgnitesAll, IgnitesTooMany, Waits, begins, calls_next, adds_others, igniting}
+use Rattle.rkt_ignition.specs.Ignited.{IsIgnited, IsMadeOf, IsRefused, Passes}
+use Rattle.rkt_ignition.specs.Ignites.{Igniting, Ignites, Waits, begins, calls_next, adds_others, igniting}
 use Rattle.rkt_ignition.specs.Reached.{IsQueried}
 use Rattle.rkt_ignition.specs.declared.error.IgniteError.{IgniteError}
 use Rattle.rkt_ignition.specs.declared.error.IgniteError.TheVariants.{IgniteLimit, FailedFairings, Config, Collisions, SentinelAborts}
-use Rattle.rkt_ignition.specs.declared.parts.IgnitedPartsOf.{IgnitedPartsOf}
 use Rattle.rkt_life.specs.Ignition.{IgnitesTo}
 use Rattle.rkt_life.specs.Rocket.{SeenRocket}
 use Rattle.rkt_life.specs.declared.no_fairing.NoFairing.{NoFairing}

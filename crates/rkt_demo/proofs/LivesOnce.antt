@@ -1,5 +1,5 @@
 -- An exchange of the sample makes one response of one request, whatever the moments.
-use Rattle.std.proofs.Common.{◌≡◌, ◌==◌, ◌||◌, ℕ, List, [], ◌∷◌, Bool, true, false, Option, Some, None, codes, if◌then◌else◌, is_some, length, take, refl, ap, ◌∙◌, sym, subst}
+use Rattle.std.proofs.Common.{◌≡◌, ◌==◌, ◌||◌, ℕ, List, [], ◌∷◌, Bool, true, false, Option, Some, codes, if◌then◌else◌, is_some, length, take, refl, ap, ◌∙◌, sym, subst}
 use Rattle.std.proofs.lemmas.Option.{same_Some}
 use Rattle.std.specs.Prelude.{unwrap_or}
 use Rattle.rkt_cookie.specs.Cookie.{Parts}
@@ -17,7 +17,7 @@ use Rattle.rkt_lifecycle.specs.Tables.{table_of}
 use Rattle.rkt_lifecycle.specs.declared.ended.RunOf.{RunOf}
 use Rattle.rkt_media.specs.Media.{Media}
 use Rattle.rkt_message.specs.Body.{stripped}
-use Rattle.rkt_message.specs.Response.{ResponseOf, with_body}
+use Rattle.rkt_message.specs.Response.{with_body}
 use Rattle.rkt_message.specs.declared.content.Content.{Content}
 use Rattle.rkt_message.specs.declared.content.Content.TheVariants as content
 use Rattle.rkt_request.specs.Lent.{Kept}

@@ -5,7 +5,6 @@ use Rattle.std.specs.Str.{IsAscii, IsUtf8}
 use Rattle.std.proofs.lemmas.Bool.{false≢true}
 use Rattle.std.proofs.lemmas.Bool.Decides.{nat_tests}
 use Rattle.std.proofs.lemmas.Str.{IsAscii-append, IsUtf8-from_ascii}
-use Rattle.rkt_request.specs.declared.head.Head.{Head}
 use Rattle.rkt_demo.specs.Script.{is_capital, is_visible, is_space, is_word, IsRequest, head_of}
 
 -- both tests pass

@@ -1,6 +1,6 @@
 -- A request is routed to one thing where each call of a route and of a catcher comes to one, whatever the Gates.
-use Rattle.std.proofs.Common.{◌≡◌, ◌<◌, ◌⊎◌, inl, inr, ℕ, List, [], ◌∷◌, Bool, true, false, Option, Some, None, Result, Ok, Err, refl, ◌∙◌, sym, subst}
-use Rattle.std.specs.Prelude.{◌==◌, MatchBool, MatchOption, slice_get}
+use Rattle.std.proofs.Common.{◌≡◌, ℕ, List, [], ◌∷◌, Bool, true, false, Option, Some, None, Result, Ok, Err, refl, ◌∙◌, sym, subst}
+use Rattle.std.specs.Prelude.{◌==◌, MatchBool, MatchOption}
 use Rattle.std.proofs.lemmas.Option.{same_Some}
 use Rattle.rkt_fairing.specs.Callbacks.{RequestAt}
 use Rattle.rkt_http.specs.declared.method.Method.TheVariants.{Get}
@@ -23,7 +23,7 @@ use Rattle.rkt_router.specs.declared.turn.Final.{Final}
 use Rattle.rkt_router.specs.declared.turn.Final.TheVariants.{Done}
 use Rattle.rkt_routing.specs.Found.{Found}
 use Rattle.rkt_routing.specs.Relations.{Relations}
-use Rattle.rkt_routing.specs.Routed.{CatcherCall, CatcherReplies, Catches, Chooses, Errors, Fails, Finds, GivesUp, Goes, Retries, RouteCall, Routes, Settles, Steps, Walks, is_head, mounted, settled, turns_of}
+use Rattle.rkt_routing.specs.Routed.{CatcherReplies, Catches, Chooses, Errors, Fails, Finds, GivesUp, Goes, Retries, RouteCall, Routes, Settles, Steps, Walks, is_head, mounted, settled, turns_of}
 use Rattle.rkt_routing.specs.Table.{SeenTable}
 use Rattle.rkt_routing.specs.declared.run.Call.{Call}
 use Rattle.rkt_demo.proofs.Choices.{one_chosen, one_next}

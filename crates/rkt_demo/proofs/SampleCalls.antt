@@ -1,6 +1,5 @@
 -- Two whole calls of a route or of a catcher of the sample, of what is alike, come to one thing.
-use Rattle.std.proofs.Common.{◌≡◌, ◌≤◌, ℕ, List, Bool, true, false, Option, Some, None, Result, refl, sym, subst}
-use Rattle.rkt_http.specs.declared.outcome.Outcome.TheVariants.{Success, Error, Forward}
+use Rattle.std.proofs.Common.{◌≡◌, ℕ, List, Bool, true, false, Option, Some, None, Result, refl, sym, subst}
 use Rattle.rkt_http.specs.declared.status.Status.{Status}
 use Rattle.rkt_message.specs.Response.{ResponseOf}
 use Rattle.rkt_message.specs.declared.content.Content.{Content}
@@ -9,12 +8,11 @@ use Rattle.rkt_request.specs.Lent.{Kept}
 use Rattle.rkt_request.specs.Seen.{Seen}
 use Rattle.rkt_router.specs.Callbacks.{Handed, Refused, Reply}
 use Rattle.rkt_router.specs.Calls.{GateRule, Made}
-use Rattle.rkt_router.specs.Page.{IsDefaultPage, page_of}
+use Rattle.rkt_router.specs.Page.{page_of}
 use Rattle.rkt_router.specs.declared.turn.Final.{Final}
 use Rattle.rkt_routing.specs.Routed.{turns_of}
 use Rattle.rkt_routing.specs.Table.{SeenTable}
 use Rattle.rkt_routing.specs.MakingLaws.{some_turns}
-use Rattle.rkt_sample.specs.Added.{with_added}
 use Rattle.rkt_sample.specs.Bodies.{IsSteadyBody, SampleBody, string_limit, text_in, whole}
 use Rattle.rkt_sample.specs.Catching.{answer_of, catch_calling}
 use Rattle.rkt_sample.specs.Catching as catching

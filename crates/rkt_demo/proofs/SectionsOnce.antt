@@ -1,5 +1,5 @@
 -- A script is shown as one text.
-use Rattle.std.proofs.Common.{◌≡◌, ◌++◌, ◌+◌, ℕ, List, [], ◌∷◌, Bool, true, false, Option, Some, None, map, flat_map, refl, ap, ◌∙◌, sym, subst, append-nil}
+use Rattle.std.proofs.Common.{◌≡◌, ◌++◌, ◌+◌, ℕ, List, [], ◌∷◌, Bool, true, false, Option, Some, map, flat_map, refl, ap, ◌∙◌, sym, subst, append-nil}
 use Rattle.std.specs.Prelude.{MatchBool}
 use Rattle.std.specs.List.{concat}
 use Rattle.rkt_message.specs.Body.{left_of}
@@ -14,7 +14,7 @@ use Rattle.rkt_demo.proofs.Once.{Spelling}
 use Rattle.rkt_demo.proofs.SampleCalls.{IsAtHand, Response}
 use Rattle.rkt_demo.specs.Output.{answered_section, body_bytes, failed_section, head_text, sent_section}
 use Rattle.rkt_demo.specs.Script.{lines_of, requests_of}
-use Rattle.rkt_demo.specs.Shown.{IsAnswered, IsSection, IsServed, Shown, ShownFrom, ShownOnce}
+use Rattle.rkt_demo.specs.Shown.{IsAnswered, IsSection, IsServed, ShownFrom, ShownOnce}
 use Rattle.rkt_demo.specs.Words.{Table}
 use Rattle.rkt_demo.specs.declared.script.ScriptRequest.{ScriptRequest}
 

@@ -1,15 +1,13 @@
 -- What the fairings of the sample do: none is called for a request, and the shield for a response.
-use Rattle.std.proofs.Common.{◌≡◌, ◌≤◌, ◌⊎◌, inl, inr, ℕ, max, List, [], ◌∷◌, Option, Some, None, refl, sym, ◌∙◌, subst, arith}
-use Rattle.std.proofs.lemmas.Option.{none-some}
+use Rattle.std.proofs.Common.{◌≡◌, ◌≤◌, ◌⊎◌, inl, inr, ℕ, max, List, [], ◌∷◌, refl, subst, arith}
 use Rattle.rkt_fairing.specs.Callbacks.{RequestAt, ResponseAt, quiet}
 use Rattle.rkt_fairing.specs.Fairings.{SeenFairings}
 use Rattle.rkt_fairing.specs.InSlot.{shielded, slot_request, slot_response}
-use Rattle.rkt_fairing.specs.declared.slot.Slot.{Slot}
 use Rattle.rkt_fairing.specs.declared.slot.Slot.TheVariants.{Shield}
 use Rattle.rkt_life.specs.declared.no_fairing.NoFairing.{NoFairing}
 use Rattle.rkt_lifecycle.specs.Answers.{Leads as AnswersLead, Outgoing, answering}
 use Rattle.rkt_lifecycle.specs.Asks.{Leads as AsksLead}
-use Rattle.rkt_lifecycle.specs.Chain.{Chained, Ends, FairingCall}
+use Rattle.rkt_lifecycle.specs.Chain.{Chained, Ends}
 use Rattle.rkt_request.specs.Seen.{Seen}
 use Rattle.rkt_router.specs.Calls.{GateRule, Made}
 use Rattle.rkt_router.specs.declared.turn.Final.{Final}

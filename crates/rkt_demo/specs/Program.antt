@@ -1,5 +1,5 @@
 -- What the program writes, by the words and the script that it reads.
-use Rattle.std.specs.Prelude.{◌≡◌, ◌≢◌, ◌⊎◌, ℕ, ◌+◌, ◌++◌, List, [], Bool, Option, Some, None, codes, drop}
+use Rattle.std.specs.Prelude.{◌≡◌, ◌⊎◌, ℕ, ◌+◌, ◌++◌, List, [], Bool, Option, Some, None, codes, drop}
 use Rattle.std.specs.Fmt.{decimal}
 use Rattle.std.specs.Option.{ForSome}
 use Rattle.rkt_config.specs.Config.{first_bad}

@@ -1,4 +1,3 @@
-use Rattle.rkt_demo.proofs.Once.{Spelling}
 use Rattle.rkt_demo.proofs.SectionsOnce.{one_text}
 use Rattle.rkt_demo.proofs.laws.shown_once.Goals as goal
 

@@ -1,4 +1,4 @@
-use Rattle.std.proofs.Common.{◌++◌, ◌∙◌, List, ap, codes, map, ℕ}
+use Rattle.std.proofs.Common.{◌++◌, ◌∙◌, List, ap, codes, map}
 use Rattle.rkt_fairing.specs.Below.{route_below}
 use Rattle.rkt_route.specs.declared.route.Route.{Route}
 use Rattle.rkt_sample.specs.declared.route.SampleRoute.{SampleRoute}

@@ -2,7 +2,7 @@ use Rattle.std.proofs.Common.{map, string_bytes}
 use Rattle.rkt_base.specs.Want.{IfRefused}
 use Rattle.rkt_base.specs.declared.want.Want.{Want}
 use Rattle.rkt_base.specs.declared.want.Want.TheVariants.{Refused, NoMemory}
-use Rattle.std.proofs.Common.{Result, Ok, Err}
+use Rattle.std.proofs.Common.{Err}
 use Rattle.rkt_demo.proofs.WordLemmas.{back}
 use Rattle.rkt_demo.specs.Words.{Table}
 use Rattle.rkt_demo.proofs.words.settings.Goals as goal
