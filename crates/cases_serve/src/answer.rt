@@ -1,6 +1,8 @@
+use crate::built::{ignite, told};
 use crate::error::CaseError;
 use crate::exchange::{exchange, parted};
 use crate::launch::launch;
+use crate::order::order;
 use crate::pieces::send_case;
 use crate::polls::{clock, polls};
 use crate::setting::{Setting, set_header, set_routes};
@@ -35,6 +37,22 @@ fn asked(alloc: Global, setting: &Setting, command: &str, rest: &str) -> Result<
     }
 }
 
+/// What comes of a launch.
+fn launching<R: Wait + Threads>(
+    rt: &R,
+    alloc: Global,
+    setting: &Setting,
+    command: &str,
+    rest: &str,
+) -> Result<String, CaseError> {
+    match command {
+        "launch" => launch(rt, alloc, setting, rest),
+        "ignite" => ignite(rt, alloc, setting, rest),
+        "order" => order(rt, alloc, setting, rest),
+        _ => told(rt, alloc, setting, rest),
+    }
+}
+
 /// What a case answers.
 pub fn answer<R: Wait + Threads>(
     rt: &R,
@@ -45,7 +63,7 @@ pub fn answer<R: Wait + Threads>(
     let (command, rest) = first_word(line);
     match command {
         "routes" | "header" => set(alloc, setting, command, rest),
-        "launch" => launch(rt, alloc, setting, rest),
+        "launch" | "order" | "ignite" | "told" => launching(rt, alloc, setting, command, rest),
         "send" => send_case(rt, alloc, setting, rest),
         _ => asked(alloc, setting, command, rest),
     }

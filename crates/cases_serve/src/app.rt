@@ -1,4 +1,6 @@
 //! The application that lines speak of.
+ghost use Rattle.rkt_request.specs.Lent.{MayGrow};
+
 use crate::error::CaseError;
 use crate::setting::Pair;
 use rkt_base::{NoMemory, Want};
@@ -6,12 +8,12 @@ use rkt_data::{MemorySource, Source};
 use rkt_http::{InvalidUri, Method, Outcome, Status};
 use rkt_life::{App, DefaultCatcher, Fairings, Ignite, NoFairing, Parts, Rocket, TablesOf};
 use rkt_message::Response;
-use rkt_request::{Body0, Config, Ctx, Managed, Request, Types};
+use rkt_request::{Body0, Config, ConfigTable, Ctx, Managed, Request, Types};
 use rkt_router::{Handler, Route, RouteOutcome, Router, Step};
 use rkt_turn::Reason;
 use std::alloc::Global;
 
-/// Answers with its own text.
+/// Answers with its own text. One that says `stop` notifies the wire.
 #[derive(Drop)]
 pub struct Saying {
     text: String,
@@ -27,7 +29,16 @@ fn page<S: Source>(alloc: Global, text: &str) -> Result<Response<S>, NoMemory> {
     Ok(response)
 }
 
-impl<T: Types> Handler<T> for Saying {
+/// Notifies the wire, of the one reason, where that is what is said.
+fn notify(text: &str, ctx: &mut Ctx<Site>)
+    ensures grows { MayGrow ctx.old ctx.new }
+{
+    if text == "stop" {
+        ctx.shutdown().notify(Stopped);
+    }
+}
+
+impl Handler<Site> for Saying {
     ghost use Rattle.cases_serve.specs.Sayings.{saying};
     ghost use Rattle.cases_serve.specs.SayingLaws.{saying_keeps};
 
@@ -35,17 +46,20 @@ impl<T: Types> Handler<T> for Saying {
 
     ghost calling = { saying };
 
-    fn start(&self, _request: &Request<'_, T>, _body: Body0<T>) {}
+    fn start(&self, _request: &Request<'_, Site>, _body: Body0<Site>) {}
 
     fn poll(
         &self,
         alloc: Global,
         _task: &mut (),
-        _request: &Request<'_, T>,
-        _ctx: &mut Ctx<T>,
-    ) -> Step<RouteOutcome<T>> {
+        _request: &Request<'_, Site>,
+        ctx: &mut Ctx<Site>,
+    ) -> Step<RouteOutcome<Site>> {
         match page(alloc, self.text.as_str()) {
-            Ok(response) => Step::Done(Outcome::Success(response)),
+            Ok(response) => {
+                notify(self.text.as_str(), ctx);
+                Step::Done(Outcome::Success(response))
+            }
             Err(_) => Step::Starved,
         }
     }
@@ -86,31 +100,41 @@ impl Parts for Site {
 
     type Catch = DefaultCatcher;
 
-    type Sentinel = u8;
+    type Sentinel = ();
 }
 
 impl App for Site {
     type Fairing = NoFairing;
 }
 
-type SiteRouter = Router<Saying, DefaultCatcher, u8>;
+type SiteRouter = Router<Saying, DefaultCatcher, ()>;
 
-type SiteRoute = Route<Saying, u8>;
+/// A route of GET that says its text.
+pub type SiteRoute = Route<Saying, ()>;
 
 fn route_of(alloc: Global, path: &str, text: String) -> Result<SiteRoute, Want<InvalidUri>> {
     SiteRoute::new(alloc, Method::Get, path, Saying { text })
 }
 
-fn push_route(alloc: Global, router: &mut SiteRouter, route: &Pair) -> Result<(), CaseError> {
-    let text = route.right.clone()?;
-    let route = route_of(alloc, route.left.as_str(), text)?;
-    Ok(router.add_route(route)?)
+fn push_route(alloc: Global, routes: &mut Vec<SiteRoute>, pair: &Pair) -> Result<(), CaseError> {
+    let text = pair.right.clone()?;
+    let route = route_of(alloc, pair.left.as_str(), text)?;
+    Ok(routes.push(route)?)
+}
+
+/// The routes of these pairs.
+pub fn routes_of(alloc: Global, pairs: &[Pair]) -> Result<Vec<SiteRoute>, CaseError> {
+    let mut routes = Vec::new(alloc);
+    for pair in pairs {
+        push_route(alloc, &mut routes, pair)?;
+    }
+    Ok(routes)
 }
 
 fn router_of(alloc: Global, pairs: &[Pair]) -> Result<SiteRouter, CaseError> {
     let mut router = SiteRouter::new(alloc);
-    for pair in pairs {
-        push_route(alloc, &mut router, pair)?;
+    for route in routes_of(alloc, pairs)? {
+        router.add_route(route)?;
     }
     Ok(router)
 }
@@ -123,7 +147,7 @@ fn assembled(alloc: Global, router: SiteRouter) -> Result<Rocket<Ignite, Site>, 
         config,
         managed: Managed::new(alloc),
     };
-    Rocket::<Ignite, Site>::from_tables(alloc, tables)
+    Rocket::<Ignite, Site>::from_tables(alloc, tables, ConfigTable::new(alloc))
 }
 
 /// A rocket with these routes.

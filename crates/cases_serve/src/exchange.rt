@@ -10,7 +10,7 @@ use rkt_base::{NoMemory, Poll};
 use rkt_cookie::{Cookie, CookieJar};
 use rkt_data::{CancellableIo, Data, Gate, MemorySource};
 use rkt_http::Key;
-use rkt_life::{Ended, EndedOf, Exchange, Ignite, Rocket, Run, Tables};
+use rkt_life::{Ended, EndedOf, Exchange, Ignite, Orbit, Rocket, Run, Tables};
 use rkt_message::Response;
 use rkt_request::{Body0, Head, Incoming, Request};
 use rkt_turn::Shutdown;
@@ -148,8 +148,8 @@ pub fn exchange(alloc: Global, setting: &Setting, text: &str) -> Result<String, 
 /// How many routes a rocket has that was taken apart and put together, and whether it has a managed value.
 pub fn parted(alloc: Global, setting: &Setting) -> Result<String, CaseError> {
     let rocket = rocket(alloc, setting.routes.as_slice())?;
-    let (tables, handle) = rocket.into_parts();
-    let rocket = Rocket::<Ignite, Site>::from_parts(tables, handle);
+    let (tables, table, handle) = rocket.into_orbit().into_parts();
+    let rocket = Rocket::<Orbit, Site>::from_parts(tables, table, handle);
     let routes = rocket.tables().router.routes().len();
     let managed = rocket.tables().managed.get(Key(0)).is_some();
     Ok(format!(in alloc; "{routes} routes, managed {managed}")?)

@@ -1,8 +1,8 @@
 //! Requests and the links that ask them.
 ghost use Rattle.std.specs.Prelude.{IfOk};
 ghost use Rattle.std.specs.List.{AllByRecursion};
-ghost use Rattle.rkt_serve.specs.Listener.{IsFresh};
-ghost use Rattle.rkt_serve.specs.Memory.{IsUnused, listener_meaning};
+ghost use Rattle.rkt_link.specs.Listener.{IsFresh};
+ghost use Rattle.rkt_link.specs.Memory.{IsUnused, listener_meaning};
 
 use crate::setting::{Pair, Setting};
 use crate::words::first_word;

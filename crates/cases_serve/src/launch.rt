@@ -1,7 +1,7 @@
 //! Launches.
 ghost use Rattle.std.specs.Prelude.{IfOk};
-ghost use Rattle.rkt_serve.specs.Listener.{IsFresh};
-ghost use Rattle.rkt_serve.specs.Memory.{listener_meaning};
+ghost use Rattle.rkt_link.specs.Listener.{IsFresh};
+ghost use Rattle.rkt_link.specs.Memory.{listener_meaning};
 
 use crate::app::{Site, rocket};
 use crate::error::CaseError;
@@ -17,9 +17,9 @@ use std::alloc::{AllocError, Global};
 use std::sync::Wait;
 use std::thread::Threads;
 
-type Over = Launched<Site, ListListener, ListClock>;
+pub type Over = Launched<Site, ListListener, ListClock>;
 
-type Refused = Error<Site, ListListener, ListClock>;
+pub type Refused = Error<Site, ListListener, ListClock>;
 
 fn run_cookies(alloc: Global, entry: &Entry<Site, MemoryLink>) -> Result<String, AllocError> {
     match &entry.run {
@@ -64,7 +64,11 @@ fn closed_at(history: &History<Site, MemoryLink>) -> u64 {
     }
 }
 
-fn history_text(alloc: Global, history: &History<Site, MemoryLink>) -> Result<String, AllocError> {
+/// The events of a launch, its entries, and the moment of its close.
+pub fn history_text(
+    alloc: Global,
+    history: &History<Site, MemoryLink>,
+) -> Result<String, AllocError> {
     let (events, admitted) = (history.events.len(), history.admitted());
     let mut text = format!(in alloc; "{events} events, {admitted} admitted")?;
     push_entries(alloc, &mut text, history)?;
@@ -73,7 +77,8 @@ fn history_text(alloc: Global, history: &History<Site, MemoryLink>) -> Result<St
     Ok(text)
 }
 
-fn refused(error: Refused) -> CaseError {
+/// Want of memory, which is the one error of a rocket that has ignited.
+pub fn refused(error: Refused) -> CaseError {
     let _text = error.pretty_print();
     CaseError::NoMemory
 }
@@ -96,7 +101,7 @@ fn launched<R: Wait + Threads>(
 }
 
 /// The listener of `POLLS LINK | LINK ..`.
-fn listener(alloc: Global, setting: &Setting, text: &str) -> Result<ListListener, CaseError>
+pub fn listener(alloc: Global, setting: &Setting, text: &str) -> Result<ListListener, CaseError>
     ensures { IfOk result (λ listener. IsFresh (listener_meaning listener)) }
 {
     let (pends, links) = first_word(text);

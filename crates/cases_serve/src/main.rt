@@ -3,7 +3,7 @@
 //! An empty line and one that begins with `#` are headings. What is no line of these is answered with `? line`.
 //!
 //!     routes PATH=TEXT ..                  from here on the application has these routes of GET, each of which says its
-//!                                          text
+//!                                          text; one that says `stop` notifies the wire
 //!     header NAME: VALUE                   from here on every request has this header; without one, it has none
 //!     exchange MOMENT METHOD TARGET        one exchange at this moment: the status, the content type, the size of the
 //!                                          body, the calls, the cookies that came, the cached values and the moment
@@ -13,6 +13,12 @@
 //!                                          a launch: the clock tells these moments, these polls of the listener (from
 //!                                          0) are Pending, and each link asks METHOD TARGET. How many events there
 //!                                          are, each entry, and the moment of the close
+//!     order POLLS LINK | LINK ..           the events of such a launch, in order, and those of a second launch of the rocket that
+//!                                          comes back, over the same links
+//!     ignite SETTINGS LINK | LINK ..       a launch of what is still built: the routes are mounted at `/`, and the table has
+//!                                          these settings. Its history, or why it does not ignite and how many links are
+//!                                          left
+//!     told SETTINGS LINK | LINK ..         what is told of such a launch where it fails
 //!     polls POLLS COUNT LINK | LINK ..     what so many polls of this listener answer
 //!     source TEXT                          what the source of a link with this body gives, and whether it can be taken
 //!                                          again
@@ -20,15 +26,17 @@
 //!     send TURNS CHUNK READS TEXT          a response with the header above and a streamed body, which gives chunks
 //!                                          and fails at these reads (from 0), is sent: how that ends, and the pieces
 //!
-//! MOMENTS, POLLS and READS are numbers parted by commas, or `-` for none. In a value, `\n` is a line feed.
+//! MOMENTS, POLLS and READS are numbers parted by commas, SETTINGS are NAME=TEXT parted by commas, or `-` for none. In a value, `\n` is a line feed.
 #![tactic(auto)]
 
 mod answer;
 mod app;
+mod built;
 mod error;
 mod exchange;
 mod heads;
 mod launch;
+mod order;
 mod pieces;
 mod polls;
 mod setting;

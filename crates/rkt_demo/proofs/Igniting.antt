@@ -30,11 +30,15 @@ use Rattle.rkt_sample.specs.declared.catcher.SampleCatcher.{SampleCatcher}
 use Rattle.rkt_sample.specs.declared.route.SampleRoute.{SampleRoute}
 use Rattle.rkt_demo.proofs.Apart.{no_catchers_collide, no_routes_collide}
 use Rattle.rkt_demo.specs.Program.{IsAccepted}
-use Rattle.rkt_demo.specs.Sample.{IsSample, SampleTables, shield_alone}
+use Rattle.rkt_demo.specs.Sample.{IsSample, shield_alone}
 use Rattle.rkt_demo.specs.Words.{Table}
 
 abbrev pub Built : Type 0
 Built = SeenBuilding SampleRoute SampleCatcher (Unit {0}) ℕ NoFairing
+
+-- the rocket that is made of it
+abbrev pub Made : Type 0
+Made = SeenRocket NoFairing SampleRoute SampleCatcher (Unit {0}) ℕ
 
 -- what is built of the sample
 abbrev pub sample_built : Table → Built
@@ -64,8 +68,8 @@ module _ {Task : Type 0} (calling : CallingAtIgnition SampleRoute SampleCatcher 
   passed calls end passes = still calls end passes.all.ignites
 
   -- what has ignited is the sample
-  pub ignited_sample : (tables : SampleTables) → IgnitesTo (IsIgnited calling key info May (sample_built table)) tables → IsSample table tables × (first_bad table ≡ None)
-  ignited_sample tables (parts, ignited, same) =
+  pub ignited_sample : (rocket : Made) → IgnitesTo (IsIgnited calling key info May (sample_built table)) rocket → IsSample table rocket.tables × (first_bad table ≡ None)
+  ignited_sample rocket (parts, ignited, same, told) =
       let end : ignited.end ≡ start = passed ignited.calls ignited.end ignited.passes in
       let made = subst (λ (i : Igniting SampleRoute SampleCatcher (Unit {0}) ℕ NoFairing). IsMadeOf i parts) end ignited.made in (
         subst (IsSample table) (sym same) (record {
@@ -97,16 +101,12 @@ module _ {Task : Type 0} (calling : CallingAtIgnition SampleRoute SampleCatcher 
       let (positions, queried, some, told) = refuses.1 in
       some (none_abort _ positions (subst (λ (r : List (Route SampleRoute (Unit {0}))). IsQueried May (sentries_of r) (record { config = parts.config; managed = parts.managed }) positions) (ap (λ r. r.routes) now.router) queried))
 
-  -- what is answered of it
-  abbrev pub Made : Type 0
-  Made = SeenRocket NoFairing SampleRoute SampleCatcher (Unit {0}) ℕ
-
-  pub made_so : {E : Type 0} (b : Built) (made : Result Made E) → b ≡ sample_built table → IfOk made (λ rocket. IgnitesTo (IsIgnited calling key info May b) rocket.tables) → IfOk made (λ rocket. IsSample table rocket.tables)
-  made_so b (Ok rocket) same ignites = (ignited_sample rocket.tables (subst (λ (x : Built). IgnitesTo (IsIgnited calling key info May x) rocket.tables) same ignites)).0
+  pub made_so : {E : Type 0} (b : Built) (made : Result Made E) → b ≡ sample_built table → IfOk made (λ rocket. IgnitesTo (IsIgnited calling key info May b) rocket) → IfOk made (λ rocket. IsSample table rocket.tables)
+  made_so b (Ok rocket) same ignites = (ignited_sample rocket (subst (λ (x : Built). IgnitesTo (IsIgnited calling key info May x) rocket) same ignites)).0
   made_so b (Err error) same ignites = tt
 
-  pub accepted_so : {E : Type 0} (b : Built) (made : Result Made E) → b ≡ sample_built table → IfOk made (λ rocket. IgnitesTo (IsIgnited calling key info May b) rocket.tables) → OnOk made (IsAccepted table)
-  accepted_so b (Ok rocket) same ignites = (ignited_sample rocket.tables (subst (λ (x : Built). IgnitesTo (IsIgnited calling key info May x) rocket.tables) same ignites)).1
+  pub accepted_so : {E : Type 0} (b : Built) (made : Result Made E) → b ≡ sample_built table → IfOk made (λ rocket. IgnitesTo (IsIgnited calling key info May b) rocket) → OnOk made (IsAccepted table)
+  accepted_so b (Ok rocket) same ignites = (ignited_sample rocket (subst (λ (x : Built). IgnitesTo (IsIgnited calling key info May x) rocket) same ignites)).1
   accepted_so b (Err error) same ignites = tt
 
   pub refused_so : (b : Built) (made : Result Made (Want IgniteError)) → b ≡ sample_built table → IfRefused made (IsRefused calling key info May b) → IfRefused made (λ error. ¬ IsAccepted table)

@@ -31,7 +31,7 @@ use Rattle.rkt_sample.specs.Catching.{catch_calling}
 use Rattle.rkt_sample.specs.Routing.{route_calling}
 use Rattle.rkt_sample.specs.declared.catcher.SampleCatcher.{SampleCatcher}
 use Rattle.rkt_sample.specs.declared.route.SampleRoute.{SampleRoute}
-use Rattle.rkt_serve.specs.Asked.{GivesBody, IsUntouched}
+use Rattle.rkt_link.specs.Asked.{GivesBody, IsUntouched}
 use Rattle.rkt_serve.specs.Lifecycle.{body_from, over_as}
 use Rattle.rkt_serve.specs.Serving.{callbacks_of, gates_of}
 use Rattle.rkt_shield.specs.Shield.{default_headers}

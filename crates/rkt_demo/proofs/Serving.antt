@@ -1,21 +1,24 @@
 -- The entries of a launch over the sample show what its links ask.
-use Rattle.std.proofs.Common.{suc, ◌≡◌, ◌<◌, ◌+◌, ◌⊎◌, inl, inr, ℕ, List, [], ◌∷◌, Bool, true, false, ◌==◌, Option, Some, None, if◌then◌else◌, length, map, slice_get, refl, ap, ◌∙◌, sym, subst, arith}
+use Rattle.std.proofs.Common.{suc, ◌≡◌, ◌<◌, ◌+◌, ◌++◌, ◌⊎◌, inl, inr, ℕ, List, [], ◌∷◌, Bool, true, false, ◌==◌, Option, Some, None, if◌then◌else◌, length, map, slice_get, refl, ap, ◌∙◌, sym, subst, arith}
 use Rattle.std.specs.Option.{ForSome, option_map}
 use Rattle.std.proofs.lemmas.List.{length-map}
 use Rattle.std.proofs.lemmas.Option.{none-some, same_Some, slice_get-map, slice_get_within}
 use Rattle.rkt_source.specs.Memory.{SourceInMemory, source_meaning}
-use Rattle.rkt_serve.specs.Asked.{Asked}
-use Rattle.rkt_serve.specs.Causes.{Caused, CausedAs, Ran}
-use Rattle.rkt_serve.specs.Clock.{IsWithin}
-use Rattle.rkt_serve.specs.Events.{admitted, end_of}
-use Rattle.rkt_serve.specs.Headline.{AllAdmitted, AllTimed, HasEntry}
-use Rattle.rkt_serve.specs.Memory.{LinkInMemory, asked_of}
-use Rattle.rkt_serve.specs.declared.history.End.{End as Ending}
-use Rattle.rkt_serve.specs.declared.history.End.TheVariants.{Answered, Failed, Starved}
-use Rattle.rkt_serve.specs.declared.history.Failure.TheVariants.{BadHead, BodyFault}
-use Rattle.rkt_serve.specs.declared.history.EntryOf.{EntryOf}
-use Rattle.rkt_serve.specs.declared.history.EventOf.{EventOf}
-use Rattle.rkt_serve.specs.declared.history.EventOf.TheVariants.{Lift, Admit, End, Close}
+use Rattle.rkt_link.specs.Asked.{Asked}
+use Rattle.rkt_serve.specs.Causes.{CauseAt, Caused, CausedAs, Ran}
+use Rattle.rkt_link.specs.Clock.{IsWithin}
+use Rattle.std.specs.List.{list_any}
+use Rattle.rkt_board.specs.After.{AfterFrom}
+use Rattle.rkt_board.specs.Closed.{AllAdmitted}
+use Rattle.rkt_board.specs.Events.{is_trip, admitted, end_of}
+use Rattle.rkt_serve.specs.Headline.{AllTimed, HasEntry}
+use Rattle.rkt_link.specs.Memory.{LinkInMemory, asked_of}
+use Rattle.rkt_board.specs.declared.history.End.{End as Ending}
+use Rattle.rkt_board.specs.declared.history.End.TheVariants.{Answered, Failed, Starved}
+use Rattle.rkt_board.specs.declared.history.Failure.TheVariants.{BadHead, BodyFault}
+use Rattle.rkt_board.specs.declared.history.EntryOf.{EntryOf}
+use Rattle.rkt_board.specs.declared.history.EventOf.{EventOf}
+use Rattle.rkt_board.specs.declared.history.EventOf.TheVariants.{Lift, Trip, Admit, End, Down, Close}
 use Rattle.rkt_message.specs.Reading.{StreamErrs}
 use Rattle.rkt_message.specs.Sending.{MayWait}
 use Rattle.rkt_message.specs.Sent.{Sent}
@@ -25,6 +28,7 @@ use Rattle.rkt_source.specs.declared.source.SourceError.{SourceError}
 use Rattle.rkt_demo.proofs.LivesOnce.{made_once}
 use Rattle.rkt_demo.proofs.Once.{Spelling}
 use Rattle.rkt_demo.proofs.SampleCalls.{IsAtHand}
+use Rattle.rkt_demo.specs.NoWord.{NoWord, no_word}
 use Rattle.rkt_demo.specs.Entries.{ended_section, entry_section, entries_text, AreEntries}
 use Rattle.rkt_demo.specs.Sample.{IsSample, SampleTables}
 use Rattle.rkt_demo.specs.Shown.{IsMade, IsSection, LeadsTo, ShownFrom, asked_for, served_in}
@@ -39,6 +43,8 @@ timed_end : (window : Option (ℕ × ℕ)) (k : ℕ) (events : List (EventOf ℕ
     → ForSome entry.run (λ run. IsWithin window run.moment)
 timed_end window k [] entry timed found = absurd (none-some entry found)
 timed_end window k (Lift calls ∷ es) entry timed found = timed_end window k es entry timed.1 found
+timed_end window k (Trip w t ∷ es) entry timed found = timed_end window k es entry timed.1 found
+timed_end window k (Down calls ∷ es) entry timed found = timed_end window k es entry timed.1 found
 timed_end window k (Admit n m b ∷ es) entry timed found = timed_end window k es entry timed.1 found
 timed_end window k (Close m ∷ es) entry timed found = timed_end window k es entry timed.1 found
 timed_end window k (End n other m b ∷ es) entry timed found = by_number (n == k) found (timed_end window k es entry timed.1)
@@ -46,6 +52,16 @@ timed_end window k (End n other m b ∷ es) entry timed found = by_number (n == 
     by_number : (t : Bool) → (if t then Some other else end_of k es) ≡ Some entry → (end_of k es ≡ Some entry → ForSome entry.run (λ run. IsWithin window run.moment)) → ForSome entry.run (λ run. IsWithin window run.moment)
     by_number true here later = subst (λ (e : Kept). ForSome e.run (λ run. IsWithin window run.moment)) (same_Some other entry here) timed.0.1
     by_number false here later = later here
+
+-- where no word is allowed there is no Trip
+pub none_trips : (window : Option (ℕ × ℕ)) (tables : SampleTables) (before es : List (EventOf ℕ SourceInMemory LinkInMemory)) → AfterFrom (CauseAt NoWord (served_in window) tables) before es → list_any is_trip es ≡ false
+none_trips window tables before [] caused = refl
+none_trips window tables before (Trip w m ∷ es) caused = absurd (no_word w caused.0)
+none_trips window tables before (Lift calls ∷ es) caused = none_trips window tables (before ++ Lift calls ∷ []) es caused.1
+none_trips window tables before (Admit n m b ∷ es) caused = none_trips window tables (before ++ Admit n m b ∷ []) es caused.1
+none_trips window tables before (End n x m b ∷ es) caused = none_trips window tables (before ++ End n x m b ∷ []) es caused.1
+none_trips window tables before (Down calls ∷ es) caused = none_trips window tables (before ++ Down calls ∷ []) es caused.1
+none_trips window tables before (Close m ∷ es) caused = none_trips window tables (before ++ Close m ∷ []) es caused.1
 
 -- an entry of a request
 record ServedFor (window : Option (ℕ × ℕ)) (tables : SampleTables) (request : ScriptRequest) (entry : Kept) : Type 0 where

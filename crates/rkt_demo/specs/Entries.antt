@@ -2,12 +2,12 @@
 use Rattle.std.specs.Prelude.{◌≡◌, ℕ, ◌+◌, ◌++◌, ◌<◌, List, [], ◌∷◌, Option, Some, None, length, slice_get}
 use Rattle.rkt_source.specs.Memory.{SourceInMemory}
 use Rattle.rkt_message.specs.declared.piece.Piece.{Piece}
-use Rattle.rkt_serve.specs.Events.{admitted, end_of}
-use Rattle.rkt_serve.specs.Memory.{LinkInMemory}
-use Rattle.rkt_serve.specs.declared.history.End.{End}
-use Rattle.rkt_serve.specs.declared.history.End.TheVariants.{Answered, Failed, Starved}
-use Rattle.rkt_serve.specs.declared.history.EntryOf.{EntryOf}
-use Rattle.rkt_serve.specs.declared.history.EventOf.{EventOf}
+use Rattle.rkt_board.specs.Events.{admitted, end_of}
+use Rattle.rkt_link.specs.Memory.{LinkInMemory}
+use Rattle.rkt_board.specs.declared.history.End.{End}
+use Rattle.rkt_board.specs.declared.history.End.TheVariants.{Answered, Failed, Starved}
+use Rattle.rkt_board.specs.declared.history.EntryOf.{EntryOf}
+use Rattle.rkt_board.specs.declared.history.EventOf.{EventOf}
 use Rattle.rkt_demo.specs.Output.{sent_section, failed_section, starved_section, last_line}
 
 -- the section of a request that ended so, with what its link holds

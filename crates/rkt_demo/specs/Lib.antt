@@ -6,3 +6,4 @@ pub mod Script
 pub mod Shown
 pub mod Streams
 pub mod Words
+pub mod NoWord

@@ -12,10 +12,10 @@ use Rattle.rkt_sample.specs.Catching.{catch_calling}
 use Rattle.rkt_sample.specs.Routing.{route_calling}
 use Rattle.rkt_sample.specs.declared.catcher.SampleCatcher.{SampleCatcher}
 use Rattle.rkt_sample.specs.declared.route.SampleRoute.{SampleRoute}
-use Rattle.rkt_serve.specs.Asked.{Asked}
-use Rattle.rkt_serve.specs.Clock.{IsWithin}
+use Rattle.rkt_link.specs.Asked.{Asked}
+use Rattle.rkt_link.specs.Clock.{IsWithin}
 use Rattle.rkt_serve.specs.Lifecycle.{Lifecycle}
-use Rattle.rkt_serve.specs.Memory.{LinkInMemory, link_meaning}
+use Rattle.rkt_link.specs.Memory.{LinkInMemory, link_meaning}
 use Rattle.rkt_serve.specs.Serving.{Serving, callbacks_of, serving}
 use Rattle.rkt_source.specs.Memory.{SourceInMemory, source_meaning}
 use Rattle.rkt_demo.specs.Output.{failed_section, last_line, sent_section, starved_section}

@@ -4,7 +4,7 @@ ghost use Rattle.std.specs.List.{AllByRecursion};
 ghost use Rattle.rkt_base.specs.Counts.{Rose};
 ghost use Rattle.rkt_base.specs.Want.{IfRefused};
 ghost use Rattle.rkt_source.specs.Sink.{Gains};
-ghost use Rattle.rkt_serve.specs.Memory.{IsUnused, asked_of};
+ghost use Rattle.rkt_link.specs.Memory.{IsUnused, asked_of};
 ghost use Rattle.rkt_demo.specs.Program.{OfCommand, IsAccepted, OfScript, IsScript, IsGoodScript, IsFirstBadLine, IsText, IsAllRead, refusal};
 ghost use Rattle.rkt_demo.specs.Sample.{IsSample};
 ghost use Rattle.rkt_demo.specs.Shown.{Shown, ShownFrom, asked_for};

@@ -13,19 +13,37 @@ use rkt_request::{ConfigTable, Types};
 use rkt_sample::{SampleCatcher, SampleRoute, catchers, routes};
 use rkt_turn::Reason;
 use std::alloc::{AllocError, Global};
+use std::marker::Model;
 
 /// The sample's routes and catchers as an application.
 pub struct Sample;
 
-/// The one reason for which the sample may be shut down.
-#[derive(Clone, Copy)]
-pub struct Stopped;
+/// The reasons for which the sample may be shut down: there is none, since no word is allowed.
+#[derive(Clone, Copy, Drop)]
+pub struct Unstoppable {
+    word: u64,
+}
 
-impl Reason for Stopped {
-    ghost allowed = { λ word. word ≡ 1 };
+impl Model for Unstoppable {
+    ghost use Rattle.std.specs.Prelude.{ℕ, ◌<◌};
+    ghost use Rattle.rkt_demo.specs.NoWord.{NoWord};
+
+    ghost Value = { ℕ };
+
+    ghost view = { λ r. r.word };
+
+    ghost invariant = { λ r. (0 < r.word) × NoWord r.word };
+
+    ghost inverse = { λ w. record { word = w } };
+}
+
+impl Reason for Unstoppable {
+    ghost use Rattle.rkt_demo.specs.NoWord.{NoWord};
+
+    ghost allowed = { NoWord };
 
     fn word(self) -> u64 {
-        1
+        self.word
     }
 }
 
@@ -38,7 +56,7 @@ impl Types for Sample {
 
     type Value = u64;
 
-    type Reason = Stopped;
+    type Reason = Unstoppable;
 }
 
 impl Parts for Sample {

@@ -2,4 +2,5 @@ pub mod Layers
 pub mod Meeting
 pub mod OfRoutes
 pub mod Refusals
+pub mod Valid
 pub mod Walks

@@ -5,3 +5,4 @@ pub mod Ignites
 pub mod Laws
 pub mod Reached
 pub mod Rounds
+pub mod Valid

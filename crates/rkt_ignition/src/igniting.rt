@@ -5,6 +5,7 @@ ghost use Rattle.rkt_ignition.specs.Calls.{SeenCall};
 ghost use Rattle.rkt_ignition.specs.Ignites.{IgnitesAll};
 ghost use Rattle.rkt_ignition.specs.Rounds.{HavePassed, RefusesCalls, RefusesFairings, RefusesRounds};
 ghost use Rattle.rkt_ignition.specs.Ignited.{IsAccepted, IsIgnited, IsMadeOf, IsRefused, RefusesLeft, RefusesTable};
+ghost use Rattle.rkt_ignition.specs.Valid.{IsValid};
 
 use crate::accepting::{accept, read_config};
 use crate::rounds::{Rounds, call_all};
@@ -133,6 +134,8 @@ where
     ensures ignited { IfOk result (IsIgnited P.calling F.key F.info A.Sentinel.may building) }
     // Each refusal has its cause, and comes only where those before it did not.
     ensures refused { IfRefused result (IsRefused P.calling F.key F.info A.Sentinel.may building) }
+    // Where none of its ignitions can be refused, it ignites, as long as there is memory.
+    ensures complete { IsValid P.calling F.key F.info A.Sentinel.may building → IfRefused result (λ _. ⊥) }
 {
     let mut attached = replace(&mut building.fairings, Fairings::new(alloc));
     called::<A, F, P>(alloc, &mut attached, &mut building)?;

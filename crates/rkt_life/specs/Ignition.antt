@@ -1,6 +1,7 @@
 -- What a rocket has that has ignited.
 use Rattle.std.specs.Prelude.{◌≡◌}
 use Rattle.rkt_ignition.specs.declared.parts.IgnitedPartsOf.{IgnitedPartsOf}
+use Rattle.rkt_life.specs.Rocket.{SeenRocket}
 use Rattle.rkt_lifecycle.specs.Tables.{SeenTables}
 
 -- F is the type of fairings, H that of handlers, K that of catchers' handlers, N that of what sentries ask, V that of managed
@@ -10,6 +11,6 @@ use Rattle.rkt_lifecycle.specs.Tables.{SeenTables}
 abbrev pub tables_of : {F H K N V : Type 0} → IgnitedPartsOf F H K N V → SeenTables F H K N V
 tables_of parts = record { router = parts.router; fairings = parts.fairings; config = parts.config; managed = parts.managed }
 
--- the tables are those of something that has ignited so
-abbrev pub IgnitesTo : {F H K N V : Type 0} → (IgnitedPartsOf F H K N V → Type 0) → SeenTables F H K N V → Type 0
-IgnitesTo {F} {H} {K} {N} {V} Ignited tables = (parts : IgnitedPartsOf F H K N V) × Ignited parts × (tables ≡ tables_of parts)
+-- the rocket is made of something that has ignited so
+abbrev pub IgnitesTo : {F H K N V : Type 0} → (IgnitedPartsOf F H K N V → Type 0) → SeenRocket F H K N V → Type 0
+IgnitesTo {F} {H} {K} {N} {V} Ignited rocket = (parts : IgnitedPartsOf F H K N V) × Ignited parts × (rocket.tables ≡ tables_of parts) × (rocket.table ≡ parts.table)

@@ -7,3 +7,4 @@ pub mod Ignition
 pub mod NoFairing
 pub mod OneOf
 pub mod Rocket
+pub mod State

@@ -1,4 +1,5 @@
 -- A rocket as contracts see it.
+use Rattle.std.specs.Prelude.{ℕ, List}
 use Rattle.rkt_lifecycle.specs.Tables.{SeenTables}
 use Rattle.rkt_turn.specs.Shutdown.{Handle}
 
@@ -6,5 +7,7 @@ use Rattle.rkt_turn.specs.Shutdown.{Handle}
 -- values
 pub record SeenRocket (F H K N V : Type 0) : Type 0 where
   pub tables : SeenTables F H K N V
+  -- the names with their texts that the configuration was read of
+  pub table : List (List ℕ × List ℕ)
   -- the handle of its wire
   pub handle : Handle

@@ -2,6 +2,7 @@
 ghost use Rattle.std.specs.Prelude.{◌≡◌, IfOk};
 ghost use Rattle.rkt_base.specs.Want.{IfRefused};
 ghost use Rattle.rkt_ignition.specs.Ignited.{IsIgnited, IsRefused};
+ghost use Rattle.rkt_ignition.specs.Valid.{IsValid};
 ghost use Rattle.rkt_life.specs.Ignition.{IgnitesTo};
 ghost use Rattle.rkt_turn.specs.Shutdown.{fresh};
 
@@ -17,10 +18,12 @@ impl<A: App<Sentinel: Aborts<A>>> RocketOf<AppBuilding<A>, A> {
     /// Calls the fairings of ignition, reads the configuration, and asks for collisions and sentinels. For want of memory, and
     /// where it is refused, all of it is dropped.
     pub fn ignite(self, alloc: Global) -> Result<Rocket<Ignite, A>, Want<IgniteError>>
-        // Its tables are those of what has ignited.
-        ensures ignited { IfOk result (λ rocket. IgnitesTo (IsIgnited A.Fairing.Ignites.calling A.Fairing.key A.Fairing.info A.Sentinel.may self) rocket.tables) }
+        // It is made of what has ignited.
+        ensures ignited { IfOk result (λ rocket. IgnitesTo (IsIgnited A.Fairing.Ignites.calling A.Fairing.key A.Fairing.info A.Sentinel.may self) rocket) }
         // Each refusal has its cause, and comes only where those before it did not.
         ensures refused { IfRefused result (IsRefused A.Fairing.Ignites.calling A.Fairing.key A.Fairing.info A.Sentinel.may self) }
+        // Where none of its ignitions can be refused, it ignites, as long as there is memory.
+        ensures complete { IsValid A.Fairing.Ignites.calling A.Fairing.key A.Fairing.info A.Sentinel.may self → IfRefused result (λ _. ⊥) }
         ensures fresh { IfOk result (λ rocket. rocket.handle ≡ fresh rocket.handle.wire) }
     {
         let parts = ignite::<A, A::Fairing, <A::Fairing as Fairing<A>>::Ignites>(
@@ -32,6 +35,6 @@ impl<A: App<Sentinel: Aborts<A>>> RocketOf<AppBuilding<A>, A> {
             config: parts.config,
             managed: parts.managed,
         };
-        Ok(Rocket::<Ignite, A>::from_tables(alloc, tables)?)
+        Ok(Rocket::<Ignite, A>::from_tables(alloc, tables, parts.table)?)
     }
 }

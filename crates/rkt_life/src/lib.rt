@@ -14,16 +14,17 @@ mod one_of;
 mod phase;
 mod plain_text;
 mod rocket;
+mod state;
 mod stopped;
 
 pub use answers_data::{AnsweringData, AnswersData, Taking};
 pub use build_error::BuildError;
 pub use default_catcher::DefaultCatcher;
 pub use handed::Handed;
-pub use igniting::{Igniting, IgnitingOf};
+pub use igniting::{IgnitedOf, Igniting, Orbiting};
 pub use no_fairing::NoFairing;
 pub use one_of::OneOf;
-pub use phase::{Build, Ignite, Phase};
+pub use phase::{Build, Ignite, Orbit, Phase};
 pub use plain_text::PlainText;
 pub use rkt_base::{NoMemory, Want};
 pub use rkt_cookie::Cookie;
@@ -47,4 +48,5 @@ pub use rkt_router::{
 pub use rkt_routing::{Answer, Call, Which};
 pub use rkt_turn::Reason;
 pub use rocket::{Rocket, RocketOf};
+pub use state::{State, StateOf, StateRef, Stateful};
 pub use stopped::Stopped;

@@ -1,5 +1,5 @@
 //! The phases that a rocket goes through.
-use crate::Igniting;
+use crate::{Igniting, Orbiting, Stateful};
 use rkt_fairing::{App, AppBuilding};
 
 /// The phase of a rocket that is being built.
@@ -8,10 +8,13 @@ pub struct Build;
 /// The phase of a rocket that may be launched.
 pub struct Ignite;
 
+/// The phase of a rocket that serves.
+pub struct Orbit;
+
 /// A phase of an application's rocket.
 pub trait Phase<A: App> {
     /// What a rocket of this phase is made of.
-    type State: Drop;
+    type State: Stateful<A>;
 }
 
 impl<A: App> Phase<A> for Build {
@@ -20,4 +23,8 @@ impl<A: App> Phase<A> for Build {
 
 impl<A: App> Phase<A> for Ignite {
     type State = Igniting<A>;
+}
+
+impl<A: App> Phase<A> for Orbit {
+    type State = Orbiting<A>;
 }

@@ -25,9 +25,9 @@ use Rattle.rkt_source.specs.Source.{Meaning}
 use Rattle.rkt_source.specs.declared.source.Gate.{Gate}
 use Rattle.rkt_turn.specs.HandsBack.{HandsBack}
 use Rattle.rkt_turn.specs.Shutdown.{Handle}
-use Rattle.rkt_serve.specs.Asked.{Asked, GivesBody, IsUntouched}
+use Rattle.rkt_link.specs.Asked.{Asked, GivesBody, IsUntouched}
 use Rattle.rkt_serve.specs.Begun.{AllFit, IsBegun}
-use Rattle.rkt_serve.specs.Clock.{ClockMeaning, IsAmid, IsWithin}
+use Rattle.rkt_link.specs.Clock.{ClockMeaning, IsAmid, IsWithin}
 use Rattle.rkt_serve.specs.Lifecycle.{Lifecycle, body_from}
 use Rattle.rkt_serve.specs.Serving.{callbacks_with, gates_with}
 

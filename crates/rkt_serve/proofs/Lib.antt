@@ -1,12 +1,9 @@
-pub mod Balance
+pub mod Boards
 pub mod Endings
-pub mod Clocks
-pub mod Core
 pub mod Pieces
 pub mod BodyReads
+pub mod Resting
 pub mod Sendings
-pub mod Pushes
-pub mod Listening
-pub mod Entries
+pub mod Launching
+pub mod Lighting
 pub mod Handles
-pub mod Telling

@@ -12,12 +12,12 @@ use Rattle.rkt_message.specs.declared.piece.Piece.{Piece}
 use Rattle.rkt_routing.specs.Routed.{turns_of}
 use Rattle.rkt_serve.specs.Causes.{CausedAs, Caused}
 use Rattle.rkt_serve.specs.Lifecycle.{Lifecycle}
-use Rattle.rkt_serve.specs.Link.{LinkMeaning, with_taken}
+use Rattle.rkt_link.specs.Link.{LinkMeaning, with_taken}
 use Rattle.rkt_serve.specs.Sent.{IsSentAs}
 use Rattle.rkt_serve.specs.Serving.{Serving, callbacks_of}
-use Rattle.rkt_serve.specs.declared.history.End.{End as Ending}
-use Rattle.rkt_serve.specs.declared.history.End.TheVariants.{Answered, Failed, Starved}
-use Rattle.rkt_serve.specs.declared.history.EntryOf.{EntryOf}
+use Rattle.rkt_board.specs.declared.history.End.{End as Ending}
+use Rattle.rkt_board.specs.declared.history.End.TheVariants.{Answered, Failed, Starved}
+use Rattle.rkt_board.specs.declared.history.EntryOf.{EntryOf}
 
 taken_none : (h : Option (List Piece)) → option_map (λ held. held ++ []) h ≡ h
 taken_none None = refl

@@ -20,7 +20,7 @@ use Rattle.rkt_router.specs.Calls.{GateFits, GateRule}
 use Rattle.rkt_source.specs.Source.{Meaning}
 use Rattle.rkt_source.specs.declared.source.Gate.{Gate}
 use Rattle.rkt_turn.specs.Shutdown.{Handle}
-use Rattle.rkt_serve.specs.Clock.{ClockMeaning, IsAmid}
+use Rattle.rkt_link.specs.Clock.{ClockMeaning, IsAmid}
 use Rattle.rkt_serve.specs.Lifecycle.{body_from}
 use Rattle.rkt_serve.specs.Serving.{callbacks_with}
 

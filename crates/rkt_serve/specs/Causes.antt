@@ -1,5 +1,5 @@
 -- What stands behind each event.
-use Rattle.std.specs.Prelude.{◌≡◌, List, [], Some, None}
+use Rattle.std.specs.Prelude.{◌≡◌, ℕ, List, [], Some, None}
 use Rattle.std.specs.Option.{ForSome}
 use Rattle.rkt_lifecycle.specs.Tables.{SeenTables, table_of}
 use Rattle.rkt_lifecycle.specs.declared.ended.RunOf.{RunOf}
@@ -8,15 +8,15 @@ use Rattle.rkt_message.specs.Response.{ResponseOf}
 use Rattle.rkt_message.specs.Sending.{ReadOn}
 use Rattle.rkt_message.specs.declared.piece.Piece.{Piece}
 use Rattle.rkt_routing.specs.Routed.{turns_of}
-use Rattle.rkt_serve.specs.After.{AfterFrom}
+use Rattle.rkt_board.specs.After.{AfterFrom}
 use Rattle.rkt_serve.specs.Lifecycle.{Lifecycle}
 use Rattle.rkt_serve.specs.Sent.{IsSentAs}
 use Rattle.rkt_serve.specs.Serving.{Serving, callbacks_of}
-use Rattle.rkt_serve.specs.declared.history.End.{End as Ending}
-use Rattle.rkt_serve.specs.declared.history.End.TheVariants.{Answered, Failed, Starved}
-use Rattle.rkt_serve.specs.declared.history.EntryOf.{EntryOf}
-use Rattle.rkt_serve.specs.declared.history.EventOf.{EventOf}
-use Rattle.rkt_serve.specs.declared.history.EventOf.TheVariants.{Lift, Admit, End, Close}
+use Rattle.rkt_board.specs.declared.history.End.{End as Ending}
+use Rattle.rkt_board.specs.declared.history.End.TheVariants.{Answered, Failed, Starved}
+use Rattle.rkt_board.specs.declared.history.EntryOf.{EntryOf}
+use Rattle.rkt_board.specs.declared.history.EventOf.{EventOf}
+use Rattle.rkt_board.specs.declared.history.EventOf.TheVariants.{Lift, Trip, Admit, End, Down, Close}
 
 module _ {V S C R F FTask GTask H HTask K KTask L N : Type 0} (served : Serving V S C R F FTask GTask H HTask K KTask L) (tables : SeenTables F H K N V) where
   -- a run and a response are kept, and the response was sent with this end
@@ -47,11 +47,14 @@ module _ {V S C R F FTask GTask H HTask K KTask L N : Type 0} (served : Serving 
   abbrev pub Caused : EntryOf C R L → Type 0
   Caused entry = CausedAs entry entry.end
 
-  -- what stands behind an event that follows those before it: an End has its cause, and no callback was called at the Lift
+module _ {V S C R F FTask GTask H HTask K KTask L N : Type 0} (allowed : ℕ → Type 0) (served : Serving V S C R F FTask GTask H HTask K KTask L) (tables : SeenTables F H K N V) where
+  -- what stands behind an event that follows those before it: an End has its cause, and a Trip a word that is allowed; no callback was called at the Lift and at the Down
   abbrev pub CauseAt : List (EventOf C R L) → EventOf C R L → Type 0
-  CauseAt before (End number entry moment by) = Caused entry
   CauseAt before (Lift calls) = calls ≡ []
+  CauseAt before (Trip word moment) = allowed word
   CauseAt before (Admit number moment by) = Unit {0}
+  CauseAt before (End number entry moment by) = Caused served tables entry
+  CauseAt before (Down calls) = calls ≡ []
   CauseAt before (Close moment) = Unit {0}
 
   abbrev pub AllCaused : List (EventOf C R L) → Type 0

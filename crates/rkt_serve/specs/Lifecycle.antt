@@ -16,7 +16,7 @@ use Rattle.rkt_request.specs.declared.bad.Bad.{Bad}
 use Rattle.rkt_routing.specs.Backs.{Backs}
 use Rattle.rkt_source.specs.Source.{Meaning}
 use Rattle.rkt_turn.specs.Shutdown.{Handle}
-use Rattle.rkt_serve.specs.Asked.{Asked, IsUntouched, GivesBody}
+use Rattle.rkt_link.specs.Asked.{Asked, IsUntouched, GivesBody}
 
 -- an object that may be cut off, and was not called yet
 abbrev pub uncalled : {I : Type 0} → I → Cancellable I

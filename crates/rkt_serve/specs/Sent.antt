@@ -7,9 +7,9 @@ use Rattle.rkt_message.specs.Response.{ResponseOf}
 use Rattle.rkt_message.specs.Sending.{MayWait}
 use Rattle.rkt_message.specs.Sent.{Sent, has_head}
 use Rattle.rkt_message.specs.declared.piece.Piece.{Piece}
-use Rattle.rkt_serve.specs.declared.history.End.{End as Ending}
-use Rattle.rkt_serve.specs.declared.history.End.TheVariants.{Answered, Failed, Starved}
-use Rattle.rkt_serve.specs.declared.history.Failure.TheVariants.{BadHead, BodyFault}
+use Rattle.rkt_board.specs.declared.history.End.{End as Ending}
+use Rattle.rkt_board.specs.declared.history.End.TheVariants.{Answered, Failed, Starved}
+use Rattle.rkt_board.specs.declared.history.Failure.TheVariants.{BadHead, BodyFault}
 
 -- the pieces are such ones without the last or more of them
 abbrev pub IsProperFront : (List Piece → Type 0) → List Piece → Type 0

@@ -16,7 +16,7 @@ use Rattle.rkt_router.specs.Callbacks.{Handed, Refused, Reply}
 use Rattle.rkt_router.specs.Calling.{Calling}
 use Rattle.rkt_router.specs.Calls.{GateRule}
 use Rattle.rkt_source.specs.Source.{Meaning}
-use Rattle.rkt_serve.specs.Link.{LinkMeaning}
+use Rattle.rkt_link.specs.Link.{LinkMeaning}
 
 -- V is the type of managed values, S that of the sources of bodies, C that of cached values, R that of streams; F is that of
 -- fairings, with the types of their tasks for requests and for responses; H and K are those of handlers and of catchers'

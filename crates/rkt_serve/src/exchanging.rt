@@ -7,9 +7,9 @@ ghost use Rattle.rkt_lifecycle.specs.Stands.{EndsSo, StandsFor};
 ghost use Rattle.rkt_router.specs.Calls.{GateRule};
 ghost use Rattle.rkt_routing.specs.Beginning.{Beginning};
 ghost use Rattle.rkt_turn.specs.HandsBack.{HandsBack};
-ghost use Rattle.rkt_serve.specs.Asked.{Asked, GivesBody, IsUntouched};
+ghost use Rattle.rkt_link.specs.Asked.{Asked, GivesBody, IsUntouched};
 ghost use Rattle.rkt_serve.specs.Begun.{AllFit, IsBegun, gate_at, gate_with};
-ghost use Rattle.rkt_serve.specs.Clock.{IsAmid, TellsOn};
+ghost use Rattle.rkt_link.specs.Clock.{IsAmid, TellsOn};
 ghost use Rattle.rkt_serve.specs.Lifecycle.{Lifecycle};
 ghost use Rattle.rkt_serve.specs.Serving.{callbacks_with, gates_of};
 

@@ -1,34 +1,54 @@
 //! The launch of a rocket.
-ghost use Rattle.std.specs.Prelude.{◌≡◌, ◌<◌, ℕ, Some, true, IfOk, IfErr};
-ghost use Rattle.std.specs.List.{AllByRecursion};
+ghost use Rattle.std.specs.Prelude.{◌≡◌, ◌<◌, ◌⊎◌, ℕ, Some, true, false, IfOk, IfErr, IfSome, IsTrue, ⊤};
+ghost use Rattle.std.specs.List.{AllByRecursion, list_any};
 ghost use Rattle.std.specs.Option.{ForSome};
 ghost use Rattle.rkt_turn.specs.HandsBack.{HandsBack};
-ghost use Rattle.rkt_lifecycle.specs.Tables.{SeenTables};
-ghost use Rattle.rkt_turn.specs.Shutdown.{Handle};
+ghost use Rattle.rkt_ignition.specs.Ignited.{IsIgnited, IsRefused};
+ghost use Rattle.rkt_ignition.specs.Valid.{IsValid};
+ghost use Rattle.rkt_ignition.specs.declared.error.IgniteError.{IgniteError};
+ghost use Rattle.rkt_life.specs.Ignition.{IgnitesTo};
+ghost use Rattle.rkt_life.specs.Rocket.{SeenRocket};
+ghost use Rattle.rkt_turn.specs.Shutdown.{Handle, fresh};
 ghost use Rattle.rkt_serve.specs.Causes.{AllCaused};
-ghost use Rattle.rkt_serve.specs.Events.{admitted, Ordered, IsClosed, EachEndsOnce};
-ghost use Rattle.rkt_serve.specs.Headline.{HasEntry, AllAdmitted, AllTimed, IsCallers, IsLegal};
-ghost use Rattle.rkt_serve.specs.Kept.{IfKept};
-ghost use Rattle.rkt_serve.specs.Listener.{IsFresh};
+ghost use Rattle.rkt_board.specs.Closed.{AllAdmitted};
+ghost use Rattle.rkt_board.specs.Events.{is_trip, admitted, trip_of, Ordered, IsClosed, EachEndsOnce};
+ghost use Rattle.rkt_serve.specs.Headline.{HasEntry, AllTimed, IsCallers, IsLegal, IsOver};
+ghost use Rattle.rkt_serve.specs.Kept.{GivesBack, IfKept, IfUnlit, IsWant};
+ghost use Rattle.rkt_serve.specs.Left.{IsLeft};
+ghost use Rattle.rkt_link.specs.Listener.{IsFresh};
 ghost use Rattle.rkt_serve.specs.Serving.{serving};
 
-use crate::working::{Worker, enter};
-use crate::{Clock, Error, ErrorKindOf, EventOf, HistoryOf, Launched, LaunchedOf, Link, Listener};
-use rkt_base::Seq;
-use rkt_life::{App, Ignite, Rocket};
+use crate::caller::serve_to_close;
+use crate::{Clock, Error, ErrorKindOf, HistoryOf, Launched, LaunchedOf, Link, Listener};
+use rkt_base::Want;
+use rkt_board::{Book, Closed, ClosedOf};
+use rkt_life::{App, Build, Fairing, Ignite, Orbit, Rocket, Tables};
+use rkt_request::ConfigTable;
+use rkt_router::Aborts;
+use rkt_turn::{Reason, Shutdown};
 use std::alloc::Global;
 use std::sync::Wait;
 use std::thread::Threads;
 
 /// What can be launched.
 pub trait Launch<A: App>: Sized {
-    /// It is launched with these tables.
-    ghost lifts: { Self → SeenTables A.Fairing A.Handler A.Catch A.Sentinel A.Value → Type 0 };
+    /// It is launched as this rocket, whatever its handle.
+    ghost lifts: { Self → SeenRocket A.Fairing A.Handler A.Catch A.Sentinel A.Value → Type 0 };
 
     /// The handle of its wire may come back as this one.
     ghost hands_back: { Self → Handle → Type 0 };
 
-    /// Serves what the listener gives, until it ends. The caller alone serves, whatever the number of workers.
+    /// It may be refused for this.
+    ghost refuses: { Self → IgniteError → Type 0 };
+
+    /// It cannot be refused.
+    ghost valid: { Self → Type 0 };
+
+    /// The word that its handle has seen, or 0.
+    ghost seen: { Self → ℕ };
+
+    /// Serves what the listener gives, until that ends or the wire has a word, which is looked for before each link. The
+    /// caller alone serves, whatever the number of workers.
     fn launch<R: Wait + Threads, L: Listener, C: Clock>(
         self,
         rt: &R,
@@ -40,82 +60,176 @@ pub trait Launch<A: App>: Sized {
     where
         L::Link: Link<Source = A::Source>,
         requires fresh { IsFresh (L.meaning listener) }
-        ensures tables { IfOk result (λ l. lifts self l.rocket.tables) }
+        ensures tables { IfOk result (λ l. lifts self l.rocket) }
         ensures handle { IfOk result (λ l. hands_back self l.rocket.handle) }
         // Legal: the events are in order, and each has its cause.
         ensures ordered { IfOk result (λ l. Ordered l.history.events) }
-        ensures caused { IfOk result (λ l. AllCaused (serving A.Fairing.Requests.calling A.Fairing.Responses.calling A.Handler.calling A.Catch.calling A.Source.meaning A.Stream.meaning L.Link.meaning (C.meaning clock).window) l.rocket.tables l.history.events) }
+        ensures caused { IfOk result (λ l. AllCaused A.Reason.allowed (serving A.Fairing.Requests.calling A.Fairing.Responses.calling A.Handler.calling A.Catch.calling A.Source.meaning A.Stream.meaning L.Link.meaning (C.meaning clock).window) l.rocket.tables l.history.events) }
         ensures closed { IfOk result (λ l. IsClosed l.history.events) }
-        ensures ended { IfOk result (λ l. (L.meaning l.listener).ended ≡ true) }
+        ensures ended { IfOk result (λ l. IsOver (L.meaning l.listener) l.history.events) }
         ensures sound { IfOk result (λ l. (L.meaning l.listener).faults ≡ 0) }
         ensures requests { IfOk result (λ l. AllAdmitted (L.meaning l.listener).given l.history.events) }
-        ensures offers { IfOk result (λ l. ForSome (L.meaning listener).offers (λ all. (L.meaning l.listener).given ≡ Some all)) }
+        ensures offers { IfOk result (λ l. list_any is_trip l.history.events ≡ false → ForSome (L.meaning listener).offers (λ all. (L.meaning l.listener).given ≡ Some all)) }
+        // The rocket's handle has seen the word of the Trip, and one that had seen a word before admits nothing.
+        ensures word { IfOk result (λ l. ForSome (trip_of l.history.events) (λ trip. l.rocket.handle.seen ≡ trip.0)) }
+        ensures still { IfOk result (λ l. 0 < seen self → admitted l.history.events ≡ 0) }
         ensures ends { IfOk result (λ l. EachEndsOnce l.history.events) }
         ensures entries { IfOk result (λ l. (k : ℕ) → k < admitted l.history.events
             → HasEntry (serving A.Fairing.Requests.calling A.Fairing.Responses.calling A.Handler.calling A.Catch.calling A.Source.meaning A.Stream.meaning L.Link.meaning (C.meaning clock).window) l.rocket.tables (L.meaning l.listener).given l.history.events k) }
         ensures moments { IfOk result (λ l. AllTimed (C.meaning clock).window l.history.events) }
         ensures callers { IfOk result (λ l. AllByRecursion IsCallers l.history.events) }
         ensures window { IfOk result (λ l. (C.meaning l.clock).window ≡ (C.meaning clock).window) }
-        // What is kept for want of memory is legal and closed too, and only need not have come to the listener's end.
-        ensures kept_tables { IfErr result (λ e. IfKept e (λ l. lifts self l.rocket.tables)) }
+        // What is kept for want of memory is legal and closed too, and only need not have come to the listener's end or a Trip.
+        ensures kept_tables { IfErr result (λ e. IfKept e (λ l. lifts self l.rocket)) }
         ensures kept_handle { IfErr result (λ e. IfKept e (λ l. hands_back self l.rocket.handle)) }
         ensures kept_legal { IfErr result (λ e. IfKept e (λ l.
-            IsLegal (serving A.Fairing.Requests.calling A.Fairing.Responses.calling A.Handler.calling A.Catch.calling A.Source.meaning A.Stream.meaning L.Link.meaning (C.meaning clock).window) l.rocket.tables (L.meaning l.listener).given l.history.events)) }
+            IsLegal A.Reason.allowed (serving A.Fairing.Requests.calling A.Fairing.Responses.calling A.Handler.calling A.Catch.calling A.Source.meaning A.Stream.meaning L.Link.meaning (C.meaning clock).window) l.rocket.tables (L.meaning l.listener).given l.history.events)) }
         ensures kept_sound { IfErr result (λ e. IfKept e (λ l. (L.meaning l.listener).faults ≡ 0)) }
-        ensures kept_window { IfErr result (λ e. IfKept e (λ l. (C.meaning l.clock).window ≡ (C.meaning clock).window)) };
+        ensures kept_word { IfErr result (λ e. IfKept e (λ l. ForSome (trip_of l.history.events) (λ trip. l.rocket.handle.seen ≡ trip.0))) }
+        ensures kept_still { IfErr result (λ e. IfKept e (λ l. 0 < seen self → admitted l.history.events ≡ 0)) }
+        ensures kept_window { IfErr result (λ e. IfKept e (λ l. (C.meaning l.clock).window ≡ (C.meaning clock).window)) }
+        // It fails only where it does not ignite, or for want of memory.
+        ensures refused { IfErr result (λ e. IfUnlit e (λ fault. refuses self fault)) }
+        ensures outside { IfErr result (λ e. GivesBack listener clock e) }
+        ensures complete { valid self → IfErr result (λ e. IsWant e) };
+}
+
+// A handle that takes another one of its wire back.
+#[tactic(auto, using(crate::proofs::Handles::rejoined, crate::proofs::Handles::hands_back_same))]
+fn with_back<W: Reason>(mut handle: Shutdown<W>, back: Option<Shutdown<W>>) -> Shutdown<W>
+    requires { IfSome back (λ other. other.wire ≡ handle.wire) }
+    ensures { HandsBack handle result }
+{
+    if let Some(other) = back {
+        handle.rejoin(other);
+    }
+    handle
+}
+
+// The listener has ended, or there is a Trip.
+#[tactic(auto, using(rkt_board::proofs::Core::found_trip))]
+fn is_over<C, S, K>(over: bool, history: &HistoryOf<C, S, K>) -> bool
+    ensures { IsTrue result → (over ≡ true) ⊎ (list_any is_trip history.now.events ≡ true) }
+{
+    over || history.trip().is_some()
+}
+
+// What a launch answers that is closed.
+fn answered<A: App, L: Listener, C: Clock>(
+    tables: Tables<A>,
+    table: ConfigTable,
+    closed: Closed<A, L, C>,
+) -> Result<Launched<A, L, C>, Error<A, L, C>>
+    ensures ok { IfOk result (IsLeft tables table closed) }
+    ensures over { IfOk result (λ l. (closed.over ≡ true) ⊎ (list_any is_trip closed.history.events ≡ true)) }
+    ensures kept { IfErr result (λ e. IfKept e (IsLeft tables table closed)) }
+    ensures want { IfErr result (λ e. IsWant e) }
+{
+    let ClosedOf {
+        listener,
+        clock,
+        handle,
+        over,
+        history,
+    } = closed;
+    let over = is_over(over, &history);
+    let launched = LaunchedOf {
+        rocket: Rocket::<Orbit, A>::from_parts(tables, table, handle).into_ignite(),
+        listener,
+        clock,
+        history,
+    };
+    if over {
+        return Ok(launched);
+    }
+    Err(Error::new(ErrorKindOf::NoMemory {
+        kept: Some(launched),
+    }))
 }
 
 impl<A: App> Launch<A> for Rocket<Ignite, A> {
-    ghost lifts = { λ rocket tables. tables ≡ rocket.tables };
+    ghost lifts = { λ rocket after. (after.tables ≡ rocket.tables) × (after.table ≡ rocket.table) };
 
     ghost hands_back = { λ rocket handle. HandsBack rocket.handle handle };
+
+    ghost refuses = { λ rocket fault. ⊥ };
+
+    ghost valid = { λ rocket. ⊤ };
+
+    ghost seen = { λ rocket. rocket.handle.seen };
 
     fn launch<R: Wait + Threads, L: Listener, C: Clock>(
         self,
         rt: &R,
         alloc: Global,
-        mut listener: L,
-        mut clock: C,
+        listener: L,
+        clock: C,
         _workers: usize,
     ) -> Result<Launched<A, L, C>, Error<A, L, C>>
     where
         L::Link: Link<Source = A::Source>,
     {
-        let (tables, mut handle) = self.into_parts();
+        let Ok(book) = Book::new(alloc) else {
+            return Err(Error::new(ErrorKindOf::NoMemory { kept: None }));
+        };
+        let (tables, table, mut handle) = self.into_orbit().into_parts();
         let Ok(shutdown) = handle.split() else {
             return Err(Error::new(ErrorKindOf::NoMemory { kept: None }));
         };
-        let Ok(mut events) = Vec::with_capacity(alloc, 2) else {
-            return Err(Error::new(ErrorKindOf::NoMemory { kept: None }));
-        };
-        enter(
-            &mut events,
-            EventOf::Lift {
-                calls: Seq::new(alloc),
-            },
+        let (closed, back) = serve_to_close::<A, R, L, C>(
+            rt, alloc, &tables, book, listener, clock, handle, shutdown,
         );
-        let worker: Worker<'_, A, R> = Worker {
-            rt,
-            alloc,
-            tables: &tables,
-        };
-        let (shutdown, served) = worker.serve_all(&mut listener, shutdown, &mut clock, &mut events);
-        handle.rejoin(shutdown);
-        let moment = clock.now();
-        enter(&mut events, EventOf::Close { moment });
-        let launched = LaunchedOf {
-            rocket: Rocket::<Ignite, A>::from_parts(tables, handle),
+        let ClosedOf {
             listener,
             clock,
-            history: HistoryOf {
-                events: Seq::from_vec(events),
-            },
+            handle,
+            over,
+            history,
+        } = closed;
+        let handle = with_back(handle, back);
+        let closed = ClosedOf {
+            listener,
+            clock,
+            handle,
+            over,
+            history,
         };
-        match served {
-            Ok(()) => Ok(launched),
-            Err(_) => Err(Error::new(ErrorKindOf::NoMemory {
-                kept: Some(launched),
+        answered::<A, L, C>(tables, table, closed)
+    }
+}
+
+impl<A: App<Sentinel: Aborts<A>>> Launch<A> for Rocket<Build, A> {
+    // As a rocket that has ignited of it.
+    ghost lifts = { λ building rocket. IgnitesTo (IsIgnited A.Fairing.Ignites.calling A.Fairing.key A.Fairing.info A.Sentinel.may building) rocket };
+
+    // Its wire is made when it ignites.
+    ghost hands_back = { λ building handle. (first : Handle) × (first ≡ fresh first.wire) × HandsBack first handle };
+
+    ghost refuses = { λ building fault. IsRefused A.Fairing.Ignites.calling A.Fairing.key A.Fairing.info A.Sentinel.may building fault };
+
+    ghost valid = { λ building. IsValid A.Fairing.Ignites.calling A.Fairing.key A.Fairing.info A.Sentinel.may building };
+
+    ghost seen = { λ building. 0 };
+
+    fn launch<R: Wait + Threads, L: Listener, C: Clock>(
+        self,
+        rt: &R,
+        alloc: Global,
+        listener: L,
+        clock: C,
+        workers: usize,
+    ) -> Result<Launched<A, L, C>, Error<A, L, C>>
+    where
+        L::Link: Link<Source = A::Source>,
+    {
+        match self.ignite(alloc) {
+            Ok(rocket) => rocket.launch(rt, alloc, listener, clock, workers),
+            Err(Want::Refused(fault)) => Err(Error::new(ErrorKindOf::Ignition {
+                fault,
+                listener,
+                clock,
             })),
+            Err(Want::NoMemory) => Err(Error::new(ErrorKindOf::NoMemory { kept: None })),
         }
     }
 }

@@ -6,7 +6,7 @@ ghost use Rattle.rkt_message.specs.Sent.{has_head};
 ghost use Rattle.rkt_message.specs.declared.piece.Piece.{Piece};
 ghost use Rattle.rkt_message.specs.declared.piece.PieceError.{PieceError};
 ghost use Rattle.rkt_message.specs.declared.stage.Stage.{Stage};
-ghost use Rattle.rkt_serve.specs.Link.{with_taken};
+ghost use Rattle.rkt_link.specs.Link.{with_taken};
 ghost use Rattle.rkt_serve.specs.Progress.{Advances};
 ghost use Rattle.rkt_serve.specs.Sent.{BodyFails, IsSentAs};
 

@@ -1,5 +1,5 @@
 use Rattle.std.specs.List.{AllByRecursion}
-use Rattle.rkt_serve.specs.Memory.{IsUnused}
+use Rattle.rkt_link.specs.Memory.{IsUnused}
 use Rattle.cases_serve.proofs.heads.links_of.Given as goal
 
 abbrev pub invariant-loop-piece : goal.invariant-loop-piece

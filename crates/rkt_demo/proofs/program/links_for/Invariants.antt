@@ -1,6 +1,6 @@
 use Rattle.std.proofs.Common.{◌≡◌, map}
 use Rattle.std.specs.List.{AllByRecursion}
-use Rattle.rkt_serve.specs.Memory.{IsUnused, asked_of}
+use Rattle.rkt_link.specs.Memory.{IsUnused, asked_of}
 use Rattle.rkt_demo.specs.Shown.{asked_for}
 use Rattle.rkt_demo.proofs.program.links_for.Given as goal
 

@@ -3,8 +3,8 @@ use Rattle.rkt_lifecycle.specs.Peeks.{waits_of}
 use Rattle.rkt_lifecycle.specs.Stands.{EndsSo}
 use Rattle.rkt_router.specs.Calls.{GateFits}
 use Rattle.rkt_serve.proofs.Endings.{fit_before, goes_on}
-use Rattle.rkt_serve.proofs.Telling.{tells_same, tells_more, told_within}
-use Rattle.rkt_serve.specs.Clock.{ClockMeaning}
+use Rattle.rkt_link.proofs.Telling.{tells_same, tells_more, told_within}
+use Rattle.rkt_link.specs.Clock.{ClockMeaning}
 use Rattle.rkt_serve.specs.Serving.{callbacks_with}
 use Rattle.rkt_serve.proofs.exchanging.to_end.Goals as goal
 

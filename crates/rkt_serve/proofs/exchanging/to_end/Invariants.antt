@@ -5,7 +5,7 @@ use Rattle.rkt_lifecycle.specs.Stands.{StandsFor}
 use Rattle.rkt_router.specs.Calls.{GateRule}
 use Rattle.rkt_routing.specs.Beginning.{Beginning}
 use Rattle.rkt_serve.specs.Begun.{AllFit}
-use Rattle.rkt_serve.specs.Clock.{TellsOn}
+use Rattle.rkt_link.specs.Clock.{TellsOn}
 use Rattle.rkt_serve.specs.Serving.{callbacks_with}
 use Rattle.rkt_serve.proofs.exchanging.to_end.Given as goal
 

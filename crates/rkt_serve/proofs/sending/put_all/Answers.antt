@@ -1,5 +1,5 @@
 use Rattle.std.proofs.Common.{◌∙◌, ◌++◌, ◌∷◌, [], ap, sym}
-use Rattle.rkt_serve.specs.Link.{LinkMeaning, with_taken}
+use Rattle.rkt_link.specs.Link.{LinkMeaning, with_taken}
 use Rattle.rkt_serve.proofs.Pieces.{with_taken-nil, with_taken-with_taken}
 use Rattle.rkt_serve.proofs.BodyReads.{reads_none, reads_more}
 use Rattle.rkt_serve.proofs.Sendings.{sent_nothing, sent_more, sent_all}

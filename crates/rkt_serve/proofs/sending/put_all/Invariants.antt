@@ -1,7 +1,7 @@
 use Rattle.std.proofs.Common.{◌≡◌, List}
 use Rattle.rkt_message.specs.Reading.{ReadsOn}
 use Rattle.rkt_message.specs.declared.piece.Piece.{Piece}
-use Rattle.rkt_serve.specs.Link.{with_taken}
+use Rattle.rkt_link.specs.Link.{with_taken}
 use Rattle.rkt_serve.specs.Progress.{PartlySent}
 use Rattle.rkt_serve.proofs.sending.put_all.Given as goal
 

@@ -1,79 +1,54 @@
-use Rattle.std.proofs.Common.{◌≡◌, ◌∙◌, arith, refl, sym, ap, subst}
-use Rattle.rkt_turn.specs.HandsBack.{HandsBack}
-use Rattle.rkt_serve.specs.Clock.{ClockMeaning, IsWithin}
-use Rattle.rkt_serve.specs.Events.{admitted}
-use Rattle.rkt_serve.specs.Headline.{Balanced, IsLegal}
+use Rattle.std.proofs.Common.{◌≡◌, ◌<◌, ◌∙◌, ℕ, Some, ap, sym, subst}
+use Rattle.std.proofs.lemmas.Result.{IfErr-weaker, IfOk-weaker}
+use Rattle.rkt_board.proofs.Core.{tripped_word}
+use Rattle.rkt_board.specs.Events.{trip_of}
 use Rattle.rkt_serve.specs.Serving.{serving}
-use Rattle.rkt_serve.proofs.Balance.{balanced_lift, legal_closed}
-use Rattle.rkt_serve.proofs.Handles.{rejoined}
+use Rattle.rkt_serve.proofs.Launching.{back_to, if_both, left_back, left_legal, left_offers, left_over, left_sound, left_still, left_window, left_word, same_wire, unlit_want, gives_want}
+use Rattle.rkt_serve.proofs.Lighting.{if_kept}
 use Rattle.rkt_serve.proofs.launch.RocketIgniteLaunch.launch.Goals as goal
 
-pub returns-in-Ok-served : goal.returns-in-Ok-served
-returns-in-Ok-served g c =
-    let window = (g.C.Clock.meaning c.args.clock).window in
-    let served = serving g.A-Fairing-Requests-RequestCallback.calling g.A.Fairing.Responses.ResponseCallback.calling g.A-Handler-Handler.calling g.A.Catch.CatchHandler.calling g.A.Source.Source.meaning g.A.Stream.Source.meaning g.L.Link.Link.meaning window in
+pub with_back-handle-requires : goal.with_back-handle-requires
+with_back-handle-requires g c =
+    let known = c.serve_to_close-closed.ensures in
+    same_wire c.serve_to_close-closed.result.1 c.in-Ok-split.shutdown c.split.new.self c.serve_to_close-closed.result.0.handle known.lent known.handle (c.in-Ok-split.ensures.copy ∙ sym c.split.ensures.same)
+
+pub returns : goal.returns
+returns g c =
+    let known = c.serve_to_close-closed.ensures in
+    let closed = c.serve_to_close-closed.result.0 in
     let tables = c.into_parts-tables.result.0 in
-    let given = (g.L.Listener.meaning c.serve_all-shutdown.new.listener).given in
-    let lifted = rw (c.in-Ok-with_capacity.ensures.items, c.new-2.ensures) at c.enter.ensures.items in
-    let none : admitted c.enter.new.list.items ≡ 0 = rw lifted refl in
-    let begun : Balanced served tables (g.L.Listener.meaning c.args.listener).given (g.C.Clock.meaning c.args.clock).last c.enter.new.list.items =
-    rw lifted (balanced_lift served tables (g.L.Listener.meaning c.args.listener).given (g.C.Clock.meaning c.args.clock).last c.requires.fresh.none_given) in
-    let within = subst (λ w. IsWithin w c.now-moment.result) c.serve_all-shutdown.ensures.clock.window c.now-moment.ensures.window in
-    let closed = legal_closed served tables given _ c.now-moment.result c.serve_all-shutdown.new.events.items (c.serve_all-shutdown.ensures.balanced none begun) c.now-moment.ensures.rises within in
-    let legal = subst (λ ts. IsLegal served ts given c.from_vec.result) (sym (ap (λ r. r.tables) c.from_parts.ensures))
-    (subst (λ es. IsLegal served tables given es) (sym (c.from_vec.ensures ∙ c.enter-2.ensures.items)) closed) in
-    let back = rejoined c.args.self.handle c.split.new.self c.rejoin.new.self c.serve_all-shutdown.result.0 (c.split.ensures.same ∙ c.into_parts-tables.ensures.handle) c.rejoin.ensures.wire c.rejoin.ensures.looked c.rejoin.ensures.again in
+    let table = c.into_parts-tables.result.1 in
+    let same = c.split.ensures.same ∙ c.into_parts-tables.ensures.handle ∙ ap (λ r. r.handle) c.into_orbit.ensures in
+    let above : (trip : ℕ × ℕ) → trip_of c.serve_to_close-closed.result.0.history.events ≡ Some trip → 0 < trip.0 =
+    λ trip found. tripped_word c.serve_to_close-closed.result.0.history.events (Some trip) (sym found) c.serve_to_close-closed.ensures.legal.ordered in
+    let still = λ (some : 0 < c.args.self.handle.seen). c.serve_to_close-closed.ensures.still (subst (λ h. 0 < h.seen) (sym same) some) in
+    let ok = IfOk-weaker c.answered.result _ _ (λ l is. left_back tables table closed c.with_back-handle.result l c.with_back-handle.ensures is) c.answered.ensures.ok in
+    let kept = IfErr-weaker c.answered.result _ _ (if_kept _ _ (λ l is. left_back tables table closed c.with_back-handle.result l c.with_back-handle.ensures is)) c.answered.ensures.kept in
     record {
-      tables = ap (λ r. r.tables) c.from_parts.ensures ∙ c.into_parts-tables.ensures.tables;
-      handle = subst (λ h. HandsBack c.args.self.handle h) (sym (ap (λ r. r.handle) c.from_parts.ensures)) back;
-      ordered = legal.ordered;
-      caused = legal.caused;
-      closed = legal.closed;
-      ended = rw c.in-Ok-served.is at c.serve_all-shutdown.ensures.ended;
-      sound = c.serve_all-shutdown.ensures.sound ∙ c.requires.fresh.no_fault;
-      requests = legal.all_admitted;
-      offers = rw c.in-Ok-served.is at c.serve_all-shutdown.ensures.offers;
-      ends = legal.once;
-      entries = legal.entries;
-      moments = legal.timed;
-      callers = legal.callers;
-      window = ap (λ (m : ClockMeaning). m.window) c.now-moment.ensures.last ∙ c.serve_all-shutdown.ensures.clock.window;
-      kept_tables = tt;
-      kept_handle = tt;
-      kept_legal = tt;
-      kept_sound = tt;
-      kept_window = tt;
+      tables = IfOk-weaker c.answered.result _ _ (λ l is. (is.tables_are ∙ c.into_parts-tables.ensures.tables ∙ ap (λ r. r.tables) c.into_orbit.ensures, is.table_is ∙ c.into_parts-tables.ensures.table ∙ ap (λ r. r.table) c.into_orbit.ensures)) ok;
+      kept_tables = IfErr-weaker c.answered.result _ _ (if_kept _ _ (λ l is. (is.tables_are ∙ c.into_parts-tables.ensures.tables ∙ ap (λ r. r.tables) c.into_orbit.ensures, is.table_is ∙ c.into_parts-tables.ensures.table ∙ ap (λ r. r.table) c.into_orbit.ensures))) kept;
+      handle = IfOk-weaker c.answered.result _ _ (λ l is. back_to c.args.self.handle c.split.new.self closed.handle l.rocket.handle same known.handle is.handle) ok;
+      kept_handle = IfErr-weaker c.answered.result _ _ (if_kept _ _ (λ l is. back_to c.args.self.handle c.split.new.self closed.handle l.rocket.handle same known.handle is.handle)) kept;
+      sound = IfOk-weaker c.answered.result _ _ (λ l is. left_sound tables table closed l is g.L.Listener.meaning (g.L.Listener.meaning c.args.listener) known.settled c.requires.fresh.no_fault) ok;
+      kept_sound = IfErr-weaker c.answered.result _ _ (if_kept _ _ (λ l is. left_sound tables table closed l is g.L.Listener.meaning (g.L.Listener.meaning c.args.listener) known.settled c.requires.fresh.no_fault)) kept;
+      window = IfOk-weaker c.answered.result _ _ (λ l is. left_window tables table closed l is g.C.Clock.meaning (g.C.Clock.meaning c.args.clock) known.clock) ok;
+      kept_window = IfErr-weaker c.answered.result _ _ (if_kept _ _ (λ l is. left_window tables table closed l is g.C.Clock.meaning (g.C.Clock.meaning c.args.clock) known.clock)) kept;
+      word = IfOk-weaker c.answered.result _ _ (λ l is. left_word tables table closed l is above known.word) ok;
+      kept_word = IfErr-weaker c.answered.result _ _ (if_kept _ _ (λ l is. left_word tables table closed l is above known.word)) kept;
+      still = IfOk-weaker c.answered.result _ _ (λ l is. left_still tables table closed l is still) ok;
+      kept_still = IfErr-weaker c.answered.result _ _ (if_kept _ _ (λ l is. left_still tables table closed l is still)) kept;
+      ordered = IfOk-weaker c.answered.result _ _ (λ l is. (left_legal g.A.Reason.Reason.allowed (serving g.A-Fairing-Requests-RequestCallback.calling g.A.Fairing.Responses.ResponseCallback.calling g.A-Handler-Handler.calling g.A.Catch.CatchHandler.calling g.A.Source.Source.meaning g.A.Stream.Source.meaning g.L.Link.Link.meaning (g.C.Clock.meaning c.args.clock).window) g.L.Listener.meaning tables table closed l is known.legal).ordered) ok;
+      caused = IfOk-weaker c.answered.result _ _ (λ l is. (left_legal g.A.Reason.Reason.allowed (serving g.A-Fairing-Requests-RequestCallback.calling g.A.Fairing.Responses.ResponseCallback.calling g.A-Handler-Handler.calling g.A.Catch.CatchHandler.calling g.A.Source.Source.meaning g.A.Stream.Source.meaning g.L.Link.Link.meaning (g.C.Clock.meaning c.args.clock).window) g.L.Listener.meaning tables table closed l is known.legal).caused) ok;
+      closed = IfOk-weaker c.answered.result _ _ (λ l is. (left_legal g.A.Reason.Reason.allowed (serving g.A-Fairing-Requests-RequestCallback.calling g.A.Fairing.Responses.ResponseCallback.calling g.A-Handler-Handler.calling g.A.Catch.CatchHandler.calling g.A.Source.Source.meaning g.A.Stream.Source.meaning g.L.Link.Link.meaning (g.C.Clock.meaning c.args.clock).window) g.L.Listener.meaning tables table closed l is known.legal).closed) ok;
+      requests = IfOk-weaker c.answered.result _ _ (λ l is. (left_legal g.A.Reason.Reason.allowed (serving g.A-Fairing-Requests-RequestCallback.calling g.A.Fairing.Responses.ResponseCallback.calling g.A-Handler-Handler.calling g.A.Catch.CatchHandler.calling g.A.Source.Source.meaning g.A.Stream.Source.meaning g.L.Link.Link.meaning (g.C.Clock.meaning c.args.clock).window) g.L.Listener.meaning tables table closed l is known.legal).all_admitted) ok;
+      ends = IfOk-weaker c.answered.result _ _ (λ l is. (left_legal g.A.Reason.Reason.allowed (serving g.A-Fairing-Requests-RequestCallback.calling g.A.Fairing.Responses.ResponseCallback.calling g.A-Handler-Handler.calling g.A.Catch.CatchHandler.calling g.A.Source.Source.meaning g.A.Stream.Source.meaning g.L.Link.Link.meaning (g.C.Clock.meaning c.args.clock).window) g.L.Listener.meaning tables table closed l is known.legal).once) ok;
+      entries = IfOk-weaker c.answered.result _ _ (λ l is. (left_legal g.A.Reason.Reason.allowed (serving g.A-Fairing-Requests-RequestCallback.calling g.A.Fairing.Responses.ResponseCallback.calling g.A-Handler-Handler.calling g.A.Catch.CatchHandler.calling g.A.Source.Source.meaning g.A.Stream.Source.meaning g.L.Link.Link.meaning (g.C.Clock.meaning c.args.clock).window) g.L.Listener.meaning tables table closed l is known.legal).entries) ok;
+      moments = IfOk-weaker c.answered.result _ _ (λ l is. (left_legal g.A.Reason.Reason.allowed (serving g.A-Fairing-Requests-RequestCallback.calling g.A.Fairing.Responses.ResponseCallback.calling g.A-Handler-Handler.calling g.A.Catch.CatchHandler.calling g.A.Source.Source.meaning g.A.Stream.Source.meaning g.L.Link.Link.meaning (g.C.Clock.meaning c.args.clock).window) g.L.Listener.meaning tables table closed l is known.legal).timed) ok;
+      callers = IfOk-weaker c.answered.result _ _ (λ l is. (left_legal g.A.Reason.Reason.allowed (serving g.A-Fairing-Requests-RequestCallback.calling g.A.Fairing.Responses.ResponseCallback.calling g.A-Handler-Handler.calling g.A.Catch.CatchHandler.calling g.A.Source.Source.meaning g.A.Stream.Source.meaning g.L.Link.Link.meaning (g.C.Clock.meaning c.args.clock).window) g.L.Listener.meaning tables table closed l is known.legal).callers) ok;
+      kept_legal = IfErr-weaker c.answered.result _ _ (if_kept _ _ (λ l is. left_legal g.A.Reason.Reason.allowed (serving g.A-Fairing-Requests-RequestCallback.calling g.A.Fairing.Responses.ResponseCallback.calling g.A-Handler-Handler.calling g.A.Catch.CatchHandler.calling g.A.Source.Source.meaning g.A.Stream.Source.meaning g.L.Link.Link.meaning (g.C.Clock.meaning c.args.clock).window) g.L.Listener.meaning tables table closed l is known.legal)) kept;
+      ended = if_both c.answered.result _ _ _ (λ l is over. left_over tables table closed l is g.L.Listener.meaning known.ended over) ok c.answered.ensures.over;
+      offers = if_both c.answered.result _ _ _ (λ l is over. left_offers tables table closed l is g.L.Listener.meaning (g.L.Listener.meaning c.args.listener).offers known.offers over) ok c.answered.ensures.over;
+      refused = IfErr-weaker c.answered.result _ _ (λ e want. unlit_want _ e want) c.answered.ensures.want;
+      outside = IfErr-weaker c.answered.result _ _ (λ e want. gives_want c.args.listener c.args.clock e want) c.answered.ensures.want;
+      complete = λ valid. c.answered.ensures.want;
     }
-
-pub returns-in-Err-clause-kept_tables : goal.returns-in-Err-clause-kept_tables
-returns-in-Err-clause-kept_tables g c = rw c.new-in-Err.ensures (ap (λ r. r.tables) c.from_parts.ensures ∙ c.into_parts-tables.ensures.tables)
-
-pub returns-in-Err-clause-kept_handle : goal.returns-in-Err-clause-kept_handle
-returns-in-Err-clause-kept_handle g c =
-    let back = rejoined c.args.self.handle c.split.new.self c.rejoin.new.self c.serve_all-shutdown.result.0 (c.split.ensures.same ∙ c.into_parts-tables.ensures.handle) c.rejoin.ensures.wire c.rejoin.ensures.looked c.rejoin.ensures.again in
-    rw c.new-in-Err.ensures (subst (λ h. HandsBack c.args.self.handle h) (sym (ap (λ r. r.handle) c.from_parts.ensures)) back)
-
-pub returns-in-Err-clause-kept_sound : goal.returns-in-Err-clause-kept_sound
-returns-in-Err-clause-kept_sound g c = rw c.new-in-Err.ensures (c.serve_all-shutdown.ensures.sound ∙ c.requires.fresh.no_fault)
-
-pub returns-in-Err-clause-kept_window : goal.returns-in-Err-clause-kept_window
-returns-in-Err-clause-kept_window g c = rw c.new-in-Err.ensures (ap (λ (m : ClockMeaning). m.window) c.now-moment.ensures.last ∙ c.serve_all-shutdown.ensures.clock.window)
-
-pub returns-in-Err-clause-kept_legal : goal.returns-in-Err-clause-kept_legal
-returns-in-Err-clause-kept_legal g c =
-    let window = (g.C.Clock.meaning c.args.clock).window in
-    let served = serving g.A-Fairing-Requests-RequestCallback.calling g.A.Fairing.Responses.ResponseCallback.calling g.A-Handler-Handler.calling g.A.Catch.CatchHandler.calling g.A.Source.Source.meaning g.A.Stream.Source.meaning g.L.Link.Link.meaning window in
-    let tables = c.into_parts-tables.result.0 in
-    let given = (g.L.Listener.meaning c.serve_all-shutdown.new.listener).given in
-    let lifted = rw (c.in-Ok-with_capacity.ensures.items, c.new-2.ensures) at c.enter.ensures.items in
-    let none : admitted c.enter.new.list.items ≡ 0 = rw lifted refl in
-    let begun : Balanced served tables (g.L.Listener.meaning c.args.listener).given (g.C.Clock.meaning c.args.clock).last c.enter.new.list.items =
-    rw lifted (balanced_lift served tables (g.L.Listener.meaning c.args.listener).given (g.C.Clock.meaning c.args.clock).last c.requires.fresh.none_given) in
-    let within = subst (λ w. IsWithin w c.now-moment.result) c.serve_all-shutdown.ensures.clock.window c.now-moment.ensures.window in
-    let closed = legal_closed served tables given _ c.now-moment.result c.serve_all-shutdown.new.events.items (c.serve_all-shutdown.ensures.balanced none begun) c.now-moment.ensures.rises within in
-    let legal = subst (λ ts. IsLegal served ts given c.from_vec.result) (sym (ap (λ r. r.tables) c.from_parts.ensures))
-    (subst (λ es. IsLegal served tables given es) (sym (c.from_vec.ensures ∙ c.enter-2.ensures.items)) closed) in
-    rw c.new-in-Err.ensures legal
-
-pub enter-requires-2 : goal.enter-requires-2
-enter-requires-2 g c = c.serve_all-shutdown.ensures.room (omega (arith, c.enter.ensures.len, c.enter.ensures.capacity, c.in-Ok-with_capacity.ensures.len, c.in-Ok-with_capacity.ensures.capacity))

@@ -1,6 +1,6 @@
 use Rattle.std.proofs.Common.{ap, sym, subst, ◌∙◌}
-use Rattle.rkt_serve.specs.Clock.{IsAmid}
-use Rattle.rkt_serve.specs.Link.{LinkMeaning}
+use Rattle.rkt_link.specs.Clock.{IsAmid}
+use Rattle.rkt_link.specs.Link.{LinkMeaning}
 use Rattle.rkt_serve.proofs.working.Worker.serve.Goals as goal
 
 pub returns-in-Finished-clause-caused : goal.returns-in-Finished-clause-caused

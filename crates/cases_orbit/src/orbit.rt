@@ -1,0 +1,84 @@
+//! A rocket in orbit.
+use crate::actor::{Actor, Acts};
+use crate::site::{Site, Stopped};
+use cases::CaseError;
+use rkt_base::{NoMemory, Seq};
+use rkt_fairing::{Fairings, Slot, ViewOf};
+use rkt_orbit::{Called, down_room, liftoff, shut_down};
+use rkt_request::{Config, ConfigTable, Managed};
+use rkt_router::{Dummy, Router};
+use rkt_turn::{Shutdown, TripWire};
+use std::alloc::Global;
+
+/// What a rocket has in orbit.
+#[derive(Drop)]
+pub struct Orbit {
+    fairings: Fairings<Actor>,
+    config: Config,
+    managed: Managed<u32>,
+    router: Router<Dummy, u32, ()>,
+    shutdown: Shutdown<Stopped>,
+}
+
+impl Orbit {
+    /// One with nothing attached.
+    fn new(alloc: Global, config: Config) -> Result<Orbit, NoMemory> {
+        let (_wire, shutdown) = TripWire::new(alloc)?;
+        Ok(Orbit {
+            fairings: Fairings::new(alloc),
+            config,
+            managed: Managed::new(alloc),
+            router: Router::new(alloc),
+            shutdown,
+        })
+    }
+
+    /// The same, with the configuration by default.
+    pub fn with_default(alloc: Global) -> Result<Orbit, NoMemory> {
+        Orbit::new(alloc, Config::default(alloc)?)
+    }
+
+    pub fn fairings(&self) -> &Fairings<Actor> {
+        &self.fairings
+    }
+
+    /// The word that the handle has seen.
+    pub fn seen(&self) -> u64 {
+        self.shutdown.seen()
+    }
+
+    pub fn attach(&mut self, slot: Slot<Actor>) -> Result<(), NoMemory> {
+        self.fairings.add(slot)
+    }
+
+    pub fn lift(&mut self, alloc: Global) -> Result<Seq<Called>, NoMemory> {
+        let view = ViewOf {
+            config: &self.config,
+            managed: &self.managed,
+            router: &self.router,
+        };
+        liftoff::<Site, Actor, Acts>(alloc, &mut self.fairings, &view, &mut self.shutdown)
+    }
+
+    pub fn shut(&self, alloc: Global) -> Result<Seq<Called>, NoMemory> {
+        let view = ViewOf {
+            config: &self.config,
+            managed: &self.managed,
+            router: &self.router,
+        };
+        let room = down_room(alloc, &self.fairings)?;
+        Ok(shut_down::<Site, Actor, Acts>(alloc, &self.fairings, &view, room))
+    }
+}
+
+fn read_config(alloc: Global, turns: &str) -> Result<Config, CaseError> {
+    let mut table = ConfigTable::new(alloc);
+    table.set("turns", turns)?;
+    Ok(Config::from_table(alloc, &table)?)
+}
+
+/// One with nothing attached, whose configuration grants so many turns.
+pub fn read_orbit(alloc: Global, turns: &str) -> Result<Orbit, CaseError> {
+    let config = read_config(alloc, turns)?;
+    Ok(Orbit::new(alloc, config)?)
+}

@@ -1,0 +1,52 @@
+//! What is called of a rocket in orbit, as text.
+use crate::actor::Actor;
+use crate::orbit::Orbit;
+use rkt_base::NoMemory;
+use rkt_fairing::{Callback, Fairings, Slot};
+use rkt_orbit::Called;
+
+fn called_text(called: Called) -> &'static str {
+    match called {
+        Called::Done => "done",
+        Called::FailedTurn => "failed",
+        Called::Starved => "starved",
+    }
+}
+
+/// Adds how calls ended.
+pub fn push_calls(out: &mut String, calls: &[Called]) -> Result<(), NoMemory> {
+    write!(out, "{} calls", calls.len())?;
+    for called in calls {
+        write!(out, " {}", called_text(*called))?;
+    }
+    Ok(())
+}
+
+// How often it was polled; a shield is not polled.
+fn push_polled(out: &mut String, slot: Option<&Slot<Actor>>) -> Result<(), NoMemory> {
+    match slot {
+        Some(Slot::App(actor)) => write!(out, " {}", actor.polled()),
+        _ => out.push_str(" -"),
+    }
+}
+
+fn push_all_polled(out: &mut String, fairings: &Fairings<Actor>) -> Result<(), NoMemory> {
+    out.push_str("; polled")?;
+    for n in 0..fairings.count(Callback::Liftoff) {
+        push_polled(out, fairings.get(Callback::Liftoff, n))?;
+    }
+    Ok(())
+}
+
+/// Adds how often each fairing was polled at liftoff, and the word that the handle has seen.
+pub fn push_lifted(out: &mut String, orbit: &Orbit) -> Result<(), NoMemory> {
+    push_all_polled(out, orbit.fairings())?;
+    write!(out, "; seen {}", orbit.seen())
+}
+
+/// Adds how many are called.
+pub fn push_counts(out: &mut String, fairings: &Fairings<Actor>) -> Result<(), NoMemory> {
+    let liftoff = fairings.count(Callback::Liftoff);
+    let shutdown = fairings.count(Callback::Shutdown);
+    write!(out, "liftoff {liftoff} shutdown {shutdown}")
+}

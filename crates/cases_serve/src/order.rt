@@ -1,0 +1,104 @@
+//! The order of the events of launches.
+ghost use Rattle.rkt_link.specs.Listener.{IsFresh};
+ghost use Rattle.rkt_link.specs.Memory.{listener_meaning};
+
+use crate::app::{Site, rocket};
+use crate::error::CaseError;
+use crate::launch::{Over, listener, refused};
+use crate::setting::Setting;
+use crate::words::push_item;
+use rkt_life::{Ignite, Rocket};
+use rkt_serve::{Event, EventOf, History, Launch, ListClock, ListListener, MemoryLink};
+use std::alloc::{AllocError, Global};
+use std::sync::Wait;
+use std::thread::Threads;
+
+/// What an event is, with its number or its word.
+fn event_text(alloc: Global, event: &Event<Site, MemoryLink>) -> Result<String, AllocError> {
+    match event {
+        EventOf::Lift { .. } => String::from_str(alloc, "Lift"),
+        EventOf::Trip { word, .. } => format!(in alloc; "Trip {}", *word),
+        EventOf::Admit { number, .. } => format!(in alloc; "Admit {}", *number),
+        EventOf::End { number, .. } => format!(in alloc; "End {}", *number),
+        EventOf::Down { .. } => String::from_str(alloc, "Down"),
+        EventOf::Close { .. } => String::from_str(alloc, "Close"),
+    }
+}
+
+fn push_event(
+    alloc: Global,
+    text: &mut String,
+    event: &Event<Site, MemoryLink>,
+) -> Result<(), AllocError> {
+    let event = event_text(alloc, event)?;
+    push_item(text, event.as_str())
+}
+
+fn events_text(alloc: Global, history: &History<Site, MemoryLink>) -> Result<String, AllocError> {
+    let mut text = String::new(alloc);
+    for event in history.events.as_slice() {
+        push_event(alloc, &mut text, event)?;
+    }
+    Ok(text)
+}
+
+fn launched<R: Wait + Threads>(
+    rt: &R,
+    alloc: Global,
+    rocket: Rocket<Ignite, Site>,
+    listener: ListListener,
+) -> Result<Over, CaseError>
+    requires { IsFresh (listener_meaning listener) }
+{
+    match rocket.launch(rt, alloc, listener, ListClock::new(Vec::new(alloc)), 0) {
+        Ok(launched) => Ok(launched),
+        Err(error) => Err(refused(error)),
+    }
+}
+
+/// Launches a rocket: what happened, and the rocket that comes back.
+fn launched_once<R: Wait + Threads>(
+    rt: &R,
+    alloc: Global,
+    rocket: Rocket<Ignite, Site>,
+    listener: ListListener,
+) -> Result<(String, Rocket<Ignite, Site>), CaseError>
+    requires { IsFresh (listener_meaning listener) }
+{
+    let over = launched(rt, alloc, rocket, listener)?;
+    let events = events_text(alloc, &over.history)?;
+    Ok((events, over.rocket))
+}
+
+fn both(alloc: Global, first: &str, again: &str) -> Result<String, CaseError> {
+    Ok(format!(in alloc; "{first}; again {again}")?)
+}
+
+/// Launches a rocket, and then the one that comes back.
+fn launched_twice<R: Wait + Threads>(
+    rt: &R,
+    alloc: Global,
+    rocket: Rocket<Ignite, Site>,
+    first: ListListener,
+    again: ListListener,
+) -> Result<String, CaseError>
+    requires first { IsFresh (listener_meaning first) }
+    requires again { IsFresh (listener_meaning again) }
+{
+    let (first, rocket) = launched_once(rt, alloc, rocket, first)?;
+    let (again, _rocket) = launched_once(rt, alloc, rocket, again)?;
+    both(alloc, first.as_str(), again.as_str())
+}
+
+/// The events of a launch of `POLLS LINK | LINK ..`, and of a second one of the rocket that comes back.
+pub fn order<R: Wait + Threads>(
+    rt: &R,
+    alloc: Global,
+    setting: &Setting,
+    text: &str,
+) -> Result<String, CaseError> {
+    let first = listener(alloc, setting, text)?;
+    let again = listener(alloc, setting, text)?;
+    let rocket = rocket(alloc, setting.routes.as_slice())?;
+    launched_twice(rt, alloc, rocket, first, again)
+}

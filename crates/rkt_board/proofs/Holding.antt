@@ -1,0 +1,222 @@
+-- What is known of listener, clock and handle, over one event more.
+use Rattle.std.proofs.Common.{zero, suc, ◌≡◌, ◌<◌, ◌≤◌, ◌+◌, ◌++◌, ℕ, max, Bool, true, false, List, [], ◌∷◌, Option, Some, None, length, refl, ap, ◌∙◌, sym, subst, append_assoc, append-nil, arith}
+use Rattle.std.proofs.lemmas.Grind.{common_steps}
+use Rattle.std.specs.List.{list_any, AllByRecursion, count_by}
+use Rattle.std.specs.Option.{ForSome}
+use Rattle.std.specs.declared.snapshot.Snapshot.{Snapshot}
+use Rattle.rkt_turn.specs.Shutdown.{Handle}
+use Rattle.rkt_link.specs.Asked.{Asked}
+use Rattle.rkt_link.specs.Clock.{ClockMeaning, IsWithin, TellsOn}
+use Rattle.rkt_link.specs.Link.{LinkMeaning}
+use Rattle.rkt_link.specs.Listener.{ListenerMeaning, GivesMore, Settled}
+use Rattle.rkt_board.proofs.Core.{worded}
+use Rattle.rkt_board.proofs.Counting.{is_not}
+use Rattle.rkt_board.proofs.Pushes.{any_push, count_push, all_push, after_push, map_push, latest_push, word_old}
+use Rattle.rkt_board.specs.After.{AfterFrom}
+use Rattle.rkt_board.specs.Board.{Told, TimedIn, Holds}
+use Rattle.rkt_board.specs.Events.{is_trip, is_admit, moment_of, latest, admitted, trip_word, InOrder, Ordered}
+use Rattle.rkt_board.specs.Marks.{events, asked_by, carried, carries, IsOwn, AsksAt, Legal}
+use Rattle.rkt_board.specs.Turns.{admit_mark}
+use Rattle.rkt_board.specs.declared.board.Name.{Name}
+use Rattle.rkt_board.specs.declared.board.Near.{Near}
+use Rattle.rkt_board.specs.declared.history.EventOf.{EventOf}
+use Rattle.rkt_board.specs.declared.history.EventOf.TheVariants.{Lift, Trip, Admit, End, Down, Close}
+use Rattle.rkt_board.specs.declared.mark.MarkOf.{MarkOf}
+
+-- a link more was given, which asks this
+told_more : (first old new : Option (List Asked)) (asks : List (Option Asked)) (ask : Option Asked) → Told first old asks → GivesMore old ask new → Told first new (asks ++ ask ∷ [])
+told_more None old new asks ask t gives = subst (λ (o : Option (List Asked)). GivesMore o ask new) t gives
+told_more (Some g) old new asks ask t gives = let more = t.0 in let h : GivesMore (Some (g ++ more)) ask new = subst (λ (o : Option (List Asked)). GivesMore o ask new) t.1 gives in
+    (more ++ h.0 ∷ [], h.2 ∙ ap Some (append_assoc g more (h.0 ∷ [])), map_push (λ a. Some a) more h.0 ∙ ap (λ l. l ++ Some h.0 ∷ []) t.2 ∙ ap (λ a. asks ++ a ∷ []) (sym h.1))
+
+-- nothing was given yet
+pub told_none : (first : Option (List Asked)) → Told first first []
+told_none None = refl
+told_none (Some g) = ([], ap Some (sym (append-nil g)), refl)
+
+pub tells_on : (a b c : ClockMeaning) → TellsOn a b → TellsOn b c → TellsOn a c
+tells_on a b c one two = record { rises = omega (arith, one.rises, two.rises); window = two.window ∙ one.window }
+
+-- a clock was read
+pub tells_this : (old new : ClockMeaning) (moment : ℕ) → old.last ≤ moment → new ≡ record old { last = moment } → TellsOn old new
+tells_this old new moment rises is = rw is (record { rises = rises; window = refl })
+
+looked_on : (seen new old x : ℕ) → x ≤ old → (0 < seen → new ≡ old) → (seen ≡ 0 → new ≡ old + 1) → x ≤ new
+looked_on zero new old x l again load = let q : new ≡ old + 1 = load refl in omega (arith, l, q)
+looked_on (suc n) new old x l again load = let q : new ≡ old = again (omega arith) in omega (arith, l, q)
+
+module _ {C S K : Type 0} where
+  module _ (links : K → LinkMeaning) where
+    pub carries_other : (ms : List (MarkOf C S K)) (m : MarkOf C S K) → is_admit m.event ≡ false → carries links (ms ++ m ∷ []) ≡ carries links ms
+    carries_other [] m other = none_carried m.event (asked_by links m.link) other
+      where
+        none_carried : (e : EventOf C S K) (a : Option Asked) → is_admit e ≡ false → carried links e a [] ≡ []
+        none_carried (Admit n t b) a o = absurd (cc o)
+        none_carried (Lift calls) a o = refl
+        none_carried (Trip w t) a o = refl
+        none_carried (End n x t b) a o = refl
+        none_carried (Down calls) a o = refl
+        none_carried (Close t) a o = refl
+    carries_other (x ∷ xs) m other = ap (carried links x.event (asked_by links x.link)) (carries_other xs m other)
+
+    pub carries_admit : (ms : List (MarkOf C S K)) (m : MarkOf C S K) → is_admit m.event ≡ true → carries links (ms ++ m ∷ []) ≡ carries links ms ++ asked_by links m.link ∷ []
+    carries_admit [] m admit = one_carried m.event (asked_by links m.link) admit
+      where
+        one_carried : (e : EventOf C S K) (a : Option Asked) → is_admit e ≡ true → carried links e a [] ≡ a ∷ []
+        one_carried (Admit n t b) a o = refl
+        one_carried (Lift calls) a o = absurd (cc o)
+        one_carried (Trip w t) a o = absurd (cc o)
+        one_carried (End n x t b) a o = absurd (cc o)
+        one_carried (Down calls) a o = absurd (cc o)
+        one_carried (Close t) a o = absurd (cc o)
+    carries_admit (x ∷ xs) m admit = ap (carried links x.event (asked_by links x.link)) (carries_admit xs m admit) ∙ carried_on x.event (asked_by links x.link) (carries links xs) (asked_by links m.link)
+      where
+        carried_on : (e : EventOf C S K) (a : Option Asked) (rest : List (Option Asked)) (z : Option Asked) → carried links e a (rest ++ z ∷ []) ≡ carried links e a rest ++ z ∷ []
+        carried_on (Admit n t b) a rest z = refl
+        carried_on (Lift calls) a rest z = refl
+        carried_on (Trip w t) a rest z = refl
+        carried_on (End n x t b) a rest z = refl
+        carried_on (Down calls) a rest z = refl
+        carried_on (Close t) a rest z = refl
+
+    -- as many are carried as were admitted
+    pub length-carries : (ms : List (MarkOf C S K)) → length (carries links ms) ≡ admitted (events ms)
+    length-carries [] = refl
+    length-carries (m ∷ ms) = one m.event (asked_by links m.link) (carries links ms) (events ms) (length-carries ms)
+      where
+        one : (e : EventOf C S K) (a : Option Asked) (rest : List (Option Asked)) (es : List (EventOf C S K)) → length rest ≡ admitted es → length (carried links e a rest) ≡ admitted (e ∷ es)
+        one (Admit n t b) a rest es h = grind (arith, common_steps, h)
+        one (Lift calls) a rest es h = h
+        one (Trip w t) a rest es h = h
+        one (End n x t b) a rest es h = h
+        one (Down calls) a rest es h = h
+        one (Close t) a rest es h = h
+
+    pub legal_push : (cause : List (EventOf C S K) → EventOf C S K → Type 0) (ms : List (MarkOf C S K)) (m : MarkOf C S K) → Legal links cause ms
+        → InOrder (events ms) m.event → cause (events ms) m.event → IsOwn m → AsksAt links ms m → Legal links cause (ms ++ m ∷ [])
+    legal_push cause ms m l order caused own asks = record {
+      ordered = subst (λ es. Ordered es) (sym (map_push (λ m. m.event) ms m)) (after_push InOrder [] (events ms) m.event l.ordered order);
+      caused = subst (λ es. AfterFrom cause [] es) (sym (map_push (λ m. m.event) ms m)) (after_push cause [] (events ms) m.event l.caused caused);
+      own = all_push IsOwn ms m l.own own;
+      asks = after_push (AsksAt links) [] ms m l.asks asks;
+    }
+
+module _ {C S K P L Q : Type 0} (links : K → LinkMeaning) (listeners : L → ListenerMeaning) (clocks : Q → ClockMeaning) where
+  -- one event more, which is no Admit
+  pub holds_push : (name : Name P L Q Handle) (near : Near L Q Handle) (ms : List (MarkOf C S K)) (m : MarkOf C S K) → Holds links listeners clocks name near ms
+      → is_admit m.event ≡ false → TimedIn (clocks name.clock.value).window m.event → moment_of m.event ≤ (clocks near.clock).last
+      → (list_any is_trip (events ms ++ m.event ∷ []) ≡ true → near.handle.seen ≡ trip_word (events ms ++ m.event ∷ []))
+      → Holds links listeners clocks name near (ms ++ m ∷ [])
+  holds_push name near ms m h other timed late seen =
+      let es = events ms in
+      let e = m.event in
+      let now : events (ms ++ m ∷ []) ≡ es ++ e ∷ [] = map_push (λ m. m.event) ms m in
+      let same : admitted (events (ms ++ m ∷ [])) ≡ admitted es = ap (count_by is_admit) now ∙ (count_push is_admit es e).1 other in
+      record {
+        wire = h.wire;
+        word = λ t. seen (sym (ap (list_any is_trip) now) ∙ t) ∙ sym (ap trip_word now);
+        looked = subst (λ (n : ℕ). name.handle.value.looked + n ≤ near.handle.looked) (sym same) h.looked;
+        still = λ p. ((h.still p).0, same ∙ (h.still p).1);
+        told = subst (Told (listeners name.listener.value).given (listeners near.listener).given) (sym (carries_other links ms m other)) h.told;
+        settled = h.settled;
+        ended = h.ended;
+        offers = h.offers;
+        clock = h.clock;
+        timed = subst (AllByRecursion (TimedIn (clocks name.clock.value).window)) (sym now) (all_push (TimedIn (clocks name.clock.value).window) es e h.timed timed);
+        latest_by = let x : ℕ = latest es in let y : ℕ = moment_of e in let z : ℕ = (clocks near.clock).last in let p : x ≤ z = h.latest_by in let q : y ≤ z = late in let g : max x y ≤ z = omega (arith, p, q) in subst (λ (n : ℕ). n ≤ z) (sym (ap latest now ∙ latest_push es e)) g;
+      }
+
+  -- where a Trip stands before, the handle has seen its word
+  pub seen_before : (name : Name P L Q Handle) (near : Near L Q Handle) (ms : List (MarkOf C S K)) (e : EventOf C S K) → Holds links listeners clocks name near ms → is_trip e ≡ false
+      → list_any is_trip (events ms ++ e ∷ []) ≡ true → near.handle.seen ≡ trip_word (events ms ++ e ∷ [])
+  seen_before name near ms e h other t =
+      let u : list_any is_trip (events ms) ≡ true = grind (arith, common_steps, any_push is_trip (events ms) e, other, t) in
+      h.word u ∙ sym (word_old (events ms) e u)
+
+  -- a handle that has seen no word has entered no Trip
+  pub untripped : (name : Name P L Q Handle) (near : Near L Q Handle) (ms : List (MarkOf C S K)) → Holds links listeners clocks name near ms → Ordered (events ms)
+      → near.handle.seen ≡ 0 → list_any is_trip (events ms) ≡ false
+  untripped name near ms h ordered unseen =
+      is_not (list_any is_trip (events ms)) refl (λ t. let x : ℕ = trip_word (events ms) in let p : 0 < x = worded (events ms) ordered t in let q : near.handle.seen ≡ x = h.word t in absurd (omega (arith, p, q, unseen)))
+
+  -- an Admit of a link that the listener gave
+  pub holds_admit : (name : Name P L Q Handle) (near : Near L Q Handle) (listener : L) (ms : List (MarkOf C S K)) (by number moment : ℕ) (copy : Snapshot K) → Holds links listeners clocks name near ms → Ordered (events ms)
+      → near.handle.seen ≡ 0 → name.handle.value.looked + admitted (events ms) < near.handle.looked → near.over ≡ false
+      → moment ≤ (clocks near.clock).last → IsWithin (clocks name.clock.value).window moment
+      → GivesMore (listeners near.listener).given (links copy.value).asked (listeners listener).given → Settled (listeners near.listener) (listeners listener)
+      → Holds links listeners clocks name (record { listener = listener; clock = near.clock; handle = near.handle; over = near.over }) (ms ++ admit_mark by number moment copy ∷ [])
+  holds_admit name near listener ms by number moment copy h ordered unseen looked ongoing late within gives settled =
+      let es = events ms in
+      let e : EventOf C S K = Admit number moment by in
+      let m : MarkOf C S K = admit_mark by number moment copy in
+      let now : events (ms ++ m ∷ []) ≡ es ++ e ∷ [] = map_push (λ m. m.event) ms m in
+      let none = untripped name near ms h ordered unseen in
+      let counted : admitted (events (ms ++ m ∷ [])) ≡ admitted es + 1 = ap (count_by is_admit) now ∙ (count_push is_admit es e).0 refl in
+      record {
+        wire = h.wire;
+        word = λ t. absurd (grind (arith, common_steps, any_push is_trip es e, none, sym (ap (list_any is_trip) now) ∙ t));
+        looked = let x : ℕ = admitted (events (ms ++ m ∷ [])) in let y : ℕ = admitted es in let q : x ≡ y + 1 = counted in omega (arith, q, looked);
+        still = λ p. absurd (omega (arith, p, (h.still p).0, unseen));
+        told = subst (Told (listeners name.listener.value).given (listeners listener).given) (sym (carries_admit links ms m refl))
+            (told_more (listeners name.listener.value).given (listeners near.listener).given (listeners listener).given (carries links ms) (links copy.value).asked h.told gives);
+        settled = record { offers = settled.offers ∙ h.settled.offers; faults = settled.faults ∙ h.settled.faults; never_faults = settled.never_faults ∙ h.settled.never_faults };
+        ended = λ o. absurd (cc (o, ongoing));
+        offers = λ o. absurd (cc (o, ongoing));
+        clock = h.clock;
+        timed = subst (AllByRecursion (TimedIn (clocks name.clock.value).window)) (sym now) (all_push (TimedIn (clocks name.clock.value).window) es e h.timed within);
+        latest_by = let x : ℕ = latest es in let z : ℕ = (clocks near.clock).last in let p : x ≤ z = h.latest_by in let g : max x moment ≤ z = omega (arith, p, late) in subst (λ (n : ℕ). n ≤ z) (sym (ap latest now ∙ latest_push es e)) g;
+      }
+
+  -- the clock is read
+  pub holds_clock : (name : Name P L Q Handle) (near : Near L Q Handle) (clock : Q) (ms : List (MarkOf C S K)) → Holds links listeners clocks name near ms → TellsOn (clocks near.clock) (clocks clock)
+      → Holds links listeners clocks name (record { listener = near.listener; clock = clock; handle = near.handle; over = near.over }) ms
+  holds_clock name near clock ms h on = record {
+    wire = h.wire;
+    word = h.word;
+    looked = h.looked;
+    still = h.still;
+    told = h.told;
+    settled = h.settled;
+    ended = h.ended;
+    offers = h.offers;
+    clock = tells_on (clocks name.clock.value) (clocks near.clock) (clocks clock) h.clock on;
+    timed = h.timed;
+    latest_by = omega (arith, h.latest_by, on.rises);
+  }
+
+  -- the listener is polled, and gives nothing
+  pub holds_listener : (name : Name P L Q Handle) (near : Near L Q Handle) (listener : L) (over : Bool) (ms : List (MarkOf C S K)) → Holds links listeners clocks name near ms
+      → (listeners listener).given ≡ (listeners near.listener).given → Settled (listeners near.listener) (listeners listener)
+      → (over ≡ true → ((listeners listener).ended ≡ true) × ForSome (listeners near.listener).offers (λ all. (listeners near.listener).given ≡ Some all))
+      → Holds links listeners clocks name (record { listener = listener; clock = near.clock; handle = near.handle; over = over }) ms
+  holds_listener name near listener over ms h same settled ends = record {
+    wire = h.wire;
+    word = h.word;
+    looked = h.looked;
+    still = h.still;
+    told = subst (λ (given : Option (List Asked)). Told (listeners name.listener.value).given given (carries links ms)) (sym same) h.told;
+    settled = record { offers = settled.offers ∙ h.settled.offers; faults = settled.faults ∙ h.settled.faults; never_faults = settled.never_faults ∙ h.settled.never_faults };
+    ended = λ o. (ends o).0;
+    offers = λ o all is. same ∙ (ends o).1 all (h.settled.offers ∙ is);
+    clock = h.clock;
+    timed = h.timed;
+    latest_by = h.latest_by;
+  }
+
+  -- the handle is another one, of the same wire, that has looked no less; a word that was seen stays
+  pub holds_handle : (name : Name P L Q Handle) (near : Near L Q Handle) (handle : Handle) (ms : List (MarkOf C S K)) → Holds links listeners clocks name near ms → Ordered (events ms)
+      → handle.wire ≡ near.handle.wire → near.handle.looked ≤ handle.looked → (0 < near.handle.seen → handle.seen ≡ near.handle.seen)
+      → Holds links listeners clocks name (record { listener = near.listener; clock = near.clock; handle = handle; over = near.over }) ms
+  holds_handle name near handle ms h ordered wire looked again = record {
+    wire = wire ∙ h.wire;
+    word = λ t. let x : ℕ = trip_word (events ms) in let p : 0 < x = worded (events ms) ordered t in let q : near.handle.seen ≡ x = h.word t in again (omega (arith, p, q)) ∙ q;
+    looked = let x : ℕ = name.handle.value.looked + admitted (events ms) in let l : x ≤ near.handle.looked = h.looked in let g : x ≤ handle.looked = omega (arith, l, looked) in g;
+    still = λ p. let q = h.still p in (again (omega (arith, p, q.0)) ∙ q.0, q.1);
+    told = h.told;
+    settled = h.settled;
+    ended = h.ended;
+    offers = h.offers;
+    clock = h.clock;
+    timed = h.timed;
+    latest_by = h.latest_by;
+  }

@@ -1,0 +1,67 @@
+//! The state of a launch.
+use crate::{Event, Mark};
+use rkt_link::Listener;
+use rkt_request::Types;
+use rkt_turn::Shutdown;
+use std::snapshot::Snapshot;
+
+/// What a board stands for: what is served, and the rest as it was handed in.
+#[derive(Drop)]
+pub struct Name<'a, P, L, C, H> {
+    pub served: &'a P,
+    pub listener: Snapshot<L>,
+    pub clock: Snapshot<C>,
+    pub handle: Snapshot<H>,
+}
+
+/// What has happened, counted, with room for what is to come and for the history of it all.
+#[derive(Drop)]
+pub struct Book<M, E> {
+    pub marks: Vec<M>,
+    pub history: Vec<E>,
+    /// How many links were given.
+    pub admitted: u64,
+    /// How many of these have no End.
+    pub opens: usize,
+    pub tripped: bool,
+    pub down: bool,
+    pub closed: bool,
+}
+
+/// What is looked at.
+#[derive(Drop)]
+pub struct Near<L, C, H> {
+    pub listener: L,
+    pub clock: C,
+    pub handle: H,
+    /// The listener has ended.
+    pub over: bool,
+}
+
+/// The state of a launch. It is generic in its parts, so that each of them by itself says whether it crosses threads.
+#[derive(Drop)]
+pub struct Board<N, B, X> {
+    pub name: N,
+    pub book: B,
+    pub near: X,
+}
+
+/// The state of an application's launch.
+pub type BoardOf<'a, A, P, L, C> = Board<
+    Name<'a, P, L, C, Shutdown<<A as Types>::Reason>>,
+    Book<Mark<A, <L as Listener>::Link>, Event<A, <L as Listener>::Link>>,
+    Near<L, C, Shutdown<<A as Types>::Reason>>,
+>;
+
+/// What a turn of a worker came to.
+#[derive(Drop)]
+pub enum Turned<K> {
+    /// A link was admitted under this number, at this moment.
+    Given { number: u64, moment: u64, link: K },
+    /// This turn has entered the Trip.
+    Tripped,
+    /// There is no link yet.
+    Again,
+    /// Nothing will be admitted any more, or there is no memory for it.
+    Stop,
+}

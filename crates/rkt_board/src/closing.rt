@@ -1,0 +1,105 @@
+//! What a launch that is over leaves behind.
+ghost use Rattle.std.specs.Prelude.{◌≡◌, ◌<◌, ◌≤◌, ◌+◌, ◌++◌, [], ℕ, Some, true, vec_len, vec_capacity};
+ghost use Rattle.std.specs.List.{AllByRecursion, list_any};
+ghost use Rattle.std.specs.Option.{ForSome};
+ghost use Rattle.rkt_turn.specs.HandsBack.{HandsBack};
+ghost use Rattle.rkt_link.specs.Clock.{TellsOn};
+ghost use Rattle.rkt_link.specs.Listener.{Settled};
+ghost use Rattle.rkt_board.specs.After.{AfterFrom};
+ghost use Rattle.rkt_board.specs.Board.{Keeps, TimedIn};
+ghost use Rattle.rkt_board.specs.Closed.{AllAdmitted, HasEntry};
+ghost use Rattle.rkt_board.specs.Events.{is_close, admitted, trip_of, Ordered, IsClosed, EachEndsOnce};
+ghost use Rattle.rkt_board.specs.Marks.{events};
+
+use crate::{Board, BoardOf, Book, Event, History, HistoryOf, Mark, MarkOf, Near, Served};
+use rkt_base::Seq;
+use rkt_link::{Clock, Link, Listener};
+use rkt_request::Types;
+use rkt_turn::Shutdown;
+
+/// What a launch that is over leaves behind.
+#[derive(Drop)]
+pub struct ClosedOf<L, C, H, R> {
+    pub listener: L,
+    pub clock: C,
+    pub handle: H,
+    /// The listener has ended.
+    pub over: bool,
+    pub history: R,
+}
+
+/// What a launch of an application leaves behind.
+pub type Closed<A, L, C> = ClosedOf<
+    L,
+    C,
+    Shutdown<<A as Types>::Reason>,
+    History<A, <L as Listener>::Link>,
+>;
+
+// Moves the events of marks behind others, where there is room for them.
+fn moved<A: Types, K: Link>(
+    marks: Vec<Mark<A, K>>,
+    mut history: Vec<Event<A, K>>,
+) -> Vec<Event<A, K>>
+    requires { vec_len history + vec_len marks ≤ vec_capacity history }
+    ensures { result.items ≡ history.items ++ events marks.items }
+{
+    for mark in marks {
+        let MarkOf {
+            by: _,
+            event,
+            link: _,
+        } = mark;
+        history.push_reserved(event);
+    }
+    history
+}
+
+/// Hands out what a launch leaves behind whose Close was entered. It takes no memory.
+pub fn finish<'a, A: Types, P: Served<A, L::Link>, L: Listener, C: Clock>(
+    board: BoardOf<'a, A, P, L, C>,
+) -> Closed<A, L, C>
+    requires keeps { Keeps L.Link.meaning L.meaning C.meaning P.cause board }
+    requires closed { list_any is_close (events board.book.marks.items) ≡ true }
+    requires fresh { ForSome (L.meaning board.name.listener.value).given (λ given. given ≡ []) }
+    ensures history { result.history.events ≡ events board.entry.book.marks.items }
+    ensures near { (result.listener ≡ board.entry.near.listener) × (result.clock ≡ board.entry.near.clock) × (result.handle ≡ board.entry.near.handle) × (result.over ≡ board.entry.near.over) }
+    ensures ordered { Ordered result.history.events }
+    ensures caused { AfterFrom (P.cause board.entry.name.served.now (C.meaning board.entry.name.clock.value).window) [] result.history.events }
+    ensures closed { IsClosed result.history.events }
+    ensures ends { EachEndsOnce result.history.events }
+    ensures requests { AllAdmitted (L.meaning result.listener).given result.history.events }
+    ensures entries { (k : ℕ) → k < admitted result.history.events
+        → HasEntry L.Link.meaning (P.cause board.entry.name.served.now (C.meaning board.entry.name.clock.value).window) (L.meaning result.listener).given result.history.events k }
+    ensures moments { AllByRecursion (TimedIn (C.meaning board.entry.name.clock.value).window) result.history.events }
+    ensures clock { TellsOn (C.meaning board.entry.name.clock.value) (C.meaning result.clock) }
+    // The handle has seen the word of the Trip, and one that had seen a word admits nothing.
+    ensures word { ForSome (trip_of result.history.events) (λ trip. result.handle.seen ≡ trip.0) }
+    ensures still { 0 < board.entry.name.handle.value.seen → admitted result.history.events ≡ 0 }
+    ensures handle { HandsBack board.entry.name.handle.value result.handle }
+    ensures settled { Settled (L.meaning board.entry.name.listener.value) (L.meaning result.listener) }
+    ensures ended { result.over ≡ true → (L.meaning result.listener).ended ≡ true }
+    ensures offers { result.over ≡ true → ForSome (L.meaning board.entry.name.listener.value).offers (λ all. (L.meaning result.listener).given ≡ Some all) }
+{
+    let Board {
+        name: _,
+        book,
+        near,
+    } = board;
+    let Book { marks, history, .. } = book;
+    let Near {
+        listener,
+        clock,
+        handle,
+        over,
+    } = near;
+    ClosedOf {
+        listener,
+        clock,
+        handle,
+        over,
+        history: HistoryOf {
+            events: Seq::from_vec(moved::<A, L::Link>(marks, history)),
+        },
+    }
+}

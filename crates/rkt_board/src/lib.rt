@@ -1,0 +1,18 @@
+//! The board of a launch: what has happened, what is looked at, and one call for each event.
+#![tactic(auto)]
+
+mod board;
+mod closing;
+mod history;
+mod mark;
+mod opening;
+mod served;
+mod turns;
+
+pub use board::{Board, BoardOf, Book, Name, Near, Turned};
+pub use closing::{Closed, ClosedOf, finish};
+pub use history::{Called, End, Entry, EntryOf, Event, EventOf, Failure, History, HistoryOf};
+pub use mark::{Mark, MarkOf};
+pub use opening::lift;
+pub use served::Served;
+pub use turns::{close, down, end, look, rejoin, turn};

@@ -1,0 +1,71 @@
+//! How a launch begins.
+ghost use Rattle.std.specs.Prelude.{◌≡◌, ◌∷◌, [], IfOk};
+ghost use Rattle.rkt_board.specs.Board.{IsBlank, Keeps};
+ghost use Rattle.rkt_board.specs.Turns.{mark};
+ghost use Rattle.rkt_board.specs.declared.history.EventOf.TheVariants.{Lift};
+
+use crate::{Board, BoardOf, Book, Called, Event, EventOf, Mark, MarkOf, Name, Near, Served};
+use rkt_base::{NoMemory, Seq};
+use rkt_link::{Clock, Listener};
+use rkt_request::Types;
+use rkt_turn::Shutdown;
+use std::alloc::Global;
+use std::snapshot::Snapshot;
+
+// How many events a launch without a link has at most: a Lift, a Trip, a Down and a Close.
+const FEWEST: usize = 4;
+
+impl<M: Drop, E: Drop> Book<M, E> {
+    /// A book without an event, with room for those of a launch that admits nothing.
+    pub fn new(alloc: Global) -> Result<Book<M, E>, NoMemory>
+        ensures { IfOk result IsBlank }
+    {
+        let marks = Vec::with_capacity(alloc, FEWEST)?;
+        let history = Vec::with_capacity(alloc, FEWEST)?;
+        Ok(Book {
+            marks,
+            history,
+            admitted: 0,
+            opens: 0,
+            tripped: false,
+            down: false,
+            closed: false,
+        })
+    }
+}
+
+/// Enters the Lift, with the calls of the callbacks of liftoff. It takes no memory.
+pub fn lift<'a, A: Types, P: Served<A, L::Link>, L: Listener, C: Clock>(
+    mut book: Book<Mark<A, L::Link>, Event<A, L::Link>>,
+    served: &'a P,
+    listener: L,
+    clock: C,
+    handle: Shutdown<A::Reason>,
+    by: u64,
+    calls: Seq<Called>,
+) -> BoardOf<'a, A, P, L, C>
+    requires blank { IsBlank book }
+    requires caused { P.cause served.now (C.meaning clock).window [] (Lift calls) }
+    ensures name { (result.name.served ≡ served.entry) × (result.name.listener.value ≡ listener) × (result.name.clock.value ≡ clock) × (result.name.handle.value ≡ handle) }
+    ensures adds { result.book.marks.items ≡ mark by (Lift calls) ∷ [] }
+    ensures keeps { Keeps L.Link.meaning L.meaning C.meaning P.cause result }
+{
+    book.marks.push_reserved(MarkOf {
+        by,
+        event: EventOf::Lift { calls },
+        link: None,
+    });
+    let name = Name {
+        served,
+        listener: Snapshot::of(&listener),
+        clock: Snapshot::of(&clock),
+        handle: Snapshot::of(&handle),
+    };
+    let near = Near {
+        listener,
+        clock,
+        handle,
+        over: false,
+    };
+    Board { name, book, near }
+}

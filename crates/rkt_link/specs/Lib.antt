@@ -1,0 +1,5 @@
+pub mod Asked
+pub mod Clock
+pub mod Link
+pub mod Listener
+pub mod Memory

@@ -1,0 +1,53 @@
+-- What a link means, and what its calls do.
+use Rattle.std.specs.Prelude.{◌≡◌, ◌++◌, ℕ, List, [], ◌∷◌, Bool, true, false, Option, Result, Ok, Err, option_map}
+use Rattle.std.specs.Option.{ForSome}
+use Rattle.rkt_base.specs.declared.poll.Poll.{Poll}
+use Rattle.rkt_base.specs.declared.poll.Poll.TheVariants.{Ready, Pending}
+use Rattle.rkt_message.specs.declared.piece.Piece.{Piece}
+use Rattle.rkt_link.specs.Asked.{Asked}
+use Rattle.rkt_link.specs.declared.link.Handed.{Handed}
+use Rattle.rkt_link.specs.declared.link.Handed.TheVariants.{Taken, Back, Refused}
+
+pub record LinkMeaning : Type 0 where
+  -- what it asks, where it tells that
+  pub asked : Option Asked
+  -- the source of the body was taken
+  pub source_taken : Bool
+  -- the pieces that it has taken, where it tells them
+  pub held : Option (List Piece)
+  -- how often it has failed
+  pub faults : ℕ
+  -- it says that it never fails
+  pub never_faults : Bool
+
+-- the same link, whose source was taken
+abbrev pub with_source_taken : LinkMeaning → LinkMeaning
+with_source_taken link = record link { source_taken = true }
+
+-- the same link, with these pieces taken besides
+abbrev pub with_taken : LinkMeaning → List Piece → LinkMeaning
+with_taken link pieces = record link { held = option_map (λ held. held ++ pieces) link.held }
+
+-- a link after a send: a piece that was taken is held, and any other answer changes nothing
+abbrev pub after_send : {E : Type 0} → Poll (Result (Unit {0}) E) → LinkMeaning → Piece → LinkMeaning
+after_send (Ready (Ok taken)) link piece = with_taken link (piece ∷ [])
+after_send (Ready (Err e)) link piece = link
+after_send Pending link piece = link
+
+-- the same after a piece was handed over
+abbrev pub after_hand : Handed → LinkMeaning → Piece → LinkMeaning
+after_hand Taken link piece = with_taken link (piece ∷ [])
+after_hand (Back other) link piece = link
+after_hand (Refused e) link piece = link
+
+-- what comes back is that piece
+abbrev pub ComesBack : Handed → Piece → Type 0
+ComesBack Taken piece = Unit {0}
+ComesBack (Back other) piece = other ≡ piece
+ComesBack (Refused e) piece = Unit {0}
+
+-- nothing was taken and sent, and nothing has failed
+pub record IsFreshLink (link : LinkMeaning) : Type 0 where
+  pub source_there : link.source_taken ≡ false
+  pub none_held : ForSome link.held (λ held. held ≡ [])
+  pub no_fault : link.faults ≡ 0

@@ -1,0 +1,62 @@
+-- What a listener means, and what its calls do.
+use Rattle.std.specs.Prelude.{◌≡◌, ◌++◌, ℕ, List, [], ◌∷◌, Bool, true, false, Option, Some, None}
+use Rattle.std.specs.Option.{ForSome}
+use Rattle.rkt_base.specs.declared.poll.Poll.{Poll}
+use Rattle.rkt_base.specs.declared.poll.Poll.TheVariants.{Ready, Pending}
+use Rattle.rkt_link.specs.Asked.{Asked}
+use Rattle.rkt_link.specs.Link.{LinkMeaning, IsFreshLink}
+use Rattle.rkt_link.specs.declared.listener.Accepted.{Accepted}
+use Rattle.rkt_link.specs.declared.listener.Accepted.TheVariants.{Given, End}
+
+pub record ListenerMeaning : Type 0 where
+  -- what the links that it has given ask, in order, where it tells that
+  pub given : Option (List Asked)
+  -- what all the links ask that it will ever give, where it tells that
+  pub offers : Option (List Asked)
+  -- it has ended
+  pub ended : Bool
+  -- how often it has failed
+  pub faults : ℕ
+  -- it says that it never fails
+  pub never_faults : Bool
+
+-- nothing was given, it has not ended, and nothing has failed
+pub record IsFresh (listener : ListenerMeaning) : Type 0 where
+  pub none_given : ForSome listener.given (λ given. given ≡ [])
+  pub goes_on : listener.ended ≡ false
+  pub no_fault : listener.faults ≡ 0
+
+-- where it is told what was given, this stands behind it
+abbrev pub GivesMore : Option (List Asked) → Option Asked → Option (List Asked) → Type 0
+GivesMore None asked new = new ≡ None
+GivesMore (Some old) asked new = (a : Asked) × (asked ≡ Some a) × (new ≡ Some (old ++ a ∷ []))
+
+-- a link that is given puts what it asks behind what was given before
+abbrev pub Gives : {K : Type 0} → (K → LinkMeaning) → Option (List Asked) → Poll (Accepted K) → Option (List Asked) → Type 0
+Gives meaning old (Ready (Given link)) new = GivesMore old (meaning link).asked new
+Gives meaning old (Ready End) new = new ≡ old
+Gives meaning old Pending new = new ≡ old
+
+-- a link is given as nobody has used it
+abbrev pub GivesFresh : {K : Type 0} → (K → LinkMeaning) → Poll (Accepted K) → Type 0
+GivesFresh meaning (Ready (Given link)) = IsFreshLink (meaning link)
+GivesFresh meaning (Ready End) = Unit {0}
+GivesFresh meaning Pending = Unit {0}
+
+-- it has ended from the first End on, and then answers nothing else
+abbrev pub EndsAs : {K : Type 0} → Bool → Poll (Accepted K) → Bool → Type 0
+EndsAs old (Ready (Given link)) new = (old ≡ false) × (new ≡ false)
+EndsAs old (Ready End) new = new ≡ true
+EndsAs old Pending new = (old ≡ false) × (new ≡ false)
+
+-- the end comes only where all was given that it offers
+abbrev pub EndsAt : {K : Type 0} → ListenerMeaning → Poll (Accepted K) → Type 0
+EndsAt listener (Ready End) = ForSome listener.offers (λ all. listener.given ≡ Some all)
+EndsAt listener (Ready (Given link)) = Unit {0}
+EndsAt listener Pending = Unit {0}
+
+-- what no call changes
+pub record Settled (old new : ListenerMeaning) : Type 0 where
+  pub offers : new.offers ≡ old.offers
+  pub faults : new.faults ≡ old.faults
+  pub never_faults : new.never_faults ≡ old.never_faults

@@ -1,0 +1,20 @@
+//! The outside of a launch: listeners, their links, clocks, and what stands for each in memory.
+#![tactic(auto)]
+
+mod boxed;
+mod clock;
+mod link;
+mod list_clock;
+mod list_listener;
+mod listener;
+mod memory_link;
+mod system_clock;
+
+pub use boxed::Boxed;
+pub use clock::Clock;
+pub use link::{Handed, Link, SendError};
+pub use list_clock::ListClock;
+pub use list_listener::ListListener;
+pub use listener::{Accepted, Listener};
+pub use memory_link::MemoryLink;
+pub use system_clock::SystemClock;

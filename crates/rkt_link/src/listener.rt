@@ -1,0 +1,32 @@
+//! Where links come from.
+ghost use Rattle.std.specs.Prelude.{◌≡◌, true};
+ghost use Rattle.std.specs.Option.{ForSome};
+ghost use Rattle.rkt_link.specs.Listener.{ListenerMeaning, Gives, GivesFresh, EndsAs, EndsAt, Settled};
+
+use crate::Link;
+use rkt_base::Poll;
+
+/// What a listener answers.
+#[derive(Debug, Drop)]
+pub enum Accepted<K> {
+    /// The next link.
+    Given(K),
+    /// There is no further link, now and from now on.
+    End,
+}
+
+/// A source of links.
+pub trait Listener: Drop {
+    type Link: Link;
+
+    /// What contracts see of a listener.
+    ghost meaning: { Self → ListenerMeaning };
+
+    /// Gives the next link, if there is one.
+    fn poll_accept(&mut self) -> Poll<Accepted<Self::Link>>
+        ensures given { Gives Self.Link.meaning (meaning self.old).given result (meaning self.new).given }
+        ensures fresh { GivesFresh Self.Link.meaning result }
+        ensures ended { EndsAs (meaning self.old).ended result (meaning self.new).ended }
+        ensures offers { EndsAt (meaning self.old) result }
+        ensures settled { Settled (meaning self.old) (meaning self.new) };
+}

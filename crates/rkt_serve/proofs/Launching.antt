@@ -1,0 +1,117 @@
+-- What is launched, as a closed board leaves it.
+use Rattle.std.proofs.Common.{inl, inr, ◌≡◌, ◌<◌, ◌⊎◌, ◌∙◌, ℕ, List, Option, None, Some, Result, Ok, Err, true, false, sym, ap, subst}
+use Rattle.std.specs.Prelude.{IfOk, IfSome}
+use Rattle.std.specs.List.{AllByRecursion, list_any}
+use Rattle.std.specs.Option.{ForSome}
+use Rattle.rkt_lifecycle.specs.Tables.{SeenTables}
+use Rattle.rkt_life.specs.Rocket.{SeenRocket}
+use Rattle.rkt_link.specs.Asked.{Asked}
+use Rattle.rkt_link.specs.Clock.{ClockMeaning, TellsOn}
+use Rattle.rkt_link.specs.Listener.{ListenerMeaning, Settled}
+use Rattle.rkt_turn.specs.HandsBack.{HandsBack}
+use Rattle.rkt_turn.specs.Shutdown.{Handle}
+use Rattle.rkt_board.specs.Closed.{AllAdmitted, HasEntry as Entered}
+use Rattle.rkt_board.specs.Events.{is_trip, admitted, trip_of, Ordered, IsClosed, EachEndsOnce}
+use Rattle.rkt_board.specs.declared.closing.ClosedOf.{ClosedOf}
+use Rattle.rkt_board.specs.declared.history.EventOf.{EventOf}
+use Rattle.rkt_board.specs.declared.history.HistoryOf.{HistoryOf}
+use Rattle.rkt_serve.proofs.Handles.{hands_back_more}
+use Rattle.rkt_serve.specs.Causes.{AllCaused, CauseAt}
+use Rattle.rkt_serve.specs.Headline.{AllTimed, HasEntry, IsCallers, IsLegal, IsOver}
+use Rattle.rkt_ignition.specs.declared.error.IgniteError.{IgniteError}
+use Rattle.rkt_serve.specs.Kept.{GivesBack, IfUnlit, IsWant}
+use Rattle.rkt_serve.specs.declared.error.ErrorKindOf.{ErrorKindOf}
+use Rattle.rkt_serve.specs.declared.error.ErrorKindOf.TheVariants.{Ignition, NoMemory}
+use Rattle.rkt_serve.specs.Left.{IsLeft}
+use Rattle.rkt_serve.specs.Serving.{Serving}
+use Rattle.rkt_serve.specs.declared.error.LaunchedOf.{LaunchedOf}
+
+module _ {V S C R F FTask GTask H HTask K KTask L N X Q : Type 0} (allowed : ℕ → Type 0) (served : Serving V S C R F FTask GTask H HTask K KTask L) (listeners : X → ListenerMeaning) (tables : SeenTables F H K N V)
+    (table : List (List ℕ × List ℕ)) (closed : ClosedOf X Q Handle (HistoryOf C R L)) where
+  abbrev IsMade : LaunchedOf (SeenRocket F H K N V) X Q (HistoryOf C R L) → Type 0
+  IsMade launched = IsLeft tables table closed launched
+
+  pub left_legal : (launched : LaunchedOf (SeenRocket F H K N V) X Q (HistoryOf C R L)) → IsMade launched → IsLegal allowed served tables (listeners closed.listener).given closed.history.events
+      → IsLegal allowed served launched.rocket.tables (listeners launched.listener).given launched.history.events
+  left_legal launched is legal = rw (is.tables_are, is.listener, is.history) legal
+
+-- the same, of a board whose handle had not come back
+pub left_back : {F H K N V X Q R : Type 0} (tables : SeenTables F H K N V) (table : List (List ℕ × List ℕ)) (closed : ClosedOf X Q Handle R) (handle : Handle) (launched : LaunchedOf (SeenRocket F H K N V) X Q R) → HandsBack closed.handle handle
+    → IsLeft tables table (record { listener = closed.listener; clock = closed.clock; handle = handle; over = closed.over; history = closed.history }) launched → IsLeft tables table closed launched
+left_back tables table closed handle launched back is = record {
+  tables_are = is.tables_are;
+  table_is = is.table_is;
+  handle = hands_back_more closed.handle handle launched.rocket.handle back is.handle;
+  listener = is.listener;
+  clock = is.clock;
+  history = is.history;
+}
+
+module _ {F H K N V X Q C R L : Type 0} (tables : SeenTables F H K N V) (table : List (List ℕ × List ℕ)) (closed : ClosedOf X Q Handle (HistoryOf C R L)) (launched : LaunchedOf (SeenRocket F H K N V) X Q (HistoryOf C R L)) (is : IsLeft tables table closed launched) where
+  -- the word of a Trip, where there is one, is above 0
+  pub left_word : ((trip : ℕ × ℕ) → trip_of closed.history.events ≡ Some trip → 0 < trip.0) → ForSome (trip_of closed.history.events) (λ trip. closed.handle.seen ≡ trip.0)
+      → ForSome (trip_of launched.history.events) (λ trip. launched.rocket.handle.seen ≡ trip.0)
+  left_word above seen trip found =
+      let there : trip_of closed.history.events ≡ Some trip = ap (λ (h : HistoryOf C R L). trip_of h.events) (sym is.history) ∙ found in
+      is.handle.seen (subst (λ (n : ℕ). 0 < n) (sym (seen trip there)) (above trip there)) ∙ seen trip there
+
+  pub left_still : {P : Type 0} → (P → admitted closed.history.events ≡ 0) → P → admitted launched.history.events ≡ 0
+  left_still still some = rw is.history (still some)
+
+  pub left_over : (listeners : X → ListenerMeaning) → (closed.over ≡ true → (listeners closed.listener).ended ≡ true) → (closed.over ≡ true) ⊎ (list_any is_trip closed.history.events ≡ true)
+      → IsOver (listeners launched.listener) launched.history.events
+  left_over listeners ended (inl over) = inl (rw is.listener (ended over))
+  left_over listeners ended (inr trip) = inr (rw is.history trip)
+
+  pub left_offers : (listeners : X → ListenerMeaning) (offers : Option (List Asked)) → (closed.over ≡ true → ForSome offers (λ all. (listeners closed.listener).given ≡ Some all)) → (closed.over ≡ true) ⊎ (list_any is_trip closed.history.events ≡ true)
+      → list_any is_trip launched.history.events ≡ false → ForSome offers (λ all. (listeners launched.listener).given ≡ Some all)
+  left_offers listeners offers all (inl over) none = rw is.listener (all over)
+  left_offers listeners offers all (inr trip) none = absurd (cc (trip, rw is.history at none))
+
+  pub left_sound : (listeners : X → ListenerMeaning) (old : ListenerMeaning) → Settled old (listeners closed.listener) → old.faults ≡ 0 → (listeners launched.listener).faults ≡ 0
+  left_sound listeners old settled none = rw is.listener (settled.faults ∙ none)
+
+  pub left_window : (clocks : Q → ClockMeaning) (old : ClockMeaning) → TellsOn old (clocks closed.clock) → (clocks launched.clock).window ≡ old.window
+  left_window clocks old tells = rw is.clock tells.window
+
+module _ {V S C R F FTask GTask H HTask K KTask L N : Type 0} (allowed : ℕ → Type 0) (served : Serving V S C R F FTask GTask H HTask K KTask L) (tables : SeenTables F H K N V) where
+  pub entry_of : (given : Option (List Asked)) (es : List (EventOf C R L)) (k : ℕ) → Entered served.links (CauseAt allowed served tables) given es k → HasEntry served tables given es k
+  entry_of given es k entered = record { entry = entered.entry; found = entered.found; caused = entered.caused; asks = entered.asks }
+
+  -- what is known of a closed board is what is legal
+  pub legal_of : (given : Option (List Asked)) (es seen : List (EventOf C R L)) → Ordered es → IsClosed es → AllCaused allowed served tables es → EachEndsOnce es
+      → ((k : ℕ) → k < admitted es → Entered served.links (CauseAt allowed served tables) given es k) → AllAdmitted given es → AllTimed served.window es → AllByRecursion IsCallers seen → es ≡ seen
+      → IsLegal allowed served tables given es
+  legal_of given es seen ordered closed caused once entries all_admitted timed callers is = record {
+    ordered = ordered;
+    closed = closed;
+    caused = caused;
+    once = once;
+    entries = λ k less. entry_of given es k (entries k less);
+    all_admitted = all_admitted;
+    timed = timed;
+    callers = subst (AllByRecursion IsCallers) (sym is) callers;
+  }
+
+-- a handle that was looked at more, and then taken back
+pub back_to : (first lent closed after : Handle) → lent ≡ first → HandsBack lent closed → HandsBack closed after → HandsBack first after
+back_to first lent closed after same one two = subst (λ (h : Handle). HandsBack h after) same (hands_back_more lent closed after one two)
+
+-- what was lent is of the wire that the handle is of
+pub same_wire : (back : Option Handle) (lent handle closed : Handle) → IfSome back (HandsBack lent) → HandsBack handle closed → lent ≡ handle → IfSome back (λ other. other.wire ≡ closed.wire)
+same_wire None lent handle closed one two same = tt
+same_wire (Some other) lent handle closed one two same = one.wire ∙ (ap (λ (h : Handle). h.wire) same ∙ sym two.wire)
+
+-- two facts of what was answered, for a third
+pub if_both : {X E : Type 0} (answer : Result X E) (P Q T : X → Type 0) → ((x : X) → P x → Q x → T x) → IfOk answer P → IfOk answer Q → IfOk answer T
+if_both (Ok x) P Q T so one two = so x one two
+if_both (Err error) P Q T so one two = tt
+
+-- want of memory is no refusal
+pub unlit_want : {M X Q : Type 0} (P : IgniteError → Type 0) (error : ErrorKindOf M X Q) → IsWant error → IfUnlit error P
+unlit_want P (NoMemory kept) want = tt
+unlit_want P (Ignition fault listener clock) want = absurd want
+
+pub gives_want : {M X Q : Type 0} (listener : X) (clock : Q) (error : ErrorKindOf M X Q) → IsWant error → GivesBack listener clock error
+gives_want listener clock (NoMemory kept) want = tt
+gives_want listener clock (Ignition fault l c) want = absurd want

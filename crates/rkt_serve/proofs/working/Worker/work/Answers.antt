@@ -1,0 +1,34 @@
+use Rattle.std.proofs.Common.{◌∙◌, ap, sym}
+use Rattle.rkt_link.proofs.Telling.{tells_then}
+use Rattle.rkt_serve.proofs.Handles.{hands_back_more}
+use Rattle.rkt_serve.proofs.Resting.{busy_given, busy_trip, rest_end, rest_trip}
+use Rattle.rkt_serve.proofs.working.Worker.work.Goals as goal
+
+pub loop-preserved : goal.loop-preserved
+loop-preserved g c =
+    let inv = c.loop.invariant in
+    let turned = c.in-Given.ensures.turned in
+    let served = c.serve_given.ensures in
+    let busy = busy_given c.loop.board.book.marks.items c.turn.new.board.book.marks.items c.in-Given.number c.in-Given.moment turned.0 inv.6 turned.2 in (
+      tt,
+      tt,
+      served.keeps,
+      served.name ∙ (c.turn.ensures.name ∙ inv.3),
+      tells_then _ _ _ inv.4 (tells_then _ _ _ c.turn.ensures.clock served.clock),
+      hands_back_more _ _ _ inv.5 c.in-Some-serve_given.ensures.handle,
+      rest_end served.adds.2 c.serve_given.new.board.book.marks.items c.in-Given.number served.adds.1 served.adds.0 (busy_trip c.in-Given.number 0 c.turn.new.board.book.marks.items served.adds.2 busy served.adds.3) served.adds.4,
+      c.in-Some-serve_given.ensures.handle.wire ∙ (inv.7 ∙ sym (ap (λ n. n.handle.value.wire) (served.name ∙ c.turn.ensures.name))),
+    )
+
+pub returns-in-None-serve_given-clause-rest : goal.returns-in-None-serve_given-clause-rest
+returns-in-None-serve_given-clause-rest g c =
+    let inv = c.loop.invariant in
+    let turned = c.in-Given.ensures.turned in
+    let served = c.serve_given.ensures in
+    let busy = busy_given c.loop.board.book.marks.items c.turn.new.board.book.marks.items c.in-Given.number c.in-Given.moment turned.0 inv.6 turned.2 in
+    rest_end served.adds.2 c.serve_given.new.board.book.marks.items c.in-Given.number served.adds.1 served.adds.0 (busy_trip c.in-Given.number 0 c.turn.new.board.book.marks.items served.adds.2 busy served.adds.3) served.adds.4
+
+pub returns-in-Tripped-clause-rest : goal.returns-in-Tripped-clause-rest
+returns-in-Tripped-clause-rest g c =
+    let turned = c.in-Tripped.ensures.turned in
+    rest_trip c.loop.board.book.marks.items c.turn.new.board.book.marks.items 0 turned.0 turned.1 c.loop.invariant.6 turned.2

@@ -1,0 +1,207 @@
+//! The work of the caller over a board: each link that the listener gives is served, until it ends or the wire is tripped.
+ghost use Rattle.std.specs.Prelude.{◌≡◌, ◌<◌, ◌++◌, ℕ, [], List, Some, true, false, IfNone, IfSome};
+ghost use Rattle.std.specs.List.{AllByRecursion, list_any};
+ghost use Rattle.std.specs.Option.{ForSome};
+ghost use Rattle.rkt_turn.specs.HandsBack.{HandsBack};
+ghost use Rattle.rkt_link.specs.Clock.{TellsOn};
+ghost use Rattle.rkt_link.specs.Listener.{IsFresh, Settled};
+ghost use Rattle.rkt_board.specs.Board.{IsBlank, Keeps};
+ghost use Rattle.rkt_board.specs.Events.{is_close, admitted, trip_of};
+ghost use Rattle.rkt_board.specs.Marks.{events};
+ghost use Rattle.rkt_board.specs.Turns.{mark, AddsOne, IsGiven, MayClose, ShowsTrip, StaysOpen, TripsAs};
+ghost use Rattle.rkt_board.specs.declared.history.EntryOf.{EntryOf};
+ghost use Rattle.rkt_board.specs.declared.history.EventOf.TheVariants.{End};
+ghost use Rattle.rkt_board.specs.declared.mark.MarkOf.{MarkOf};
+ghost use Rattle.rkt_serve.specs.Headline.{IsCallers, IsLegal};
+ghost use Rattle.rkt_serve.specs.Lent.{cause_of};
+ghost use Rattle.rkt_serve.specs.Rest.{IsAtRest};
+ghost use Rattle.rkt_serve.specs.Serving.{serving};
+
+use crate::causes::Lent;
+use crate::working::{CALLER, Worker};
+use crate::{Clock, Link, Listener};
+use rkt_base::Seq;
+use rkt_board::{
+    BoardOf, Book, Called, Closed, Event, Mark, Turned, close, down, end, finish, lift, rejoin,
+    turn,
+};
+use rkt_life::{App, Tables};
+use rkt_turn::Shutdown;
+use std::alloc::Global;
+use std::sync::Wait;
+
+// Gives a handle that has seen a word to the board, which then has its Trip, or hands it back.
+fn note_word<'b, A: App, L: Listener, C: Clock>(
+    board: &mut BoardOf<'b, A, Lent<'b, Tables<A>>, L, C>,
+    handle: Shutdown<A::Reason>,
+) -> Option<Shutdown<A::Reason>>
+where
+    L::Link: Link<Source = A::Source>,
+    requires keeps { Keeps L.Link.meaning L.meaning C.meaning (cause_of A.Reason.allowed A.Fairing.Requests.calling A.Fairing.Responses.calling A.Handler.calling A.Catch.calling A.Source.meaning A.Stream.meaning L.Link.meaning) board.old }
+    requires wire { handle.wire ≡ board.old.name.handle.value.wire }
+    requires unclosed { list_any is_close (events board.old.book.marks.items) ≡ false }
+    ensures name { board.new.name ≡ board.old.name }
+    ensures unseen { IfSome result (λ back. (back ≡ handle) × (back.seen ≡ 0)) }
+    ensures trip { IfNone result (ShowsTrip (Some handle.seen) (events board.new.book.marks.items)) }
+    ensures adds { TripsAs 0 board.old.book.marks.items board.new.book.marks.items }
+    ensures stays { StaysOpen L.Link.meaning board.old.book.marks.items board.new.book.marks.items }
+    ensures clock { TellsOn (C.meaning board.old.near.clock) (C.meaning board.new.near.clock) }
+    ensures keeps { Keeps L.Link.meaning L.meaning C.meaning (cause_of A.Reason.allowed A.Fairing.Requests.calling A.Fairing.Responses.calling A.Handler.calling A.Catch.calling A.Source.meaning A.Stream.meaning L.Link.meaning) board.new }
+{
+    if handle.seen() == 0 {
+        return Some(handle);
+    }
+    rejoin::<A, Lent<'b, Tables<A>>, L, C>(board, CALLER, handle);
+    None
+}
+
+impl<'a, A: App, R: Wait> Worker<'a, A, R> {
+    // Serves a link that was admitted, to its End, and hands the handle back. Where that has seen a word, the board has it
+    // from then on, and its Trip stands before the End.
+    fn serve_given<'b, L: Listener, C: Clock>(
+        &self,
+        board: &mut BoardOf<'b, A, Lent<'b, Tables<A>>, L, C>,
+        number: u64,
+        moment: u64,
+        link: L::Link,
+        shutdown: Shutdown<A::Reason>,
+    ) -> Option<Shutdown<A::Reason>>
+    where
+        L::Link: Link<Source = A::Source>,
+        requires keeps { Keeps L.Link.meaning L.meaning C.meaning (cause_of A.Reason.allowed A.Fairing.Requests.calling A.Fairing.Responses.calling A.Handler.calling A.Catch.calling A.Source.meaning A.Stream.meaning L.Link.meaning) board.old }
+        requires tables { board.old.name.served.now.tables.now ≡ self.now.tables.now }
+        requires wire { shutdown.wire ≡ board.old.name.handle.value.wire }
+        requires unclosed { list_any is_close (events board.old.book.marks.items) ≡ false }
+        requires given { IsGiven L.Link.meaning board.old.book.marks.items 0 number (C.meaning board.old.near.clock).last link }
+        ensures name { board.new.name ≡ board.old.name }
+        ensures adds { (entry : EntryOf A.Cached A.Stream L.Link) × (ended : ℕ) × (between : List (MarkOf A.Cached A.Stream L.Link))
+            × TripsAs 0 board.old.book.marks.items between × AddsOne between board.new.book.marks.items (mark 0 (End number entry ended 0)) }
+        ensures handle { IfSome result (HandsBack shutdown) }
+        ensures clock { TellsOn (C.meaning board.old.near.clock) (C.meaning board.new.near.clock) }
+        ensures keeps { Keeps L.Link.meaning L.meaning C.meaning (cause_of A.Reason.allowed A.Fairing.Requests.calling A.Fairing.Responses.calling A.Handler.calling A.Catch.calling A.Source.meaning A.Stream.meaning L.Link.meaning) board.new }
+    {
+        let (entry, back) = self.serve(link, shutdown, moment, &mut board.near.clock);
+        let back = note_word::<A, L, C>(board, back);
+        end::<A, Lent<'b, Tables<A>>, L, C>(board, CALLER, number, entry);
+        back
+    }
+
+    // Takes turns of the caller, until nothing more is admitted, and hands the handle back that the board has not.
+    pub(crate) fn work<'b, L: Listener, C: Clock>(
+        &self,
+        board: &mut BoardOf<'b, A, Lent<'b, Tables<A>>, L, C>,
+        mut shutdown: Shutdown<A::Reason>,
+    ) -> Option<Shutdown<A::Reason>>
+    where
+        L::Link: Link<Source = A::Source>,
+        requires keeps { Keeps L.Link.meaning L.meaning C.meaning (cause_of A.Reason.allowed A.Fairing.Requests.calling A.Fairing.Responses.calling A.Handler.calling A.Catch.calling A.Source.meaning A.Stream.meaning L.Link.meaning) board.old }
+        requires tables { board.old.name.served.now.tables.now ≡ self.now.tables.now }
+        requires wire { shutdown.wire ≡ board.old.name.handle.value.wire }
+        requires rest { IsAtRest board.old.book.marks.items }
+        ensures name { board.new.name ≡ board.old.name }
+        ensures rest { IsAtRest board.new.book.marks.items }
+        ensures handle { IfSome result (HandsBack shutdown) }
+        ensures clock { TellsOn (C.meaning board.old.near.clock) (C.meaning board.new.near.clock) }
+        ensures keeps { Keeps L.Link.meaning L.meaning C.meaning (cause_of A.Reason.allowed A.Fairing.Requests.calling A.Fairing.Responses.calling A.Handler.calling A.Catch.calling A.Source.meaning A.Stream.meaning L.Link.meaning) board.new }
+    {
+        for _ in self.rt.forever() {
+            match turn::<A, Lent<'b, Tables<A>>, L, C>(board, CALLER) {
+                Turned::Again => {}
+                Turned::Given {
+                    number,
+                    moment,
+                    link,
+                } => match self.serve_given(board, number, moment, link, shutdown) {
+                    Some(back) => shutdown = back,
+                    None => return None,
+                },
+                Turned::Tripped => return Some(shutdown),
+                Turned::Stop => return Some(shutdown),
+            }
+        }
+        unreachable!()
+    }
+}
+
+// Enters the Down, where there is a Trip.
+fn bring_down<'b, A: App, L: Listener, C: Clock>(
+    board: &mut BoardOf<'b, A, Lent<'b, Tables<A>>, L, C>,
+    calls: Seq<Called>,
+)
+where
+    L::Link: Link<Source = A::Source>,
+    requires keeps { Keeps L.Link.meaning L.meaning C.meaning (cause_of A.Reason.allowed A.Fairing.Requests.calling A.Fairing.Responses.calling A.Handler.calling A.Catch.calling A.Source.meaning A.Stream.meaning L.Link.meaning) board.old }
+    requires rest { IsAtRest board.old.book.marks.items }
+    requires none_called { calls ≡ [] }
+    ensures name { board.new.name ≡ board.old.name }
+    ensures closes { MayClose board.new.book.marks.items }
+    ensures callers { AllByRecursion IsCallers (events board.new.book.marks.items) }
+    ensures keeps { Keeps L.Link.meaning L.meaning C.meaning (cause_of A.Reason.allowed A.Fairing.Requests.calling A.Fairing.Responses.calling A.Handler.calling A.Catch.calling A.Source.meaning A.Stream.meaning L.Link.meaning) board.new }
+{
+    if board.book.tripped {
+        down::<A, Lent<'b, Tables<A>>, L, C>(board, CALLER, calls);
+    }
+}
+
+// Enters the Close.
+fn bring_to_close<'b, A: App, L: Listener, C: Clock>(
+    board: &mut BoardOf<'b, A, Lent<'b, Tables<A>>, L, C>,
+)
+where
+    L::Link: Link<Source = A::Source>,
+    requires keeps { Keeps L.Link.meaning L.meaning C.meaning (cause_of A.Reason.allowed A.Fairing.Requests.calling A.Fairing.Responses.calling A.Handler.calling A.Catch.calling A.Source.meaning A.Stream.meaning L.Link.meaning) board.old }
+    requires closes { MayClose board.old.book.marks.items }
+    requires callers { AllByRecursion IsCallers (events board.old.book.marks.items) }
+    ensures name { board.new.name ≡ board.old.name }
+    ensures closed { list_any is_close (events board.new.book.marks.items) ≡ true }
+    ensures callers { AllByRecursion IsCallers (events board.new.book.marks.items) }
+    ensures keeps { Keeps L.Link.meaning L.meaning C.meaning (cause_of A.Reason.allowed A.Fairing.Requests.calling A.Fairing.Responses.calling A.Handler.calling A.Catch.calling A.Source.meaning A.Stream.meaning L.Link.meaning) board.new }
+{
+    close::<A, Lent<'b, Tables<A>>, L, C>(board, CALLER);
+}
+
+/// Serves on the caller alone, from the Lift of a board to its Close, and hands out what is left, and the handle that was
+/// lent to the exchanges where the board has not taken that.
+pub(crate) fn serve_to_close<A: App, R: Wait, L: Listener, C: Clock>(
+    rt: &R,
+    alloc: Global,
+    tables: &Tables<A>,
+    book: Book<Mark<A, L::Link>, Event<A, L::Link>>,
+    listener: L,
+    clock: C,
+    handle: Shutdown<A::Reason>,
+    shutdown: Shutdown<A::Reason>,
+) -> (Closed<A, L, C>, Option<Shutdown<A::Reason>>)
+where
+    L::Link: Link<Source = A::Source>,
+    requires blank { IsBlank book }
+    requires fresh { IsFresh (L.meaning listener) }
+    requires wire { shutdown.wire ≡ handle.wire }
+    ensures legal { IsLegal A.Reason.allowed (serving A.Fairing.Requests.calling A.Fairing.Responses.calling A.Handler.calling A.Catch.calling A.Source.meaning A.Stream.meaning L.Link.meaning (C.meaning clock).window) tables.now (L.meaning result.0.listener).given result.0.history.events }
+    ensures clock { TellsOn (C.meaning clock) (C.meaning result.0.clock) }
+    // Its handle has seen the word of the Trip, and one that had seen a word admits nothing.
+    ensures word { ForSome (trip_of result.0.history.events) (λ trip. result.0.handle.seen ≡ trip.0) }
+    ensures still { 0 < handle.seen → admitted result.0.history.events ≡ 0 }
+    ensures handle { HandsBack handle result.0.handle }
+    ensures lent { IfSome result.1 (HandsBack shutdown) }
+    ensures settled { Settled (L.meaning listener) (L.meaning result.0.listener) }
+    ensures ended { result.0.over ≡ true → (L.meaning result.0.listener).ended ≡ true }
+    ensures offers { result.0.over ≡ true → ForSome (L.meaning listener).offers (λ all. (L.meaning result.0.listener).given ≡ Some all) }
+{
+    let lent = Lent { tables };
+    let mut board = lift::<A, Lent<'_, Tables<A>>, L, C>(
+        book,
+        &lent,
+        listener,
+        clock,
+        handle,
+        CALLER,
+        Seq::new(alloc),
+    );
+    let worker: Worker<'_, A, R> = Worker { rt, alloc, tables };
+    let back = worker.work(&mut board, shutdown);
+    bring_down::<A, L, C>(&mut board, Seq::new(alloc));
+    bring_to_close::<A, L, C>(&mut board);
+    let closed = finish::<A, Lent<'_, Tables<A>>, L, C>(board);
+    (closed, back)
+}
