@@ -7,9 +7,11 @@ returns-in-Ready-Given-clause-turned g c = (c.of.result, c.of.ensures, pushed _ 
 
 pub returns-in-Ready-Given-clause-given : goal.returns-in-Ready-Given-clause-given
 returns-in-Ready-Given-clause-given g c =
-    let after = keeps_room _ _ _ _ c.args.board.now c.make_room.new.book c.requires.keeps c.make_room.ensures.same in
-    (c.requires.moment.0, given_now _ _ _ _ (with_book c.args.board.now c.make_room.new.book) c.push_reserved.new.self c.args.by c.args.moment _ c.of.result c.in-Ready-Given.link after
-    c.push_reserved.ensures.items c.of.ensures c.requires.unseen (omega (arith, c.requires.moment.0)) (search rules))
+    let after = keeps_room _ _ _ _ c.args.board.now c.make_room.new.book c.requires.keeps c.make_room.ensures.same in (
+      c.requires.moment.0,
+      given_now _ _ _ _ (with_book c.args.board.now c.make_room.new.book) c.push_reserved.new.self c.args.by c.args.moment _ c.of.result c.in-Ready-Given.link after
+          c.push_reserved.ensures.items c.of.ensures c.requires.unseen (omega (arith, c.requires.moment.0)) (search rules),
+    )
 
 pub returns-in-Ready-Given-clause-keeps : goal.returns-in-Ready-Given-clause-keeps
 returns-in-Ready-Given-clause-keeps g c =
