@@ -8,9 +8,12 @@ pub trait Reason: Copy {
     // What it says of the word of one reason.
     ghost says: { Self → ℕ → Type 0 } = { λ _ _. Unit {0} };
 
-    /// The word of this reason.
+    // Whether a reason has a word. One that has none stops nothing.
+    ghost stops: { Self → Type 0 } = { λ _. Unit {0} };
+
+    /// The word of this reason, or 0 where it has none.
     fn word(self) -> u64
-        ensures nonzero { 0 < result }
+        ensures nonzero { stops self → 0 < result }
         ensures says { says self result }
-        ensures allowed { allowed result };
+        ensures allowed { 0 < result → allowed result };
 }

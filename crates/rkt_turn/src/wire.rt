@@ -1,5 +1,5 @@
 //! The wire and its handles.
-ghost use Rattle.std.specs.Prelude.{◌≡◌, ◌+◌, ◌<◌, [], max, IfOk, IfSome, IfNone};
+ghost use Rattle.std.specs.Prelude.{◌≡◌, ◌+◌, ◌<◌, ℕ, [], max, IfOk, IfSome, IfNone};
 ghost use Rattle.std.specs.Arc.{arc_value};
 
 use crate::glance::{Copies, Glance, Looks, Settles, Trips, Twins, WireRule};
@@ -118,20 +118,22 @@ impl<R: Reason> Shutdown<R> {
         }
     }
 
-    /// Trips the wire, if nobody has. Afterwards this handle has seen the word that stands.
+    /// Trips the wire, if nobody has. Afterwards this handle has seen the word that stands. A reason that has no word changes
+    /// nothing.
     pub fn notify(&mut self, reason: R)
         ensures wire { self.new.wire ≡ self.old.wire }
         ensures again { 0 < self.old.seen → self.new ≡ self.old }
         ensures looked { self.new.looked ≡ self.old.looked }
 
-        ensures seen { 0 < self.new.seen }
-        ensures allowed { R.allowed self.new.seen }
+        ensures seen { R.stops reason → 0 < self.new.seen }
+        ensures allowed { 0 < self.new.seen → R.allowed self.new.seen }
         ensures stands { self.old.seen ≡ 0 → Stands R.allowed (R.says reason) self.new.seen }
+        ensures unchanged { ((word : ℕ) → R.says reason word → word ≡ 0) → self.new ≡ self.old }
     {
-        if self.seen != 0 {
+        let new = reason.word();
+        if self.seen != 0 || new == 0 {
             return;
         }
-        let new = reason.word();
         let found = self
             .wire
             .shared
