@@ -1,5 +1,5 @@
 //! Handles of a wire, in one thread and in two.
-ghost use Rattle.std.specs.Prelude.{◌≡◌, ◌<◌};
+ghost use Rattle.std.specs.Prelude.{◌≡◌};
 
 use crate::crossing::wire_crosses;
 use cases::{CaseError, first_word, parsed, push_item};
@@ -9,11 +9,10 @@ use std::alloc::Global;
 use std::sync::Wait;
 use std::thread::{Threads, join, yield_now};
 
-/// A reason whose word a line says.
+/// A reason whose word a line says. With 0 it has none.
 #[derive(Clone, Copy)]
 struct Why {
     word: u64,
-    ghost some: { 0 < word },
 }
 
 impl Reason for Why {
@@ -23,18 +22,26 @@ impl Reason for Why {
 
     ghost says = { λ why word. word ≡ why.word };
 
+    ghost stops = { λ why. 0 < why.word };
+
     fn word(self) -> u64 {
         self.word
     }
 }
 
-/// The reason of a word, which is not 0.
+/// The reason of a word, or that without one.
 fn parse_why(text: &str) -> Result<Why, CaseError> {
     let word = parsed::<u64>(text)?;
-    if word == 0 {
+    Ok(Why { word })
+}
+
+/// The reason of a word, which is not 0.
+fn parse_told(text: &str) -> Result<Why, CaseError> {
+    let why = parse_why(text)?;
+    if why.word == 0 {
         return Err(CaseError::Line);
     }
-    Ok(Why { word })
+    Ok(why)
 }
 
 /// Two handles of one wire.
@@ -199,7 +206,7 @@ pub fn push_threads<R: Threads + Wait + Sync>(
     out: &mut String,
 ) -> Result<(), CaseError> {
     let (one, two) = first_word(words);
-    let [waited, notified, before, late] = seen_words(rt, alloc, parse_why(one)?, parse_why(two)?)?;
+    let [waited, notified, before, late] = seen_words(rt, alloc, parse_told(one)?, parse_told(two)?)?;
     write!(out, "waited={waited} notified={notified}")?;
     Ok(write!(out, " before={before} late={late}")?)
 }
