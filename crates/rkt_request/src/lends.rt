@@ -22,7 +22,7 @@ impl<T: Types> Ctx<T> {
             (record { shuts = T.Source.shuts })
             (record { meaning = T.Stream.meaning; polled = T.Stream.polled })
             (record { shuts = T.Stream.shuts })
-            (record { allowed = T.Reason.allowed; says = T.Reason.says })
+            (record { allowed = T.Reason.allowed; says = T.Reason.says; stops = T.Reason.stops })
             (record { is_clone = T.Reason.is_clone; is_infallible = T.Reason.is_infallible }))
             jar_row self.entry result (with_jar self.old)) }
         ensures value { result.now ≡ self.old.kept.jar }
@@ -39,10 +39,10 @@ impl<T: Types> Ctx<T> {
             (record { shuts = T.Source.shuts })
             (record { meaning = T.Stream.meaning; polled = T.Stream.polled })
             (record { shuts = T.Stream.shuts })
-            (record { allowed = T.Reason.allowed; says = T.Reason.says })
+            (record { allowed = T.Reason.allowed; says = T.Reason.says; stops = T.Reason.stops })
             (record { is_clone = T.Reason.is_clone; is_infallible = T.Reason.is_infallible }))
             (shutdown_row T.Reason.row
-            (record { allowed = T.Reason.allowed; says = T.Reason.says })
+            (record { allowed = T.Reason.allowed; says = T.Reason.says; stops = T.Reason.stops })
             (record { is_clone = T.Reason.is_clone; is_infallible = T.Reason.is_infallible }))
             self.entry result (with_shutdown self.old)) }
         ensures value { result.now ≡ self.old.kept.shutdown }
