@@ -1,5 +1,4 @@
-//! What is called at the events of a rocket's life. Such a callback may change the fairing itself. Those of liftoff and of a
-//! shutdown are called by nobody yet.
+//! What is called at the events of a rocket's life. Such a callback may change the fairing itself at ignition and at liftoff.
 ghost use Rattle.std.specs.Prelude.{Result};
 
 use crate::{Building, Parts, View};
