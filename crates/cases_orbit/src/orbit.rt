@@ -4,6 +4,7 @@ use crate::site::{Site, Stopped};
 use cases::CaseError;
 use rkt_base::{NoMemory, Seq};
 use rkt_fairing::{Fairings, Slot, ViewOf};
+use rkt_life::{DefaultCatcher, Ignite, Orbit as InOrbit, Rocket, TablesOf};
 use rkt_orbit::{Called, down_room, liftoff, shut_down};
 use rkt_request::{Config, ConfigTable, Managed};
 use rkt_router::{Dummy, Router};
@@ -16,7 +17,7 @@ pub struct Orbit {
     fairings: Fairings<Actor>,
     config: Config,
     managed: Managed<u32>,
-    router: Router<Dummy, u32, ()>,
+    router: Router<Dummy, DefaultCatcher, ()>,
     shutdown: Shutdown<Stopped>,
 }
 
@@ -36,6 +37,43 @@ impl Orbit {
     /// The same, with the configuration by default.
     pub fn with_default(alloc: Global) -> Result<Orbit, NoMemory> {
         Orbit::new(alloc, Config::default(alloc)?)
+    }
+
+    /// The rocket that is made of it.
+    pub fn into_rocket(self, alloc: Global) -> Rocket<Ignite, Site> {
+        let Orbit {
+            fairings,
+            config,
+            managed,
+            router,
+            shutdown,
+        } = self;
+        let tables = TablesOf {
+            router,
+            fairings,
+            config,
+            managed,
+        };
+        let table = ConfigTable::new(alloc);
+        Rocket::<InOrbit, Site>::from_parts(tables, table, shutdown).into_ignite()
+    }
+
+    /// What a rocket has.
+    pub fn of_rocket(rocket: Rocket<Ignite, Site>) -> Orbit {
+        let (tables, _table, shutdown) = rocket.into_orbit().into_parts();
+        let TablesOf {
+            router,
+            fairings,
+            config,
+            managed,
+        } = tables;
+        Orbit {
+            fairings,
+            config,
+            managed,
+            router,
+            shutdown,
+        }
     }
 
     pub fn fairings(&self) -> &Fairings<Actor> {

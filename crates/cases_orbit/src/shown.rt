@@ -13,11 +13,16 @@ fn called_text(called: Called) -> &'static str {
     }
 }
 
+/// Adds how a call ended.
+pub fn push_called(out: &mut String, called: Called) -> Result<(), NoMemory> {
+    write!(out, " {}", called_text(called))
+}
+
 /// Adds how calls ended.
 pub fn push_calls(out: &mut String, calls: &[Called]) -> Result<(), NoMemory> {
     write!(out, "{} calls", calls.len())?;
     for called in calls {
-        write!(out, " {}", called_text(*called))?;
+        push_called(out, *called)?;
     }
     Ok(())
 }

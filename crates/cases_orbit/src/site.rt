@@ -1,6 +1,7 @@
 //! The application whose rocket is in orbit.
+use crate::actor::Actor;
 use rkt_data::MemorySource;
-use rkt_fairing::Parts;
+use rkt_life::{App, DefaultCatcher, Parts};
 use rkt_request::Types;
 use rkt_router::Dummy;
 use rkt_turn::Reason;
@@ -33,7 +34,11 @@ impl Types for Site {
 impl Parts for Site {
     type Handler = Dummy;
 
-    type Catch = u32;
+    type Catch = DefaultCatcher;
 
     type Sentinel = ();
+}
+
+impl App for Site {
+    type Fairing = Actor;
 }

@@ -14,9 +14,9 @@ use Rattle.rkt_link.specs.Listener.{ListenerMeaning, GivesMore, Settled}
 use Rattle.rkt_board.proofs.Core.{any_by}
 use Rattle.rkt_board.proofs.Counting.{or_false, length_events, unclosed_yet, counts_push, counts_end, counts_admit, fresh_number, opens_some, none_open, open_none}
 use Rattle.rkt_board.proofs.Holding.{told_none, holds_push, holds_admit, holds_clock, holds_handle, holds_listener, seen_before, untripped, legal_push, carries_admit, length-carries}
-use Rattle.rkt_board.proofs.Pushes.{any_push, map_push, word_old, word_new, get_last}
+use Rattle.rkt_board.proofs.Pushes.{any_push, map_push, word_old, word_new, get_last, lift_push}
 use Rattle.rkt_board.specs.Board.{left, TimedIn, Holds, Counts, BookOf, Counted, IsBlank, SameBook, BoardAs, Keeps}
-use Rattle.rkt_board.specs.Events.{is_trip, is_admit, is_down, is_close, moment_of, latest, admits_by, admits_until, admitted, ends, trip_word, InOrder}
+use Rattle.rkt_board.specs.Events.{is_trip, is_admit, is_down, is_close, moment_of, latest, lift_calls, admits_by, admits_until, admitted, ends, trip_word, InOrder}
 use Rattle.rkt_board.specs.Marks.{events, carries, IsOwn, AsksAt, Legal}
 use Rattle.rkt_board.specs.Turns.{mark, admit_mark, IsOpen, IsGiven, IsRunOf, MayClose}
 use Rattle.rkt_board.specs.declared.history.EntryOf.{EntryOf}
@@ -71,9 +71,9 @@ module _ {C S K P L Q : Type 0} (links : K → LinkMeaning) (listeners : L → L
   -- the first event
   pub keeps_lift : (s : BoardAs C S K P L Q) (b : BookOf C S K) (by : ℕ) (calls : _) → IsBlank b → s.book.history ≡ b.history → s.book.admitted ≡ b.admitted → s.book.opens ≡ b.opens
       → s.book.tripped ≡ b.tripped → s.book.down ≡ b.down → s.book.closed ≡ b.closed → s.book.marks.items ≡ mark by (Lift calls) ∷ [] → vec_capacity b.marks ≤ vec_capacity s.book.marks
-      → s.near.listener ≡ s.name.listener.value → s.near.clock ≡ s.name.clock.value → s.near.handle ≡ s.name.handle.value → s.near.over ≡ false
+      → s.near.listener ≡ s.name.listener.value → s.near.clock ≡ s.name.clock.value → s.near.handle ≡ s.name.handle.value → s.near.over ≡ false → s.name.calls.value ≡ calls
       → cause s.name.served.now (clocks s.name.clock.value).window [] (Lift calls) → Keeps links listeners clocks cause s
-  keeps_lift s b by calls blank history gave opens trip down closed items grows listener clock handle over caused =
+  keeps_lift s b by calls blank history gave opens trip down closed items grows listener clock handle over called caused =
       let ms = s.book.marks.items in
       let one : length ms ≡ 1 = ap length items in
       let es : events ms ≡ Lift calls ∷ [] = ap (λ ms. events ms) items in
@@ -82,6 +82,7 @@ module _ {C S K P L Q : Type 0} (links : K → LinkMeaning) (listeners : L → L
       ∙ (ap (λ t. left 0 false t s.book.closed) (down ∙ blank.up) ∙ ap (λ t. left 0 false false t) (closed ∙ blank.unclosed))) in
       record {
         begun = let n : ℕ = length ms in let g : 0 < n = omega (arith, one) in g;
+        lifted = ap lift_calls es ∙ sym called;
         holds = record {
           wire = ap (λ h. h.wire) handle;
           word = λ t. absurd (cc (sym (ap (list_any is_trip) es) ∙ t));
@@ -111,6 +112,14 @@ module _ {C S K P L Q : Type 0} (links : K → LinkMeaning) (listeners : L → L
         legal = rw items record { ordered = ((refl, refl), tt); caused = (caused, tt); own = (tt, tt); asks = (tt, tt) };
       }
 
+  pub begun_events : (s : BoardAs C S K P L Q) → Keeps links listeners clocks cause s → 0 < length (events s.book.marks.items)
+  begun_events s k = subst (λ (n : ℕ). 0 < n) (sym (length_events s.book.marks.items)) k.begun
+
+  -- the Lift still stands first
+  lifted_push : (s : BoardAs C S K P L Q) (v : Vec (MarkOf C S K) Global) (m : MarkOf C S K) → Keeps links listeners clocks cause s
+      → v.items ≡ s.book.marks.items ++ m ∷ [] → lift_calls (events v.items) ≡ s.name.calls.value
+  lifted_push s v m k items = ap (λ ms. lift_calls (events ms)) items ∙ (ap lift_calls (map_push (λ m. m.event) s.book.marks.items m) ∙ (lift_push (events s.book.marks.items) m.event (begun_events s k) ∙ k.lifted))
+
   -- one event more, which opens and ends nothing
   pub keeps_push : (s : BoardAs C S K P L Q) (v : Vec (MarkOf C S K) Global) (m : MarkOf C S K) (tripped down closed : Bool) → Keeps links listeners clocks cause s
       → v.items ≡ s.book.marks.items ++ m ∷ [] → vec_capacity s.book.marks ≤ vec_capacity v → is_admit m.event ≡ false → ((k : ℕ) → ends k m.event ≡ false)
@@ -122,14 +131,12 @@ module _ {C S K P L Q : Type 0} (links : K → LinkMeaning) (listeners : L → L
       → Keeps links listeners clocks cause (with_book s (with_marks s.book v s.book.opens tripped down closed))
   keeps_push s v m tripped down closed k items grows other none t d l less timed late seen order caused own asks = record {
     begun = let x : ℕ = length v.items in let y : x ≡ length s.book.marks.items + 1 = ap length items ∙ length-append s.book.marks.items (m ∷ []) in let g : 0 < x = omega (arith, y) in g;
+    lifted = lifted_push s v m k items;
     holds = subst (Holds links listeners clocks s.name s.near) (sym items) (holds_push links listeners clocks s.name s.near s.book.marks.items m k.holds other timed late seen);
     counted = counted_push s.book v m s.book.opens tripped down closed k.counted items grows
         (counts_push s.book.marks.items m s.book.admitted s.book.opens s.book.tripped s.book.down s.book.closed tripped down closed k.counted.counts other none t d l) less;
     legal = subst (Legal links (cause s.name.served.now (clocks s.name.clock.value).window)) (sym items) (legal_push links (cause s.name.served.now (clocks s.name.clock.value).window) s.book.marks.items m k.legal order caused own asks);
   }
-
-  pub begun_events : (s : BoardAs C S K P L Q) → Keeps links listeners clocks cause s → 0 < length (events s.book.marks.items)
-  begun_events s k = subst (λ (n : ℕ). 0 < n) (sym (length_events s.book.marks.items)) k.begun
 
   pub keeps_trip : (s : BoardAs C S K P L Q) (v : Vec (MarkOf C S K) Global) (by word moment : ℕ) → Keeps links listeners clocks cause s
       → v.items ≡ s.book.marks.items ++ mark by (Trip word moment) ∷ [] → vec_capacity s.book.marks ≤ vec_capacity v → s.book.tripped ≡ false → s.book.closed ≡ false
@@ -207,6 +214,7 @@ module _ {C S K P L Q : Type 0} (links : K → LinkMeaning) (listeners : L → L
       let some : 0 < s.book.opens = opens_one s by number (links entry.link).asked k open_at in
       record {
         begun = let x : ℕ = length v.items in let y : x ≡ length s.book.marks.items + 1 = ap length items ∙ length-append s.book.marks.items (m ∷ []) in let g : 0 < x = omega (arith, y) in g;
+        lifted = lifted_push s v m k items;
         holds = subst (Holds links listeners clocks s.name s.near) (sym items) (holds_push links listeners clocks s.name s.near s.book.marks.items m k.holds refl (within, λ run is. (ran run is).2) late
             (seen_before links listeners clocks s.name s.near s.book.marks.items e k.holds refl));
         counted = counted_push s.book v m (s.book.opens - 1) s.book.tripped s.book.down s.book.closed k.counted items grows
@@ -256,6 +264,7 @@ module _ {C S K P L Q : Type 0} (links : K → LinkMeaning) (listeners : L → L
       let more : length v.items ≡ length s.book.marks.items + 1 = ap length items ∙ length-append s.book.marks.items (m ∷ []) in
       record {
         begun = let x : ℕ = length v.items in let y : x ≡ length s.book.marks.items + 1 = more in let g : 0 < x = omega (arith, y) in g;
+        lifted = lifted_push s v m k items;
         holds = subst (Holds links listeners clocks s.name (record { listener = listener; clock = s.near.clock; handle = s.near.handle; over = s.near.over })) (sym items)
             (holds_admit links listeners clocks s.name s.near listener s.book.marks.items by s.book.admitted moment copy k.holds k.legal.ordered unseen looked ongoing late within gives settled);
         counted = record {
@@ -274,13 +283,13 @@ module _ {C S K P L Q : Type 0} (links : K → LinkMeaning) (listeners : L → L
 
   -- the clock is read
   pub keeps_clock : (s : BoardAs C S K P L Q) (clock : Q) → Keeps links listeners clocks cause s → TellsOn (clocks s.near.clock) (clocks clock) → Keeps links listeners clocks cause (with_clock s clock)
-  keeps_clock s clock k on = record { begun = k.begun; holds = holds_clock links listeners clocks s.name s.near clock s.book.marks.items k.holds on; counted = k.counted; legal = k.legal }
+  keeps_clock s clock k on = record { begun = k.begun; lifted = k.lifted; holds = holds_clock links listeners clocks s.name s.near clock s.book.marks.items k.holds on; counted = k.counted; legal = k.legal }
 
   -- the handle has looked, or another one was taken in
   pub keeps_handle : (s : BoardAs C S K P L Q) (handle : Handle) → Keeps links listeners clocks cause s
       → handle.wire ≡ s.near.handle.wire → s.near.handle.looked ≤ handle.looked → (0 < s.near.handle.seen → handle.seen ≡ s.near.handle.seen)
       → Keeps links listeners clocks cause (with_handle s handle)
-  keeps_handle s handle k wire looked again = record { begun = k.begun; holds = holds_handle links listeners clocks s.name s.near handle s.book.marks.items k.holds k.legal.ordered wire looked again; counted = k.counted; legal = k.legal }
+  keeps_handle s handle k wire looked again = record { begun = k.begun; lifted = k.lifted; holds = holds_handle links listeners clocks s.name s.near handle s.book.marks.items k.holds k.legal.ordered wire looked again; counted = k.counted; legal = k.legal }
 
   -- the same book, with more room
   pub keeps_room : (s : BoardAs C S K P L Q) (b : BookOf C S K) → Keeps links listeners clocks cause s → SameBook s.book b → Keeps links listeners clocks cause (with_book s b)
@@ -289,6 +298,7 @@ module _ {C S K P L Q : Type 0} (links : K → LinkMeaning) (listeners : L → L
       let n : length b.marks.items ≡ length s.book.marks.items = ap length same.marks in
       record {
         begun = rw same.marks k.begun;
+        lifted = rw same.marks k.lifted;
         holds = rw same.marks k.holds;
         counted = record {
           counts = rw (same.marks, same.given, same.opens, same.tripped, same.down, same.closed) k.counted.counts;
@@ -304,7 +314,7 @@ module _ {C S K P L Q : Type 0} (links : K → LinkMeaning) (listeners : L → L
       → Settled (listeners s.near.listener) (listeners listener)
       → (over ≡ true → ((listeners listener).ended ≡ true) × ForSome (listeners s.near.listener).offers (λ all. (listeners s.near.listener).given ≡ Some all))
       → Keeps links listeners clocks cause (record { name = s.name; book = s.book; near = record { listener = listener; clock = s.near.clock; handle = s.near.handle; over = over } })
-  keeps_listener s listener over k same settled ends = record { begun = k.begun; holds = holds_listener links listeners clocks s.name s.near listener over s.book.marks.items k.holds same settled ends; counted = k.counted; legal = k.legal }
+  keeps_listener s listener over k same settled ends = record { begun = k.begun; lifted = k.lifted; holds = holds_listener links listeners clocks s.name s.near listener over s.book.marks.items k.holds same settled ends; counted = k.counted; legal = k.legal }
 
   -- a clock and a wire are looked at
   pub keeps_look : (s : BoardAs C S K P L Q) (clock : Q) (handle : Handle) → Keeps links listeners clocks cause s → TellsOn (clocks s.near.clock) (clocks clock) → handle.wire ≡ s.near.handle.wire

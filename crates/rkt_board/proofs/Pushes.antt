@@ -5,7 +5,7 @@ use Rattle.std.proofs.lemmas.List.Folds.{list_any-append}
 use Rattle.std.proofs.lemmas.Bool.Decides.{nat_tests}
 use Rattle.std.specs.List.{list_any, AllByRecursion, count_by}
 use Rattle.rkt_board.specs.After.{AfterFrom}
-use Rattle.rkt_board.specs.Events.{is_trip, ends, moment_of, latest, ended_below, trip_of, trip_word, word_of, end_of}
+use Rattle.rkt_board.specs.Events.{is_trip, ends, moment_of, latest, ended_below, lift_calls, trip_of, trip_word, word_of, end_of}
 use Rattle.rkt_board.specs.declared.history.EventOf.{EventOf}
 use Rattle.rkt_board.specs.declared.history.EventOf.TheVariants.{Lift, Trip, Admit, End, Down, Close}
 use Rattle.rkt_board.specs.declared.history.EntryOf.{EntryOf}
@@ -153,3 +153,14 @@ module _ {C S K : Type 0} where
   pub ended_same : (n : ℕ) (xs : List (EventOf C S K)) (e : EventOf C S K) → ((k : ℕ) → ends k e ≡ false) → ended_below n (xs ++ e ∷ []) ≡ ended_below n xs
   ended_same zero xs e other = refl
   ended_same (suc n) xs e other = let t : list_any (ends n) (xs ++ e ∷ []) ≡ list_any (ends n) xs = grind (arith, common_steps, any_push (ends n) xs e, other n) in λ i. cond (t i) 1 0 + ended_same n xs e other i
+
+module _ {C S K : Type 0} where
+  -- what stands first stays
+  pub lift_push : (es : List (EventOf C S K)) (e : EventOf C S K) → 0 < length es → lift_calls (es ++ e ∷ []) ≡ lift_calls es
+  lift_push [] e some = absurd (omega (arith, some))
+  lift_push (Lift calls ∷ es) e some = refl
+  lift_push (Trip w m ∷ es) e some = refl
+  lift_push (Admit n m b ∷ es) e some = refl
+  lift_push (End n x m b ∷ es) e some = refl
+  lift_push (Down calls ∷ es) e some = refl
+  lift_push (Close m ∷ es) e some = refl

@@ -7,7 +7,7 @@ use Rattle.rkt_link.specs.Asked.{Asked}
 use Rattle.rkt_link.specs.Clock.{ClockMeaning, IsWithin, TellsOn}
 use Rattle.rkt_link.specs.Link.{LinkMeaning}
 use Rattle.rkt_link.specs.Listener.{ListenerMeaning, Settled}
-use Rattle.rkt_board.specs.Events.{is_trip, is_down, is_close, admitted, ended_below, latest, trip_word}
+use Rattle.rkt_board.specs.Events.{is_trip, is_down, is_close, admitted, ended_below, latest, lift_calls, trip_word}
 use Rattle.rkt_board.specs.Marks.{events, carries, Legal}
 use Rattle.rkt_board.specs.declared.board.Board.{Board}
 use Rattle.rkt_board.specs.declared.board.Book.{Book}
@@ -102,6 +102,8 @@ module _ {C S K P L Q : Type 0} (links : K → LinkMeaning) (listeners : L → L
   -- what stands behind each event is what is served says under the window of the clock
   pub record Keeps (cause : P → Option (ℕ × ℕ) → List (EventOf C S K) → EventOf C S K → Type 0) (board : BoardAs C S K P L Q) : Type 0 where
     pub begun : 0 < length board.book.marks.items
+    -- the Lift stands first, with the calls at liftoff
+    pub lifted : lift_calls (events board.book.marks.items) ≡ board.name.calls.value
     pub holds : Holds board.name board.near board.book.marks.items
     pub counted : Counted board.book
     pub legal : Legal links (cause board.name.served.now (clocks board.name.clock.value).window) board.book.marks.items

@@ -3,6 +3,7 @@ use Rattle.std.specs.Prelude.{◌≡◌, ◌<◌, ◌≤◌, ◌+◌, ◌++◌, 
 use Rattle.std.specs.List.{list_any, count_by}
 use Rattle.std.specs.Option.{ForSome}
 use Rattle.rkt_board.specs.After.{AfterFrom}
+use Rattle.rkt_orbit.specs.declared.called.Called.{Called}
 use Rattle.rkt_board.specs.declared.history.EntryOf.{EntryOf}
 use Rattle.rkt_board.specs.declared.history.EventOf.{EventOf}
 use Rattle.rkt_board.specs.declared.history.EventOf.TheVariants.{Lift, Trip, Admit, End, Down, Close}
@@ -110,6 +111,16 @@ module _ {C S K : Type 0} where
   abbrev pub ended_below : ℕ → List (EventOf C S K) → ℕ
   ended_below zero events = 0
   ended_below (suc n) events = cond (list_any (ends n) events) 1 0 + ended_below n events
+
+  -- how the callbacks of liftoff ended, where a Lift stands first
+  abbrev pub lift_calls : List (EventOf C S K) → List Called
+  lift_calls [] = []
+  lift_calls (Lift calls ∷ es) = calls
+  lift_calls (Trip w m ∷ es) = []
+  lift_calls (Admit n m b ∷ es) = []
+  lift_calls (End n e m b ∷ es) = []
+  lift_calls (Down calls ∷ es) = []
+  lift_calls (Close m ∷ es) = []
 
   -- the word and the moment of the first Trip
   abbrev pub trip_of : List (EventOf C S K) → Option (ℕ × ℕ)

@@ -10,7 +10,7 @@ use Rattle.rkt_board.specs.Events.{is_trip, is_down, is_close, admits, admits_by
 use Rattle.rkt_board.specs.Marks.{events, carries}
 use Rattle.rkt_board.specs.declared.board.Turned.{Turned}
 use Rattle.rkt_board.specs.declared.board.Turned.TheVariants.{Given, Tripped, Again, Stop}
-use Rattle.rkt_board.specs.declared.history.Called.{Called}
+use Rattle.rkt_orbit.specs.declared.called.Called.{Called}
 use Rattle.rkt_board.specs.declared.history.EntryOf.{EntryOf}
 use Rattle.rkt_board.specs.declared.history.EventOf.{EventOf}
 use Rattle.rkt_board.specs.declared.history.EventOf.TheVariants.{Trip, Admit, Down, Close}

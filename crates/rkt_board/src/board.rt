@@ -1,17 +1,20 @@
 //! The state of a launch.
 use crate::{Event, Mark};
+use rkt_base::Seq;
 use rkt_link::Listener;
+use rkt_orbit::Called;
 use rkt_request::Types;
 use rkt_turn::Shutdown;
 use std::snapshot::Snapshot;
 
-/// What a board stands for: what is served, and the rest as it was handed in.
+/// What a board stands for: what is served, the calls at liftoff, and the rest as it was handed in.
 #[derive(Drop)]
 pub struct Name<'a, P, L, C, H> {
     pub served: &'a P,
     pub listener: Snapshot<L>,
     pub clock: Snapshot<C>,
     pub handle: Snapshot<H>,
+    pub calls: Snapshot<Seq<Called>>,
 }
 
 /// What has happened, counted, with room for what is to come and for the history of it all.

@@ -8,7 +8,7 @@ ghost use Rattle.rkt_link.specs.Listener.{Settled};
 ghost use Rattle.rkt_board.specs.After.{AfterFrom};
 ghost use Rattle.rkt_board.specs.Board.{Keeps, TimedIn};
 ghost use Rattle.rkt_board.specs.Closed.{AllAdmitted, HasEntry};
-ghost use Rattle.rkt_board.specs.Events.{is_close, admitted, trip_of, Ordered, IsClosed, EachEndsOnce};
+ghost use Rattle.rkt_board.specs.Events.{is_close, admitted, lift_calls, trip_of, Ordered, IsClosed, EachEndsOnce};
 ghost use Rattle.rkt_board.specs.Marks.{events};
 
 use crate::{Board, BoardOf, Book, Event, History, HistoryOf, Mark, MarkOf, Near, Served};
@@ -63,6 +63,7 @@ pub fn finish<'a, A: Types, P: Served<A, L::Link>, L: Listener, C: Clock>(
     requires closed { list_any is_close (events board.book.marks.items) ≡ true }
     requires fresh { ForSome (L.meaning board.name.listener.value).given (λ given. given ≡ []) }
     ensures history { result.history.events ≡ events board.entry.book.marks.items }
+    ensures lifted { lift_calls result.history.events ≡ board.entry.name.calls.value }
     ensures near { (result.listener ≡ board.entry.near.listener) × (result.clock ≡ board.entry.near.clock) × (result.handle ≡ board.entry.near.handle) × (result.over ≡ board.entry.near.over) }
     ensures ordered { Ordered result.history.events }
     ensures caused { AfterFrom (P.cause board.entry.name.served.now (C.meaning board.entry.name.clock.value).window) [] result.history.events }
@@ -73,6 +74,8 @@ pub fn finish<'a, A: Types, P: Served<A, L::Link>, L: Listener, C: Clock>(
         → HasEntry L.Link.meaning (P.cause board.entry.name.served.now (C.meaning board.entry.name.clock.value).window) (L.meaning result.listener).given result.history.events k }
     ensures moments { AllByRecursion (TimedIn (C.meaning board.entry.name.clock.value).window) result.history.events }
     ensures clock { TellsOn (C.meaning board.entry.name.clock.value) (C.meaning result.clock) }
+    // The wire was looked at once for each link at least.
+    ensures looked { board.entry.name.handle.value.looked + admitted result.history.events ≤ result.handle.looked }
     // The handle has seen the word of the Trip, and one that had seen a word admits nothing.
     ensures word { ForSome (trip_of result.history.events) (λ trip. result.handle.seen ≡ trip.0) }
     ensures still { 0 < board.entry.name.handle.value.seen → admitted result.history.events ≡ 0 }

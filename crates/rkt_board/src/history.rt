@@ -9,16 +9,9 @@ use rkt_base::{NoMemory, Seq};
 use rkt_lifecycle::RunOf;
 use rkt_link::Boxed;
 use rkt_message::Response;
+use rkt_orbit::Called;
 use rkt_request::Types;
 use std::alloc::Global;
-
-/// How the call of a callback of liftoff, or of a shutdown, ended.
-#[derive(Clone, Copy, Debug, PartialEq, Eq)]
-pub enum Called {
-    Done,
-    FailedTurn,
-    Starved,
-}
 
 /// Why a response could not be sent.
 #[derive(Clone, Copy, Debug, PartialEq, Eq)]

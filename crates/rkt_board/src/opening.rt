@@ -4,9 +4,10 @@ ghost use Rattle.rkt_board.specs.Board.{IsBlank, Keeps};
 ghost use Rattle.rkt_board.specs.Turns.{mark};
 ghost use Rattle.rkt_board.specs.declared.history.EventOf.TheVariants.{Lift};
 
-use crate::{Board, BoardOf, Book, Called, Event, EventOf, Mark, MarkOf, Name, Near, Served};
+use crate::{Board, BoardOf, Book, Event, EventOf, Mark, MarkOf, Name, Near, Served};
 use rkt_base::{NoMemory, Seq};
 use rkt_link::{Clock, Listener};
+use rkt_orbit::Called;
 use rkt_request::Types;
 use rkt_turn::Shutdown;
 use std::alloc::Global;
@@ -46,21 +47,22 @@ pub fn lift<'a, A: Types, P: Served<A, L::Link>, L: Listener, C: Clock>(
 ) -> BoardOf<'a, A, P, L, C>
     requires blank { IsBlank book }
     requires caused { P.cause served.now (C.meaning clock).window [] (Lift calls) }
-    ensures name { (result.name.served ≡ served.entry) × (result.name.listener.value ≡ listener) × (result.name.clock.value ≡ clock) × (result.name.handle.value ≡ handle) }
+    ensures name { (result.name.served ≡ served.entry) × (result.name.listener.value ≡ listener) × (result.name.clock.value ≡ clock) × (result.name.handle.value ≡ handle) × (result.name.calls.value ≡ calls) }
     ensures adds { result.book.marks.items ≡ mark by (Lift calls) ∷ [] }
     ensures keeps { Keeps L.Link.meaning L.meaning C.meaning P.cause result }
 {
-    book.marks.push_reserved(MarkOf {
-        by,
-        event: EventOf::Lift { calls },
-        link: None,
-    });
     let name = Name {
         served,
         listener: Snapshot::of(&listener),
         clock: Snapshot::of(&clock),
         handle: Snapshot::of(&handle),
+        calls: Snapshot::of(&calls),
     };
+    book.marks.push_reserved(MarkOf {
+        by,
+        event: EventOf::Lift { calls },
+        link: None,
+    });
     let near = Near {
         listener,
         clock,

@@ -8,9 +8,10 @@ ghost use Rattle.rkt_board.specs.Marks.{events};
 ghost use Rattle.rkt_board.specs.Turns.{mark, AddsOne, TurnedAs, StopsAs, GivesAs, DownsAs, ClosesAs, TripsAs, ShowsTrip, StaysOpen, MayDown, MayClose, IsOpen, IsRunOf};
 ghost use Rattle.rkt_board.specs.declared.history.EventOf.TheVariants as event;
 
-use crate::{BoardOf, Book, Called, Entry, EventOf, MarkOf, Served, Turned};
+use crate::{BoardOf, Book, Entry, EventOf, MarkOf, Served, Turned};
 use rkt_base::{Poll, Seq};
 use rkt_link::{Accepted, Clock, Link, Listener};
+use rkt_orbit::Called;
 use rkt_request::Types;
 use rkt_turn::Shutdown;
 use std::snapshot::Snapshot;

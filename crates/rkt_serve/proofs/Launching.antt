@@ -8,6 +8,7 @@ use Rattle.rkt_life.specs.Rocket.{SeenRocket}
 use Rattle.rkt_link.specs.Asked.{Asked}
 use Rattle.rkt_link.specs.Clock.{ClockMeaning, TellsOn}
 use Rattle.rkt_link.specs.Listener.{ListenerMeaning, Settled}
+use Rattle.rkt_orbit.specs.Calls.{CallingAtShutdown}
 use Rattle.rkt_turn.specs.HandsBack.{HandsBack}
 use Rattle.rkt_turn.specs.Shutdown.{Handle}
 use Rattle.rkt_board.specs.Closed.{AllAdmitted, HasEntry as Entered}
@@ -26,13 +27,13 @@ use Rattle.rkt_serve.specs.Left.{IsLeft}
 use Rattle.rkt_serve.specs.Serving.{Serving}
 use Rattle.rkt_serve.specs.declared.error.LaunchedOf.{LaunchedOf}
 
-module _ {V S C R F FTask GTask H HTask K KTask L N X Q : Type 0} (allowed : ℕ → Type 0) (served : Serving V S C R F FTask GTask H HTask K KTask L) (listeners : X → ListenerMeaning) (tables : SeenTables F H K N V)
+module _ {V S C R F FTask GTask STask H HTask K KTask L N X Q : Type 0} (allowed : ℕ → Type 0) (shuts : CallingAtShutdown H K N V F STask) (served : Serving V S C R F FTask GTask H HTask K KTask L) (listeners : X → ListenerMeaning) (tables : SeenTables F H K N V)
     (table : List (List ℕ × List ℕ)) (closed : ClosedOf X Q Handle (HistoryOf C R L)) where
   abbrev IsMade : LaunchedOf (SeenRocket F H K N V) X Q (HistoryOf C R L) → Type 0
   IsMade launched = IsLeft tables table closed launched
 
-  pub left_legal : (launched : LaunchedOf (SeenRocket F H K N V) X Q (HistoryOf C R L)) → IsMade launched → IsLegal allowed served tables (listeners closed.listener).given closed.history.events
-      → IsLegal allowed served launched.rocket.tables (listeners launched.listener).given launched.history.events
+  pub left_legal : (launched : LaunchedOf (SeenRocket F H K N V) X Q (HistoryOf C R L)) → IsMade launched → IsLegal allowed shuts served tables (listeners closed.listener).given closed.history.events
+      → IsLegal allowed shuts served launched.rocket.tables (listeners launched.listener).given launched.history.events
   left_legal launched is legal = rw (is.tables_are, is.listener, is.history) legal
 
 -- the same, of a board whose handle had not come back
@@ -74,14 +75,14 @@ module _ {F H K N V X Q C R L : Type 0} (tables : SeenTables F H K N V) (table :
   pub left_window : (clocks : Q → ClockMeaning) (old : ClockMeaning) → TellsOn old (clocks closed.clock) → (clocks launched.clock).window ≡ old.window
   left_window clocks old tells = rw is.clock tells.window
 
-module _ {V S C R F FTask GTask H HTask K KTask L N : Type 0} (allowed : ℕ → Type 0) (served : Serving V S C R F FTask GTask H HTask K KTask L) (tables : SeenTables F H K N V) where
-  pub entry_of : (given : Option (List Asked)) (es : List (EventOf C R L)) (k : ℕ) → Entered served.links (CauseAt allowed served tables) given es k → HasEntry served tables given es k
+module _ {V S C R F FTask GTask STask H HTask K KTask L N : Type 0} (allowed : ℕ → Type 0) (shuts : CallingAtShutdown H K N V F STask) (served : Serving V S C R F FTask GTask H HTask K KTask L) (tables : SeenTables F H K N V) where
+  pub entry_of : (given : Option (List Asked)) (es : List (EventOf C R L)) (k : ℕ) → Entered served.links (CauseAt allowed shuts served tables) given es k → HasEntry served tables given es k
   entry_of given es k entered = record { entry = entered.entry; found = entered.found; caused = entered.caused; asks = entered.asks }
 
   -- what is known of a closed board is what is legal
-  pub legal_of : (given : Option (List Asked)) (es seen : List (EventOf C R L)) → Ordered es → IsClosed es → AllCaused allowed served tables es → EachEndsOnce es
-      → ((k : ℕ) → k < admitted es → Entered served.links (CauseAt allowed served tables) given es k) → AllAdmitted given es → AllTimed served.window es → AllByRecursion IsCallers seen → es ≡ seen
-      → IsLegal allowed served tables given es
+  pub legal_of : (given : Option (List Asked)) (es seen : List (EventOf C R L)) → Ordered es → IsClosed es → AllCaused allowed shuts served tables es → EachEndsOnce es
+      → ((k : ℕ) → k < admitted es → Entered served.links (CauseAt allowed shuts served tables) given es k) → AllAdmitted given es → AllTimed served.window es → AllByRecursion IsCallers seen → es ≡ seen
+      → IsLegal allowed shuts served tables given es
   legal_of given es seen ordered closed caused once entries all_admitted timed callers is = record {
     ordered = ordered;
     closed = closed;
@@ -93,14 +94,14 @@ module _ {V S C R F FTask GTask H HTask K KTask L N : Type 0} (allowed : ℕ →
     callers = subst (AllByRecursion IsCallers) (sym is) callers;
   }
 
--- a handle that was looked at more, and then taken back
-pub back_to : (first lent closed after : Handle) → lent ≡ first → HandsBack lent closed → HandsBack closed after → HandsBack first after
-back_to first lent closed after same one two = subst (λ (h : Handle). HandsBack h after) same (hands_back_more lent closed after one two)
+-- a handle that liftoff had, that was looked at more, and then taken back
+pub back_to : (first lent left closed after : Handle) → lent ≡ first → HandsBack lent left → HandsBack left closed → HandsBack closed after → HandsBack first after
+back_to first lent left closed after same lifted one two = subst (λ (h : Handle). HandsBack h after) same (hands_back_more lent left after lifted (hands_back_more left closed after one two))
 
 -- what was lent is of the wire that the handle is of
-pub same_wire : (back : Option Handle) (lent handle closed : Handle) → IfSome back (HandsBack lent) → HandsBack handle closed → lent ≡ handle → IfSome back (λ other. other.wire ≡ closed.wire)
+pub same_wire : (back : Option Handle) (lent handle closed : Handle) → IfSome back (HandsBack lent) → HandsBack handle closed → lent.wire ≡ handle.wire → IfSome back (λ other. other.wire ≡ closed.wire)
 same_wire None lent handle closed one two same = tt
-same_wire (Some other) lent handle closed one two same = one.wire ∙ (ap (λ (h : Handle). h.wire) same ∙ sym two.wire)
+same_wire (Some other) lent handle closed one two same = one.wire ∙ (same ∙ sym two.wire)
 
 -- two facts of what was answered, for a third
 pub if_both : {X E : Type 0} (answer : Result X E) (P Q T : X → Type 0) → ((x : X) → P x → Q x → T x) → IfOk answer P → IfOk answer Q → IfOk answer T

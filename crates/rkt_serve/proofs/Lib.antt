@@ -5,5 +5,6 @@ pub mod BodyReads
 pub mod Resting
 pub mod Sendings
 pub mod Launching
+pub mod Lifting
 pub mod Lighting
 pub mod Handles

@@ -7,7 +7,7 @@ use Rattle.rkt_board.proofs.Pushes.{all_push, any_push, map_push}
 use Rattle.rkt_board.specs.Events.{is_trip, is_down, is_close, admits, ends}
 use Rattle.rkt_board.specs.Marks.{events}
 use Rattle.rkt_board.specs.Turns.{mark, admit_mark, DownsAs, ClosesAs, MayClose, TripsAs}
-use Rattle.rkt_board.specs.declared.history.Called.{Called}
+use Rattle.rkt_orbit.specs.declared.called.Called.{Called}
 use Rattle.rkt_board.specs.declared.history.EntryOf.{EntryOf}
 use Rattle.rkt_board.specs.declared.history.EventOf.{EventOf}
 use Rattle.rkt_board.specs.declared.history.EventOf.TheVariants.{Lift, Trip, Admit, End, Down, Close}

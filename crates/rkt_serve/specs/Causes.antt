@@ -9,7 +9,10 @@ use Rattle.rkt_message.specs.Sending.{ReadOn}
 use Rattle.rkt_message.specs.declared.piece.Piece.{Piece}
 use Rattle.rkt_routing.specs.Routed.{turns_of}
 use Rattle.rkt_board.specs.After.{AfterFrom}
+use Rattle.rkt_orbit.specs.Calls.{CallingAtShutdown}
+use Rattle.rkt_orbit.specs.ShutsDown.{ShutsDown}
 use Rattle.rkt_serve.specs.Lifecycle.{Lifecycle}
+use Rattle.rkt_serve.specs.Lifted.{view_of}
 use Rattle.rkt_serve.specs.Sent.{IsSentAs}
 use Rattle.rkt_serve.specs.Serving.{Serving, callbacks_of}
 use Rattle.rkt_board.specs.declared.history.End.{End as Ending}
@@ -47,14 +50,14 @@ module _ {V S C R F FTask GTask H HTask K KTask L N : Type 0} (served : Serving 
   abbrev pub Caused : EntryOf C R L → Type 0
   Caused entry = CausedAs entry entry.end
 
-module _ {V S C R F FTask GTask H HTask K KTask L N : Type 0} (allowed : ℕ → Type 0) (served : Serving V S C R F FTask GTask H HTask K KTask L) (tables : SeenTables F H K N V) where
-  -- what stands behind an event that follows those before it: an End has its cause, and a Trip a word that is allowed; no callback was called at the Lift and at the Down
+module _ {V S C R F FTask GTask STask H HTask K KTask L N : Type 0} (allowed : ℕ → Type 0) (shuts : CallingAtShutdown H K N V F STask) (served : Serving V S C R F FTask GTask H HTask K KTask L) (tables : SeenTables F H K N V) where
+  -- what stands behind an event that follows those before it: an End has its cause, a Trip a word that is allowed, and a Down one call of each fairing that is called at a shutdown
   abbrev pub CauseAt : List (EventOf C R L) → EventOf C R L → Type 0
-  CauseAt before (Lift calls) = calls ≡ []
+  CauseAt before (Lift calls) = Unit {0}
   CauseAt before (Trip word moment) = allowed word
   CauseAt before (Admit number moment by) = Unit {0}
   CauseAt before (End number entry moment by) = Caused served tables entry
-  CauseAt before (Down calls) = calls ≡ []
+  CauseAt before (Down calls) = ShutsDown shuts (view_of tables) tables.fairings calls
   CauseAt before (Close moment) = Unit {0}
 
   abbrev pub AllCaused : List (EventOf C R L) → Type 0

@@ -9,6 +9,7 @@ use Rattle.rkt_link.specs.Listener.{ListenerMeaning}
 use Rattle.rkt_board.specs.Board.{TimedIn}
 use Rattle.rkt_board.specs.Closed.{AllAdmitted}
 use Rattle.rkt_board.specs.Events.{is_trip, admitted, end_of, Ordered, IsClosed, EachEndsOnce}
+use Rattle.rkt_orbit.specs.Calls.{CallingAtShutdown}
 use Rattle.rkt_serve.specs.Serving.{Serving}
 use Rattle.rkt_board.specs.declared.history.EntryOf.{EntryOf}
 use Rattle.rkt_board.specs.declared.history.EventOf.{EventOf}
@@ -40,12 +41,12 @@ module _ {V S C R F FTask GTask H HTask K KTask L N : Type 0} (served : Serving 
     pub caused : Caused served tables entry
     pub asks : ForSome given (λ asks. (served.links entry.link).asked ≡ slice_get asks k)
 
-module _ {V S C R F FTask GTask H HTask K KTask L N : Type 0} (allowed : ℕ → Type 0) (served : Serving V S C R F FTask GTask H HTask K KTask L) (tables : SeenTables F H K N V) where
+module _ {V S C R F FTask GTask STask H HTask K KTask L N : Type 0} (allowed : ℕ → Type 0) (shuts : CallingAtShutdown H K N V F STask) (served : Serving V S C R F FTask GTask H HTask K KTask L) (tables : SeenTables F H K N V) where
   -- a history that is legal and closed, with what the listener has given
   pub record IsLegal (given : Option (List Asked)) (events : List (EventOf C R L)) : Type 0 where
     pub ordered : Ordered events
     pub closed : IsClosed events
-    pub caused : AllCaused allowed served tables events
+    pub caused : AllCaused allowed shuts served tables events
     pub once : EachEndsOnce events
     pub entries : (k : ℕ) → k < admitted events → HasEntry served tables given events k
     pub all_admitted : AllAdmitted given events

@@ -5,6 +5,7 @@ pub mod Kept
 pub mod Left
 pub mod Lent
 pub mod Lifecycle
+pub mod Lifted
 pub mod Progress
 pub mod Rest
 pub mod Said

@@ -1,12 +1,12 @@
 //! The work of the caller over a board: each link that the listener gives is served, until it ends or the wire is tripped.
-ghost use Rattle.std.specs.Prelude.{◌≡◌, ◌<◌, ◌++◌, ℕ, [], List, Some, true, false, IfNone, IfSome};
+ghost use Rattle.std.specs.Prelude.{◌≡◌, ◌<◌, ◌≤◌, ◌+◌, ◌++◌, ℕ, [], List, Some, true, false, IfNone, IfSome, length, vec_capacity};
 ghost use Rattle.std.specs.List.{AllByRecursion, list_any};
 ghost use Rattle.std.specs.Option.{ForSome};
 ghost use Rattle.rkt_turn.specs.HandsBack.{HandsBack};
 ghost use Rattle.rkt_link.specs.Clock.{TellsOn};
 ghost use Rattle.rkt_link.specs.Listener.{IsFresh, Settled};
 ghost use Rattle.rkt_board.specs.Board.{IsBlank, Keeps};
-ghost use Rattle.rkt_board.specs.Events.{is_close, admitted, trip_of};
+ghost use Rattle.rkt_board.specs.Events.{is_close, admitted, lift_calls, trip_of};
 ghost use Rattle.rkt_board.specs.Marks.{events};
 ghost use Rattle.rkt_board.specs.Turns.{mark, AddsOne, IsGiven, MayClose, ShowsTrip, StaysOpen, TripsAs};
 ghost use Rattle.rkt_board.specs.declared.history.EntryOf.{EntryOf};
@@ -18,14 +18,16 @@ ghost use Rattle.rkt_serve.specs.Rest.{IsAtRest};
 ghost use Rattle.rkt_serve.specs.Serving.{serving};
 
 use crate::causes::Lent;
+use crate::orbit::shut_tables;
 use crate::working::{CALLER, Worker};
 use crate::{Clock, Link, Listener};
 use rkt_base::Seq;
 use rkt_board::{
-    BoardOf, Book, Called, Closed, Event, Mark, Turned, close, down, end, finish, lift, rejoin,
+    BoardOf, Book, Closed, Event, Mark, Turned, close, down, end, finish, lift, rejoin,
     turn,
 };
 use rkt_life::{App, Tables};
+use rkt_orbit::Called;
 use rkt_turn::Shutdown;
 use std::alloc::Global;
 use std::sync::Wait;
@@ -37,7 +39,7 @@ fn note_word<'b, A: App, L: Listener, C: Clock>(
 ) -> Option<Shutdown<A::Reason>>
 where
     L::Link: Link<Source = A::Source>,
-    requires keeps { Keeps L.Link.meaning L.meaning C.meaning (cause_of A.Reason.allowed A.Fairing.Requests.calling A.Fairing.Responses.calling A.Handler.calling A.Catch.calling A.Source.meaning A.Stream.meaning L.Link.meaning) board.old }
+    requires keeps { Keeps L.Link.meaning L.meaning C.meaning (cause_of A.Reason.allowed A.Fairing.Shuts.calling A.Fairing.Requests.calling A.Fairing.Responses.calling A.Handler.calling A.Catch.calling A.Source.meaning A.Stream.meaning L.Link.meaning) board.old }
     requires wire { handle.wire ≡ board.old.name.handle.value.wire }
     requires unclosed { list_any is_close (events board.old.book.marks.items) ≡ false }
     ensures name { board.new.name ≡ board.old.name }
@@ -46,7 +48,7 @@ where
     ensures adds { TripsAs 0 board.old.book.marks.items board.new.book.marks.items }
     ensures stays { StaysOpen L.Link.meaning board.old.book.marks.items board.new.book.marks.items }
     ensures clock { TellsOn (C.meaning board.old.near.clock) (C.meaning board.new.near.clock) }
-    ensures keeps { Keeps L.Link.meaning L.meaning C.meaning (cause_of A.Reason.allowed A.Fairing.Requests.calling A.Fairing.Responses.calling A.Handler.calling A.Catch.calling A.Source.meaning A.Stream.meaning L.Link.meaning) board.new }
+    ensures keeps { Keeps L.Link.meaning L.meaning C.meaning (cause_of A.Reason.allowed A.Fairing.Shuts.calling A.Fairing.Requests.calling A.Fairing.Responses.calling A.Handler.calling A.Catch.calling A.Source.meaning A.Stream.meaning L.Link.meaning) board.new }
 {
     if handle.seen() == 0 {
         return Some(handle);
@@ -68,7 +70,7 @@ impl<'a, A: App, R: Wait> Worker<'a, A, R> {
     ) -> Option<Shutdown<A::Reason>>
     where
         L::Link: Link<Source = A::Source>,
-        requires keeps { Keeps L.Link.meaning L.meaning C.meaning (cause_of A.Reason.allowed A.Fairing.Requests.calling A.Fairing.Responses.calling A.Handler.calling A.Catch.calling A.Source.meaning A.Stream.meaning L.Link.meaning) board.old }
+        requires keeps { Keeps L.Link.meaning L.meaning C.meaning (cause_of A.Reason.allowed A.Fairing.Shuts.calling A.Fairing.Requests.calling A.Fairing.Responses.calling A.Handler.calling A.Catch.calling A.Source.meaning A.Stream.meaning L.Link.meaning) board.old }
         requires tables { board.old.name.served.now.tables.now ≡ self.now.tables.now }
         requires wire { shutdown.wire ≡ board.old.name.handle.value.wire }
         requires unclosed { list_any is_close (events board.old.book.marks.items) ≡ false }
@@ -78,7 +80,7 @@ impl<'a, A: App, R: Wait> Worker<'a, A, R> {
             × TripsAs 0 board.old.book.marks.items between × AddsOne between board.new.book.marks.items (mark 0 (End number entry ended 0)) }
         ensures handle { IfSome result (HandsBack shutdown) }
         ensures clock { TellsOn (C.meaning board.old.near.clock) (C.meaning board.new.near.clock) }
-        ensures keeps { Keeps L.Link.meaning L.meaning C.meaning (cause_of A.Reason.allowed A.Fairing.Requests.calling A.Fairing.Responses.calling A.Handler.calling A.Catch.calling A.Source.meaning A.Stream.meaning L.Link.meaning) board.new }
+        ensures keeps { Keeps L.Link.meaning L.meaning C.meaning (cause_of A.Reason.allowed A.Fairing.Shuts.calling A.Fairing.Requests.calling A.Fairing.Responses.calling A.Handler.calling A.Catch.calling A.Source.meaning A.Stream.meaning L.Link.meaning) board.new }
     {
         let (entry, back) = self.serve(link, shutdown, moment, &mut board.near.clock);
         let back = note_word::<A, L, C>(board, back);
@@ -94,7 +96,7 @@ impl<'a, A: App, R: Wait> Worker<'a, A, R> {
     ) -> Option<Shutdown<A::Reason>>
     where
         L::Link: Link<Source = A::Source>,
-        requires keeps { Keeps L.Link.meaning L.meaning C.meaning (cause_of A.Reason.allowed A.Fairing.Requests.calling A.Fairing.Responses.calling A.Handler.calling A.Catch.calling A.Source.meaning A.Stream.meaning L.Link.meaning) board.old }
+        requires keeps { Keeps L.Link.meaning L.meaning C.meaning (cause_of A.Reason.allowed A.Fairing.Shuts.calling A.Fairing.Requests.calling A.Fairing.Responses.calling A.Handler.calling A.Catch.calling A.Source.meaning A.Stream.meaning L.Link.meaning) board.old }
         requires tables { board.old.name.served.now.tables.now ≡ self.now.tables.now }
         requires wire { shutdown.wire ≡ board.old.name.handle.value.wire }
         requires rest { IsAtRest board.old.book.marks.items }
@@ -102,7 +104,7 @@ impl<'a, A: App, R: Wait> Worker<'a, A, R> {
         ensures rest { IsAtRest board.new.book.marks.items }
         ensures handle { IfSome result (HandsBack shutdown) }
         ensures clock { TellsOn (C.meaning board.old.near.clock) (C.meaning board.new.near.clock) }
-        ensures keeps { Keeps L.Link.meaning L.meaning C.meaning (cause_of A.Reason.allowed A.Fairing.Requests.calling A.Fairing.Responses.calling A.Handler.calling A.Catch.calling A.Source.meaning A.Stream.meaning L.Link.meaning) board.new }
+        ensures keeps { Keeps L.Link.meaning L.meaning C.meaning (cause_of A.Reason.allowed A.Fairing.Shuts.calling A.Fairing.Requests.calling A.Fairing.Responses.calling A.Handler.calling A.Catch.calling A.Source.meaning A.Stream.meaning L.Link.meaning) board.new }
     {
         for _ in self.rt.forever() {
             match turn::<A, Lent<'b, Tables<A>>, L, C>(board, CALLER) {
@@ -123,22 +125,27 @@ impl<'a, A: App, R: Wait> Worker<'a, A, R> {
     }
 }
 
-// Enters the Down, where there is a Trip.
+// Calls the fairings of a shutdown and enters the Down, where there is a Trip.
 fn bring_down<'b, A: App, L: Listener, C: Clock>(
+    alloc: Global,
+    tables: &Tables<A>,
     board: &mut BoardOf<'b, A, Lent<'b, Tables<A>>, L, C>,
-    calls: Seq<Called>,
+    room: Vec<Called>,
 )
 where
     L::Link: Link<Source = A::Source>,
-    requires keeps { Keeps L.Link.meaning L.meaning C.meaning (cause_of A.Reason.allowed A.Fairing.Requests.calling A.Fairing.Responses.calling A.Handler.calling A.Catch.calling A.Source.meaning A.Stream.meaning L.Link.meaning) board.old }
+    requires keeps { Keeps L.Link.meaning L.meaning C.meaning (cause_of A.Reason.allowed A.Fairing.Shuts.calling A.Fairing.Requests.calling A.Fairing.Responses.calling A.Handler.calling A.Catch.calling A.Source.meaning A.Stream.meaning L.Link.meaning) board.old }
     requires rest { IsAtRest board.old.book.marks.items }
-    requires none_called { calls ≡ [] }
+    requires tables { board.old.name.served.now.tables.now ≡ tables.now }
+    requires empty { room.items ≡ [] }
+    requires room { length tables.now.fairings.places.shutdown ≤ vec_capacity room }
     ensures name { board.new.name ≡ board.old.name }
     ensures closes { MayClose board.new.book.marks.items }
     ensures callers { AllByRecursion IsCallers (events board.new.book.marks.items) }
-    ensures keeps { Keeps L.Link.meaning L.meaning C.meaning (cause_of A.Reason.allowed A.Fairing.Requests.calling A.Fairing.Responses.calling A.Handler.calling A.Catch.calling A.Source.meaning A.Stream.meaning L.Link.meaning) board.new }
+    ensures keeps { Keeps L.Link.meaning L.meaning C.meaning (cause_of A.Reason.allowed A.Fairing.Shuts.calling A.Fairing.Requests.calling A.Fairing.Responses.calling A.Handler.calling A.Catch.calling A.Source.meaning A.Stream.meaning L.Link.meaning) board.new }
 {
     if board.book.tripped {
+        let calls = shut_tables::<A>(alloc, tables, room);
         down::<A, Lent<'b, Tables<A>>, L, C>(board, CALLER, calls);
     }
 }
@@ -149,19 +156,19 @@ fn bring_to_close<'b, A: App, L: Listener, C: Clock>(
 )
 where
     L::Link: Link<Source = A::Source>,
-    requires keeps { Keeps L.Link.meaning L.meaning C.meaning (cause_of A.Reason.allowed A.Fairing.Requests.calling A.Fairing.Responses.calling A.Handler.calling A.Catch.calling A.Source.meaning A.Stream.meaning L.Link.meaning) board.old }
+    requires keeps { Keeps L.Link.meaning L.meaning C.meaning (cause_of A.Reason.allowed A.Fairing.Shuts.calling A.Fairing.Requests.calling A.Fairing.Responses.calling A.Handler.calling A.Catch.calling A.Source.meaning A.Stream.meaning L.Link.meaning) board.old }
     requires closes { MayClose board.old.book.marks.items }
     requires callers { AllByRecursion IsCallers (events board.old.book.marks.items) }
     ensures name { board.new.name ≡ board.old.name }
     ensures closed { list_any is_close (events board.new.book.marks.items) ≡ true }
     ensures callers { AllByRecursion IsCallers (events board.new.book.marks.items) }
-    ensures keeps { Keeps L.Link.meaning L.meaning C.meaning (cause_of A.Reason.allowed A.Fairing.Requests.calling A.Fairing.Responses.calling A.Handler.calling A.Catch.calling A.Source.meaning A.Stream.meaning L.Link.meaning) board.new }
+    ensures keeps { Keeps L.Link.meaning L.meaning C.meaning (cause_of A.Reason.allowed A.Fairing.Shuts.calling A.Fairing.Requests.calling A.Fairing.Responses.calling A.Handler.calling A.Catch.calling A.Source.meaning A.Stream.meaning L.Link.meaning) board.new }
 {
     close::<A, Lent<'b, Tables<A>>, L, C>(board, CALLER);
 }
 
-/// Serves on the caller alone, from the Lift of a board to its Close, and hands out what is left, and the handle that was
-/// lent to the exchanges where the board has not taken that.
+/// Serves on the caller alone, from the Lift of a board with these calls to its Close, and hands out what is left, and the handle
+/// that was lent to the exchanges where the board has not taken that. The calls at a shutdown stand in the room.
 pub(crate) fn serve_to_close<A: App, R: Wait, L: Listener, C: Clock>(
     rt: &R,
     alloc: Global,
@@ -171,13 +178,19 @@ pub(crate) fn serve_to_close<A: App, R: Wait, L: Listener, C: Clock>(
     clock: C,
     handle: Shutdown<A::Reason>,
     shutdown: Shutdown<A::Reason>,
+    calls: Seq<Called>,
+    room: Vec<Called>,
 ) -> (Closed<A, L, C>, Option<Shutdown<A::Reason>>)
 where
     L::Link: Link<Source = A::Source>,
     requires blank { IsBlank book }
     requires fresh { IsFresh (L.meaning listener) }
     requires wire { shutdown.wire ≡ handle.wire }
-    ensures legal { IsLegal A.Reason.allowed (serving A.Fairing.Requests.calling A.Fairing.Responses.calling A.Handler.calling A.Catch.calling A.Source.meaning A.Stream.meaning L.Link.meaning (C.meaning clock).window) tables.now (L.meaning result.0.listener).given result.0.history.events }
+    requires empty { room.items ≡ [] }
+    requires room { length tables.now.fairings.places.shutdown ≤ vec_capacity room }
+    ensures lifted { lift_calls result.0.history.events ≡ calls }
+    ensures looked { handle.looked + admitted result.0.history.events ≤ result.0.handle.looked }
+    ensures legal { IsLegal A.Reason.allowed A.Fairing.Shuts.calling (serving A.Fairing.Requests.calling A.Fairing.Responses.calling A.Handler.calling A.Catch.calling A.Source.meaning A.Stream.meaning L.Link.meaning (C.meaning clock).window) tables.now (L.meaning result.0.listener).given result.0.history.events }
     ensures clock { TellsOn (C.meaning clock) (C.meaning result.0.clock) }
     // Its handle has seen the word of the Trip, and one that had seen a word admits nothing.
     ensures word { ForSome (trip_of result.0.history.events) (λ trip. result.0.handle.seen ≡ trip.0) }
@@ -196,11 +209,11 @@ where
         clock,
         handle,
         CALLER,
-        Seq::new(alloc),
+        calls,
     );
     let worker: Worker<'_, A, R> = Worker { rt, alloc, tables };
     let back = worker.work(&mut board, shutdown);
-    bring_down::<A, L, C>(&mut board, Seq::new(alloc));
+    bring_down::<A, L, C>(alloc, tables, &mut board, room);
     bring_to_close::<A, L, C>(&mut board);
     let closed = finish::<A, Lent<'_, Tables<A>>, L, C>(board);
     (closed, back)

@@ -1,5 +1,5 @@
 //! The launch of a rocket.
-ghost use Rattle.std.specs.Prelude.{◌≡◌, ◌<◌, ◌⊎◌, ℕ, Some, true, false, IfOk, IfErr, IfSome, IsTrue, ⊤};
+ghost use Rattle.std.specs.Prelude.{◌≡◌, ◌<◌, ◌⊎◌, ℕ, List, Some, true, false, IfOk, IfErr, IfSome, IsTrue, ⊤};
 ghost use Rattle.std.specs.List.{AllByRecursion, list_any};
 ghost use Rattle.std.specs.Option.{ForSome};
 ghost use Rattle.rkt_turn.specs.HandsBack.{HandsBack};
@@ -15,14 +15,18 @@ ghost use Rattle.rkt_board.specs.Events.{is_trip, admitted, trip_of, Ordered, Is
 ghost use Rattle.rkt_serve.specs.Headline.{HasEntry, AllTimed, IsCallers, IsLegal, IsOver};
 ghost use Rattle.rkt_serve.specs.Kept.{GivesBack, IfKept, IfUnlit, IsWant};
 ghost use Rattle.rkt_serve.specs.Left.{IsLeft};
+ghost use Rattle.rkt_serve.specs.Lifted.{IsLifted, LiftsOff};
+ghost use Rattle.rkt_orbit.specs.declared.called.Called.{Called};
 ghost use Rattle.rkt_link.specs.Listener.{IsFresh};
 ghost use Rattle.rkt_serve.specs.Serving.{serving};
 
 use crate::caller::serve_to_close;
+use crate::orbit::lift_tables;
 use crate::{Clock, Error, ErrorKindOf, HistoryOf, Launched, LaunchedOf, Link, Listener};
 use rkt_base::Want;
 use rkt_board::{Book, Closed, ClosedOf};
 use rkt_life::{App, Build, Fairing, Ignite, Orbit, Rocket, Tables};
+use rkt_orbit::down_room;
 use rkt_request::ConfigTable;
 use rkt_router::Aborts;
 use rkt_turn::{Reason, Shutdown};
@@ -32,8 +36,8 @@ use std::thread::Threads;
 
 /// What can be launched.
 pub trait Launch<A: App>: Sized {
-    /// It is launched as this rocket, whatever its handle.
-    ghost lifts: { Self → SeenRocket A.Fairing A.Handler A.Catch A.Sentinel A.Value → Type 0 };
+    /// With these calls at liftoff it becomes this rocket, whatever its handle, and the handle of its wire is left as this one.
+    ghost lifts: { Self → List Called → Handle → SeenRocket A.Fairing A.Handler A.Catch A.Sentinel A.Value → Type 0 };
 
     /// The handle of its wire may come back as this one.
     ghost hands_back: { Self → Handle → Type 0 };
@@ -60,11 +64,12 @@ pub trait Launch<A: App>: Sized {
     where
         L::Link: Link<Source = A::Source>,
         requires fresh { IsFresh (L.meaning listener) }
-        ensures tables { IfOk result (λ l. lifts self l.rocket) }
+        // The rocket is the one that the callbacks of liftoff left.
+        ensures tables { IfOk result (λ l. IsLifted (lifts self) l.history.events l.rocket) }
         ensures handle { IfOk result (λ l. hands_back self l.rocket.handle) }
         // Legal: the events are in order, and each has its cause.
         ensures ordered { IfOk result (λ l. Ordered l.history.events) }
-        ensures caused { IfOk result (λ l. AllCaused A.Reason.allowed (serving A.Fairing.Requests.calling A.Fairing.Responses.calling A.Handler.calling A.Catch.calling A.Source.meaning A.Stream.meaning L.Link.meaning (C.meaning clock).window) l.rocket.tables l.history.events) }
+        ensures caused { IfOk result (λ l. AllCaused A.Reason.allowed A.Fairing.Shuts.calling (serving A.Fairing.Requests.calling A.Fairing.Responses.calling A.Handler.calling A.Catch.calling A.Source.meaning A.Stream.meaning L.Link.meaning (C.meaning clock).window) l.rocket.tables l.history.events) }
         ensures closed { IfOk result (λ l. IsClosed l.history.events) }
         ensures ended { IfOk result (λ l. IsOver (L.meaning l.listener) l.history.events) }
         ensures sound { IfOk result (λ l. (L.meaning l.listener).faults ≡ 0) }
@@ -80,10 +85,10 @@ pub trait Launch<A: App>: Sized {
         ensures callers { IfOk result (λ l. AllByRecursion IsCallers l.history.events) }
         ensures window { IfOk result (λ l. (C.meaning l.clock).window ≡ (C.meaning clock).window) }
         // What is kept for want of memory is legal and closed too, and only need not have come to the listener's end or a Trip.
-        ensures kept_tables { IfErr result (λ e. IfKept e (λ l. lifts self l.rocket)) }
+        ensures kept_tables { IfErr result (λ e. IfKept e (λ l. IsLifted (lifts self) l.history.events l.rocket)) }
         ensures kept_handle { IfErr result (λ e. IfKept e (λ l. hands_back self l.rocket.handle)) }
         ensures kept_legal { IfErr result (λ e. IfKept e (λ l.
-            IsLegal A.Reason.allowed (serving A.Fairing.Requests.calling A.Fairing.Responses.calling A.Handler.calling A.Catch.calling A.Source.meaning A.Stream.meaning L.Link.meaning (C.meaning clock).window) l.rocket.tables (L.meaning l.listener).given l.history.events)) }
+            IsLegal A.Reason.allowed A.Fairing.Shuts.calling (serving A.Fairing.Requests.calling A.Fairing.Responses.calling A.Handler.calling A.Catch.calling A.Source.meaning A.Stream.meaning L.Link.meaning (C.meaning clock).window) l.rocket.tables (L.meaning l.listener).given l.history.events)) }
         ensures kept_sound { IfErr result (λ e. IfKept e (λ l. (L.meaning l.listener).faults ≡ 0)) }
         ensures kept_word { IfErr result (λ e. IfKept e (λ l. ForSome (trip_of l.history.events) (λ trip. l.rocket.handle.seen ≡ trip.0))) }
         ensures kept_still { IfErr result (λ e. IfKept e (λ l. 0 < seen self → admitted l.history.events ≡ 0)) }
@@ -148,7 +153,7 @@ fn answered<A: App, L: Listener, C: Clock>(
 }
 
 impl<A: App> Launch<A> for Rocket<Ignite, A> {
-    ghost lifts = { λ rocket after. (after.tables ≡ rocket.tables) × (after.table ≡ rocket.table) };
+    ghost lifts = { λ rocket. LiftsOff A.Fairing.Lifts.calling rocket };
 
     ghost hands_back = { λ rocket handle. HandsBack rocket.handle handle };
 
@@ -172,12 +177,18 @@ impl<A: App> Launch<A> for Rocket<Ignite, A> {
         let Ok(book) = Book::new(alloc) else {
             return Err(Error::new(ErrorKindOf::NoMemory { kept: None }));
         };
-        let (tables, table, mut handle) = self.into_orbit().into_parts();
+        let (mut tables, table, mut handle) = self.into_orbit().into_parts();
+        let Ok(room) = down_room(alloc, &tables.fairings) else {
+            return Err(Error::new(ErrorKindOf::NoMemory { kept: None }));
+        };
         let Ok(shutdown) = handle.split() else {
             return Err(Error::new(ErrorKindOf::NoMemory { kept: None }));
         };
+        let Ok(calls) = lift_tables::<A>(alloc, &mut tables, &mut handle) else {
+            return Err(Error::new(ErrorKindOf::NoMemory { kept: None }));
+        };
         let (closed, back) = serve_to_close::<A, R, L, C>(
-            rt, alloc, &tables, book, listener, clock, handle, shutdown,
+            rt, alloc, &tables, book, listener, clock, handle, shutdown, calls, room,
         );
         let ClosedOf {
             listener,
@@ -200,7 +211,8 @@ impl<A: App> Launch<A> for Rocket<Ignite, A> {
 
 impl<A: App<Sentinel: Aborts<A>>> Launch<A> for Rocket<Build, A> {
     // As a rocket that has ignited of it.
-    ghost lifts = { λ building rocket. IgnitesTo (IsIgnited A.Fairing.Ignites.calling A.Fairing.key A.Fairing.info A.Sentinel.may building) rocket };
+    ghost lifts = { λ building calls left after. (rocket : SeenRocket A.Fairing A.Handler A.Catch A.Sentinel A.Value)
+        × IgnitesTo (IsIgnited A.Fairing.Ignites.calling A.Fairing.key A.Fairing.info A.Sentinel.may building) rocket × LiftsOff A.Fairing.Lifts.calling rocket calls left after };
 
     // Its wire is made when it ignites.
     ghost hands_back = { λ building handle. (first : Handle) × (first ≡ fresh first.wire) × HandsBack first handle };

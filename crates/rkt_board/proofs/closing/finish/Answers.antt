@@ -1,8 +1,8 @@
-use Rattle.std.proofs.Common.{◌∙◌, ◌++◌, ◌<◌, ap, sym, subst}
+use Rattle.std.proofs.Common.{◌∙◌, ◌++◌, ◌<◌, ◌≤◌, ◌+◌, ℕ, ap, sym, subst}
 use Rattle.rkt_board.proofs.Core.{closes_last, ends_each}
 use Rattle.rkt_board.proofs.Finished.{all_admitted, has_entry, trip_seen, handed_back}
 use Rattle.rkt_board.specs.Closed.{AllAdmitted, HasEntry}
-use Rattle.rkt_board.specs.Events.{admitted, trip_of, IsClosed, EachEndsOnce}
+use Rattle.rkt_board.specs.Events.{admitted, lift_calls, trip_of, IsClosed, EachEndsOnce}
 use Rattle.rkt_board.specs.Marks.{events}
 use Rattle.rkt_board.proofs.closing.finish.Goals as goal
 
@@ -31,6 +31,18 @@ returns-clause-entries g c k less =
     let cause = g.P.Served.cause c.args.board.name.served.now (g.C.Clock.meaning c.args.board.name.clock.value).window in
     subst (λ es. HasEntry g.L.Link.Link.meaning cause (g.L.Listener.meaning c.args.board.near.listener).given es k) (sym same)
     (has_entry g.L.Link.Link.meaning cause _ _ ms k c.requires.keeps.legal c.requires.closed c.requires.keeps.holds.told c.requires.fresh (subst (λ es. k < admitted es) same less))
+
+pub returns-clause-lifted : goal.returns-clause-lifted
+returns-clause-lifted g c =
+    let ms = c.args.board.book.marks.items in
+    let same = c.from_vec.ensures ∙ (c.moved.ensures ∙ ap (λ h. h ++ events ms) c.requires.keeps.counted.unused) in
+    ap lift_calls same ∙ c.requires.keeps.lifted
+
+pub returns-clause-looked : goal.returns-clause-looked
+returns-clause-looked g c =
+    let ms = c.args.board.book.marks.items in
+    let same = c.from_vec.ensures ∙ (c.moved.ensures ∙ ap (λ h. h ++ events ms) c.requires.keeps.counted.unused) in
+    subst (λ (n : ℕ). c.args.board.name.handle.value.looked + n ≤ c.args.board.near.handle.looked) (sym (ap admitted same)) c.requires.keeps.holds.looked
 
 pub returns-clause-word : goal.returns-clause-word
 returns-clause-word g c trip is =

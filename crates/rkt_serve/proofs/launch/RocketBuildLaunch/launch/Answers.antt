@@ -1,18 +1,14 @@
 use Rattle.std.proofs.Common.{arith}
 use Rattle.std.proofs.lemmas.Result.{IfErr-weaker, IfOk-weaker}
-use Rattle.rkt_ignition.specs.Ignited.{IsIgnited}
-use Rattle.rkt_serve.proofs.Lighting.{comes_back, if_kept}
+use Rattle.rkt_serve.proofs.Lifting.{lifted_as}
+use Rattle.rkt_serve.proofs.Lighting.{if_kept}
 use Rattle.rkt_serve.proofs.launch.RocketBuildLaunch.launch.Goals as goal
 
 pub returns-in-Ok-clause-tables : goal.returns-in-Ok-clause-tables
-returns-in-Ok-clause-tables g c =
-    let Ignited = IsIgnited g.A.Fairing.Ignites.IgniteCallback.calling g.A.Fairing.Attach.key g.A.Fairing.Attach.info g.A.Sentinel.Aborts.may c.args.self in
-    IfOk-weaker c.launch.result _ _ (λ l. comes_back Ignited c.in-Ok.rocket l.rocket c.in-Ok.ensures.ignited) c.launch.ensures.tables
+returns-in-Ok-clause-tables g c = IfOk-weaker c.launch.result _ _ (λ l. lifted_as _ _ l.history.events l.rocket (λ calls left lifts. (c.in-Ok.rocket, c.in-Ok.ensures.ignited, lifts))) c.launch.ensures.tables
 
 pub returns-in-Ok-clause-kept_tables : goal.returns-in-Ok-clause-kept_tables
-returns-in-Ok-clause-kept_tables g c =
-    let Ignited = IsIgnited g.A.Fairing.Ignites.IgniteCallback.calling g.A.Fairing.Attach.key g.A.Fairing.Attach.info g.A.Sentinel.Aborts.may c.args.self in
-    IfErr-weaker c.launch.result _ _ (if_kept _ _ (λ l. comes_back Ignited c.in-Ok.rocket l.rocket c.in-Ok.ensures.ignited)) c.launch.ensures.kept_tables
+returns-in-Ok-clause-kept_tables g c = IfErr-weaker c.launch.result _ _ (if_kept _ _ (λ l. lifted_as _ _ l.history.events l.rocket (λ calls left lifts. (c.in-Ok.rocket, c.in-Ok.ensures.ignited, lifts)))) c.launch.ensures.kept_tables
 
 pub returns-in-Err-Refused-clause-complete : goal.returns-in-Err-Refused-clause-complete
 returns-in-Err-Refused-clause-complete g c = λ valid.

@@ -3,6 +3,7 @@ use Rattle.std.proofs.lemmas.Result.{IfErr-weaker, IfOk-weaker}
 use Rattle.rkt_board.proofs.Core.{tripped_word}
 use Rattle.rkt_board.specs.Events.{trip_of}
 use Rattle.rkt_serve.specs.Serving.{serving}
+use Rattle.rkt_serve.proofs.Lifting.{lifted_off}
 use Rattle.rkt_serve.proofs.Launching.{back_to, if_both, left_back, left_legal, left_offers, left_over, left_sound, left_still, left_window, left_word, same_wire, unlit_want, gives_want}
 use Rattle.rkt_serve.proofs.Lighting.{if_kept}
 use Rattle.rkt_serve.proofs.launch.RocketIgniteLaunch.launch.Goals as goal
@@ -10,25 +11,30 @@ use Rattle.rkt_serve.proofs.launch.RocketIgniteLaunch.launch.Goals as goal
 pub with_back-handle-requires : goal.with_back-handle-requires
 with_back-handle-requires g c =
     let known = c.serve_to_close-closed.ensures in
-    same_wire c.serve_to_close-closed.result.1 c.in-Ok-split.shutdown c.split.new.self c.serve_to_close-closed.result.0.handle known.lent known.handle (c.in-Ok-split.ensures.copy ∙ sym c.split.ensures.same)
+    same_wire c.serve_to_close-closed.result.1 c.in-Ok-split.shutdown c.lift_tables.new.handle c.serve_to_close-closed.result.0.handle known.lent known.handle (c.requires-wire)
 
 pub returns : goal.returns
 returns g c =
     let known = c.serve_to_close-closed.ensures in
     let closed = c.serve_to_close-closed.result.0 in
-    let tables = c.into_parts-tables.result.0 in
+    let tables = c.lift_tables.new.tables in
+    let rocket = c.args.self in
     let table = c.into_parts-tables.result.1 in
     let same = c.split.ensures.same ∙ c.into_parts-tables.ensures.handle ∙ ap (λ r. r.handle) c.into_orbit.ensures in
     let above : (trip : ℕ × ℕ) → trip_of c.serve_to_close-closed.result.0.history.events ≡ Some trip → 0 < trip.0 =
     λ trip found. tripped_word c.serve_to_close-closed.result.0.history.events (Some trip) (sym found) c.serve_to_close-closed.ensures.legal.ordered in
-    let still = λ (some : 0 < c.args.self.handle.seen). c.serve_to_close-closed.ensures.still (subst (λ h. 0 < h.seen) (sym same) some) in
+    let still = λ (some : 0 < c.args.self.handle.seen). c.serve_to_close-closed.ensures.still (rw (c.lift_tables.ensures.handle.seen (subst (λ h. 0 < h.seen) (sym same) some), same) some) in
+    let first = ap (λ r. r.tables) c.into_orbit.ensures in
+    let given = c.into_parts-tables.ensures.tables ∙ first in
+    let told = c.into_parts-tables.ensures.table ∙ ap (λ r. r.table) c.into_orbit.ensures in
+    let lifted = lifted_off g.A.Fairing.Lifts.LiftoffCallback.calling rocket tables table closed c.in-Ok-lift_tables.calls c.lift_tables.new.handle (rw (sym given, sym same) c.in-Ok-lift_tables.ensures.lifts) (rw (sym given) c.lift_tables.ensures.tables) told known.lifted known.looked known.still in
     let ok = IfOk-weaker c.answered.result _ _ (λ l is. left_back tables table closed c.with_back-handle.result l c.with_back-handle.ensures is) c.answered.ensures.ok in
     let kept = IfErr-weaker c.answered.result _ _ (if_kept _ _ (λ l is. left_back tables table closed c.with_back-handle.result l c.with_back-handle.ensures is)) c.answered.ensures.kept in
     record {
-      tables = IfOk-weaker c.answered.result _ _ (λ l is. (is.tables_are ∙ c.into_parts-tables.ensures.tables ∙ ap (λ r. r.tables) c.into_orbit.ensures, is.table_is ∙ c.into_parts-tables.ensures.table ∙ ap (λ r. r.table) c.into_orbit.ensures)) ok;
-      kept_tables = IfErr-weaker c.answered.result _ _ (if_kept _ _ (λ l is. (is.tables_are ∙ c.into_parts-tables.ensures.tables ∙ ap (λ r. r.tables) c.into_orbit.ensures, is.table_is ∙ c.into_parts-tables.ensures.table ∙ ap (λ r. r.table) c.into_orbit.ensures))) kept;
-      handle = IfOk-weaker c.answered.result _ _ (λ l is. back_to c.args.self.handle c.split.new.self closed.handle l.rocket.handle same known.handle is.handle) ok;
-      kept_handle = IfErr-weaker c.answered.result _ _ (if_kept _ _ (λ l is. back_to c.args.self.handle c.split.new.self closed.handle l.rocket.handle same known.handle is.handle)) kept;
+      tables = IfOk-weaker c.answered.result _ _ lifted ok;
+      kept_tables = IfErr-weaker c.answered.result _ _ (if_kept _ _ lifted) kept;
+      handle = IfOk-weaker c.answered.result _ _ (λ l is. back_to c.args.self.handle c.split.new.self c.lift_tables.new.handle closed.handle l.rocket.handle same c.lift_tables.ensures.handle known.handle is.handle) ok;
+      kept_handle = IfErr-weaker c.answered.result _ _ (if_kept _ _ (λ l is. back_to c.args.self.handle c.split.new.self c.lift_tables.new.handle closed.handle l.rocket.handle same c.lift_tables.ensures.handle known.handle is.handle)) kept;
       sound = IfOk-weaker c.answered.result _ _ (λ l is. left_sound tables table closed l is g.L.Listener.meaning (g.L.Listener.meaning c.args.listener) known.settled c.requires.fresh.no_fault) ok;
       kept_sound = IfErr-weaker c.answered.result _ _ (if_kept _ _ (λ l is. left_sound tables table closed l is g.L.Listener.meaning (g.L.Listener.meaning c.args.listener) known.settled c.requires.fresh.no_fault)) kept;
       window = IfOk-weaker c.answered.result _ _ (λ l is. left_window tables table closed l is g.C.Clock.meaning (g.C.Clock.meaning c.args.clock) known.clock) ok;
@@ -37,15 +43,15 @@ returns g c =
       kept_word = IfErr-weaker c.answered.result _ _ (if_kept _ _ (λ l is. left_word tables table closed l is above known.word)) kept;
       still = IfOk-weaker c.answered.result _ _ (λ l is. left_still tables table closed l is still) ok;
       kept_still = IfErr-weaker c.answered.result _ _ (if_kept _ _ (λ l is. left_still tables table closed l is still)) kept;
-      ordered = IfOk-weaker c.answered.result _ _ (λ l is. (left_legal g.A.Reason.Reason.allowed (serving g.A-Fairing-Requests-RequestCallback.calling g.A.Fairing.Responses.ResponseCallback.calling g.A-Handler-Handler.calling g.A.Catch.CatchHandler.calling g.A.Source.Source.meaning g.A.Stream.Source.meaning g.L.Link.Link.meaning (g.C.Clock.meaning c.args.clock).window) g.L.Listener.meaning tables table closed l is known.legal).ordered) ok;
-      caused = IfOk-weaker c.answered.result _ _ (λ l is. (left_legal g.A.Reason.Reason.allowed (serving g.A-Fairing-Requests-RequestCallback.calling g.A.Fairing.Responses.ResponseCallback.calling g.A-Handler-Handler.calling g.A.Catch.CatchHandler.calling g.A.Source.Source.meaning g.A.Stream.Source.meaning g.L.Link.Link.meaning (g.C.Clock.meaning c.args.clock).window) g.L.Listener.meaning tables table closed l is known.legal).caused) ok;
-      closed = IfOk-weaker c.answered.result _ _ (λ l is. (left_legal g.A.Reason.Reason.allowed (serving g.A-Fairing-Requests-RequestCallback.calling g.A.Fairing.Responses.ResponseCallback.calling g.A-Handler-Handler.calling g.A.Catch.CatchHandler.calling g.A.Source.Source.meaning g.A.Stream.Source.meaning g.L.Link.Link.meaning (g.C.Clock.meaning c.args.clock).window) g.L.Listener.meaning tables table closed l is known.legal).closed) ok;
-      requests = IfOk-weaker c.answered.result _ _ (λ l is. (left_legal g.A.Reason.Reason.allowed (serving g.A-Fairing-Requests-RequestCallback.calling g.A.Fairing.Responses.ResponseCallback.calling g.A-Handler-Handler.calling g.A.Catch.CatchHandler.calling g.A.Source.Source.meaning g.A.Stream.Source.meaning g.L.Link.Link.meaning (g.C.Clock.meaning c.args.clock).window) g.L.Listener.meaning tables table closed l is known.legal).all_admitted) ok;
-      ends = IfOk-weaker c.answered.result _ _ (λ l is. (left_legal g.A.Reason.Reason.allowed (serving g.A-Fairing-Requests-RequestCallback.calling g.A.Fairing.Responses.ResponseCallback.calling g.A-Handler-Handler.calling g.A.Catch.CatchHandler.calling g.A.Source.Source.meaning g.A.Stream.Source.meaning g.L.Link.Link.meaning (g.C.Clock.meaning c.args.clock).window) g.L.Listener.meaning tables table closed l is known.legal).once) ok;
-      entries = IfOk-weaker c.answered.result _ _ (λ l is. (left_legal g.A.Reason.Reason.allowed (serving g.A-Fairing-Requests-RequestCallback.calling g.A.Fairing.Responses.ResponseCallback.calling g.A-Handler-Handler.calling g.A.Catch.CatchHandler.calling g.A.Source.Source.meaning g.A.Stream.Source.meaning g.L.Link.Link.meaning (g.C.Clock.meaning c.args.clock).window) g.L.Listener.meaning tables table closed l is known.legal).entries) ok;
-      moments = IfOk-weaker c.answered.result _ _ (λ l is. (left_legal g.A.Reason.Reason.allowed (serving g.A-Fairing-Requests-RequestCallback.calling g.A.Fairing.Responses.ResponseCallback.calling g.A-Handler-Handler.calling g.A.Catch.CatchHandler.calling g.A.Source.Source.meaning g.A.Stream.Source.meaning g.L.Link.Link.meaning (g.C.Clock.meaning c.args.clock).window) g.L.Listener.meaning tables table closed l is known.legal).timed) ok;
-      callers = IfOk-weaker c.answered.result _ _ (λ l is. (left_legal g.A.Reason.Reason.allowed (serving g.A-Fairing-Requests-RequestCallback.calling g.A.Fairing.Responses.ResponseCallback.calling g.A-Handler-Handler.calling g.A.Catch.CatchHandler.calling g.A.Source.Source.meaning g.A.Stream.Source.meaning g.L.Link.Link.meaning (g.C.Clock.meaning c.args.clock).window) g.L.Listener.meaning tables table closed l is known.legal).callers) ok;
-      kept_legal = IfErr-weaker c.answered.result _ _ (if_kept _ _ (λ l is. left_legal g.A.Reason.Reason.allowed (serving g.A-Fairing-Requests-RequestCallback.calling g.A.Fairing.Responses.ResponseCallback.calling g.A-Handler-Handler.calling g.A.Catch.CatchHandler.calling g.A.Source.Source.meaning g.A.Stream.Source.meaning g.L.Link.Link.meaning (g.C.Clock.meaning c.args.clock).window) g.L.Listener.meaning tables table closed l is known.legal)) kept;
+      ordered = IfOk-weaker c.answered.result _ _ (λ l is. (left_legal g.A.Reason.Reason.allowed g.A.Fairing.Shuts.ShutdownCallback.calling (serving g.A-Fairing-Requests-RequestCallback.calling g.A.Fairing.Responses.ResponseCallback.calling g.A-Handler-Handler.calling g.A.Catch.CatchHandler.calling g.A.Source.Source.meaning g.A.Stream.Source.meaning g.L.Link.Link.meaning (g.C.Clock.meaning c.args.clock).window) g.L.Listener.meaning tables table closed l is known.legal).ordered) ok;
+      caused = IfOk-weaker c.answered.result _ _ (λ l is. (left_legal g.A.Reason.Reason.allowed g.A.Fairing.Shuts.ShutdownCallback.calling (serving g.A-Fairing-Requests-RequestCallback.calling g.A.Fairing.Responses.ResponseCallback.calling g.A-Handler-Handler.calling g.A.Catch.CatchHandler.calling g.A.Source.Source.meaning g.A.Stream.Source.meaning g.L.Link.Link.meaning (g.C.Clock.meaning c.args.clock).window) g.L.Listener.meaning tables table closed l is known.legal).caused) ok;
+      closed = IfOk-weaker c.answered.result _ _ (λ l is. (left_legal g.A.Reason.Reason.allowed g.A.Fairing.Shuts.ShutdownCallback.calling (serving g.A-Fairing-Requests-RequestCallback.calling g.A.Fairing.Responses.ResponseCallback.calling g.A-Handler-Handler.calling g.A.Catch.CatchHandler.calling g.A.Source.Source.meaning g.A.Stream.Source.meaning g.L.Link.Link.meaning (g.C.Clock.meaning c.args.clock).window) g.L.Listener.meaning tables table closed l is known.legal).closed) ok;
+      requests = IfOk-weaker c.answered.result _ _ (λ l is. (left_legal g.A.Reason.Reason.allowed g.A.Fairing.Shuts.ShutdownCallback.calling (serving g.A-Fairing-Requests-RequestCallback.calling g.A.Fairing.Responses.ResponseCallback.calling g.A-Handler-Handler.calling g.A.Catch.CatchHandler.calling g.A.Source.Source.meaning g.A.Stream.Source.meaning g.L.Link.Link.meaning (g.C.Clock.meaning c.args.clock).window) g.L.Listener.meaning tables table closed l is known.legal).all_admitted) ok;
+      ends = IfOk-weaker c.answered.result _ _ (λ l is. (left_legal g.A.Reason.Reason.allowed g.A.Fairing.Shuts.ShutdownCallback.calling (serving g.A-Fairing-Requests-RequestCallback.calling g.A.Fairing.Responses.ResponseCallback.calling g.A-Handler-Handler.calling g.A.Catch.CatchHandler.calling g.A.Source.Source.meaning g.A.Stream.Source.meaning g.L.Link.Link.meaning (g.C.Clock.meaning c.args.clock).window) g.L.Listener.meaning tables table closed l is known.legal).once) ok;
+      entries = IfOk-weaker c.answered.result _ _ (λ l is. (left_legal g.A.Reason.Reason.allowed g.A.Fairing.Shuts.ShutdownCallback.calling (serving g.A-Fairing-Requests-RequestCallback.calling g.A.Fairing.Responses.ResponseCallback.calling g.A-Handler-Handler.calling g.A.Catch.CatchHandler.calling g.A.Source.Source.meaning g.A.Stream.Source.meaning g.L.Link.Link.meaning (g.C.Clock.meaning c.args.clock).window) g.L.Listener.meaning tables table closed l is known.legal).entries) ok;
+      moments = IfOk-weaker c.answered.result _ _ (λ l is. (left_legal g.A.Reason.Reason.allowed g.A.Fairing.Shuts.ShutdownCallback.calling (serving g.A-Fairing-Requests-RequestCallback.calling g.A.Fairing.Responses.ResponseCallback.calling g.A-Handler-Handler.calling g.A.Catch.CatchHandler.calling g.A.Source.Source.meaning g.A.Stream.Source.meaning g.L.Link.Link.meaning (g.C.Clock.meaning c.args.clock).window) g.L.Listener.meaning tables table closed l is known.legal).timed) ok;
+      callers = IfOk-weaker c.answered.result _ _ (λ l is. (left_legal g.A.Reason.Reason.allowed g.A.Fairing.Shuts.ShutdownCallback.calling (serving g.A-Fairing-Requests-RequestCallback.calling g.A.Fairing.Responses.ResponseCallback.calling g.A-Handler-Handler.calling g.A.Catch.CatchHandler.calling g.A.Source.Source.meaning g.A.Stream.Source.meaning g.L.Link.Link.meaning (g.C.Clock.meaning c.args.clock).window) g.L.Listener.meaning tables table closed l is known.legal).callers) ok;
+      kept_legal = IfErr-weaker c.answered.result _ _ (if_kept _ _ (λ l is. left_legal g.A.Reason.Reason.allowed g.A.Fairing.Shuts.ShutdownCallback.calling (serving g.A-Fairing-Requests-RequestCallback.calling g.A.Fairing.Responses.ResponseCallback.calling g.A-Handler-Handler.calling g.A.Catch.CatchHandler.calling g.A.Source.Source.meaning g.A.Stream.Source.meaning g.L.Link.Link.meaning (g.C.Clock.meaning c.args.clock).window) g.L.Listener.meaning tables table closed l is known.legal)) kept;
       ended = if_both c.answered.result _ _ _ (λ l is over. left_over tables table closed l is g.L.Listener.meaning known.ended over) ok c.answered.ensures.over;
       offers = if_both c.answered.result _ _ _ (λ l is over. left_offers tables table closed l is g.L.Listener.meaning (g.L.Listener.meaning c.args.listener).offers known.offers over) ok c.answered.ensures.over;
       refused = IfErr-weaker c.answered.result _ _ (λ e want. unlit_want _ e want) c.answered.ensures.want;
