@@ -23,8 +23,7 @@ use crate::working::{CALLER, Worker};
 use crate::{Clock, Link, Listener};
 use rkt_base::Seq;
 use rkt_board::{
-    BoardOf, Book, Closed, Event, Mark, Turned, close, down, end, finish, lift, rejoin,
-    turn,
+    BoardOf, Book, Closed, Event, Mark, Turned, close, down, end, finish, lift, rejoin, turn,
 };
 use rkt_life::{App, Tables};
 use rkt_orbit::Called;
@@ -203,13 +202,7 @@ where
 {
     let lent = Lent { tables };
     let mut board = lift::<A, Lent<'_, Tables<A>>, L, C>(
-        book,
-        &lent,
-        listener,
-        clock,
-        handle,
-        CALLER,
-        calls,
+        book, &lent, listener, clock, handle, CALLER, calls,
     );
     let worker: Worker<'_, A, R> = Worker { rt, alloc, tables };
     let back = worker.work(&mut board, shutdown);
