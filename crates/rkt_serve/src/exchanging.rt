@@ -1,10 +1,12 @@
 //! One exchange, from what a link asks to its end.
 ghost use Rattle.std.specs.Prelude.{◌≡◌, IfErr, IfOk, IsSome};
+ghost use Rattle.std.specs.List.{All};
 ghost use Rattle.rkt_cancel.specs.Cancel.{Cancellable};
 ghost use Rattle.rkt_data.specs.Body.{Body};
 ghost use Rattle.rkt_lifecycle.specs.Ended.{IfFinished, handle_of};
 ghost use Rattle.rkt_lifecycle.specs.Stands.{EndsSo, StandsFor};
 ghost use Rattle.rkt_router.specs.Calls.{GateRule};
+ghost use Rattle.rkt_routing.specs.Backs.{Sees};
 ghost use Rattle.rkt_routing.specs.Beginning.{Beginning};
 ghost use Rattle.rkt_turn.specs.HandsBack.{HandsBack};
 ghost use Rattle.rkt_link.specs.Asked.{Asked, GivesBody, IsUntouched};
@@ -106,6 +108,8 @@ pub(crate) fn run_exchange<A: App, R: Wait, C: Clock>(
     ensures moment { IfFinished result.0 (λ run response. IsAmid (C.meaning clock.old) (C.meaning clock.new) run.moment) }
     ensures last { IfFinished result.0 (λ run response. result.1 ≡ (C.meaning clock.new).last) }
     ensures handle { HandsBack shutdown (handle_of result.0) }
+    // A word that a call of the run recorded is the one that the handle has seen which comes back.
+    ensures words { IfFinished result.0 (λ run response. All (Sees (handle_of result.0)) run.calls) }
     ensures clock { TellsOn (C.meaning clock.old) (C.meaning clock.new) }
 {
     let gate = gate_of::<A>(tables, moment);

@@ -1,6 +1,8 @@
 //! What serves a link: one exchange with it, and the sending of its response.
 ghost use Rattle.std.specs.Prelude.{◌≡◌, ℕ, [], Option, None, Some};
+ghost use Rattle.std.specs.List.{All};
 ghost use Rattle.std.specs.Option.{ForSome};
+ghost use Rattle.rkt_routing.specs.Backs.{Sees};
 ghost use Rattle.rkt_turn.specs.HandsBack.{HandsBack};
 ghost use Rattle.rkt_serve.specs.Causes.{Caused};
 ghost use Rattle.rkt_link.specs.Clock.{IsAmid, TellsOn};
@@ -61,6 +63,7 @@ impl<'a, A: App, R: Wait> Worker<'a, A, R> {
             → ForSome (K.meaning link).asked (λ asked. Lifecycle (callbacks_of (serving A.Fairing.Requests.calling A.Fairing.Responses.calling A.Handler.calling A.Catch.calling A.Source.meaning A.Stream.meaning K.meaning window) self.now.tables.now) self.now.tables.now A.Source.meaning asked run response)
             → Caused (serving A.Fairing.Requests.calling A.Fairing.Responses.calling A.Handler.calling A.Catch.calling A.Source.meaning A.Stream.meaning K.meaning window) self.now.tables.now result }
         ensures moment { ForSome result.run (λ kept. kept.moment ≡ run.moment) }
+        ensures calls { ForSome result.run (λ kept. kept.calls ≡ run.calls) }
     {
         let gate = gate_of::<A>(self.tables, moment);
         let turns = turns_of::<A>(self.tables);
@@ -95,6 +98,7 @@ impl<'a, A: App, R: Wait> Worker<'a, A, R> {
         ensures caused { IsFreshLink (K.meaning link)
             → Caused (serving A.Fairing.Requests.calling A.Fairing.Responses.calling A.Handler.calling A.Catch.calling A.Source.meaning A.Stream.meaning K.meaning (C.meaning clock.old).window) self.now.tables.now result.0 }
         ensures moment { ForSome result.0.run (λ run. IsAmid (C.meaning clock.old) (C.meaning clock.new) run.moment) }
+        ensures words { ForSome result.0.run (λ run. All (Sees result.1) run.calls) }
         ensures handle { HandsBack shutdown result.1 }
         ensures clock { TellsOn (C.meaning clock.old) (C.meaning clock.new) }
     {
