@@ -53,11 +53,11 @@ module _ {V S C R F FTask GTask H HTask K KTask L N : Type 0} (served : Serving 
   abbrev pub Caused : EntryOf C R L → Type 0
   Caused entry = CausedAs entry entry.end
 
-module _ {V S C R F FTask GTask STask H HTask K KTask L N : Type 0} (allowed : ℕ → Type 0) (shuts : CallingAtShutdown H K N V F STask) (served : Serving V S C R F FTask GTask H HTask K KTask L) (tables : SeenTables F H K N V) where
-  -- a word that a call recorded is that of a Trip before
-  abbrev pub SawTrip : List (EventOf C R L) → Call → Type 0
-  SawTrip before call = 0 < call.word → ShowsTrip (Some call.word) before
+-- a word that a call recorded is that of a Trip before
+abbrev pub SawTrip : {C R L : Type 0} → List (EventOf C R L) → Call → Type 0
+SawTrip before call = 0 < call.word → ShowsTrip (Some call.word) before
 
+module _ {V S C R F FTask GTask STask H HTask K KTask L N : Type 0} (allowed : ℕ → Type 0) (shuts : CallingAtShutdown H K N V F STask) (served : Serving V S C R F FTask GTask H HTask K KTask L) (tables : SeenTables F H K N V) where
   -- what stands behind an event that follows those before it: an End has its cause, behind the Trip of a word that its run saw, a Trip a word that is allowed, and a Down one call of each fairing that is called at a shutdown
   abbrev pub CauseAt : List (EventOf C R L) → EventOf C R L → Type 0
   CauseAt before (Lift calls) = Unit {0}
