@@ -4,20 +4,17 @@ use crate::site::{Site, Stopped};
 use cases::CaseError;
 use rkt_base::{NoMemory, Seq};
 use rkt_fairing::{Fairings, Slot, ViewOf};
-use rkt_life::{DefaultCatcher, Ignite, Orbit as InOrbit, Rocket, TablesOf};
+use rkt_life::{Ignite, Orbit as InOrbit, Rocket, Tables, TablesOf};
 use rkt_orbit::{Called, down_room, liftoff, shut_down};
 use rkt_request::{Config, ConfigTable, Managed};
-use rkt_router::{Dummy, Router};
+use rkt_router::Router;
 use rkt_turn::{Shutdown, TripWire};
 use std::alloc::Global;
 
 /// What a rocket has in orbit.
 #[derive(Drop)]
 pub struct Orbit {
-    fairings: Fairings<Actor>,
-    config: Config,
-    managed: Managed<u32>,
-    router: Router<Dummy, DefaultCatcher, ()>,
+    tables: Tables<Site>,
     shutdown: Shutdown<Stopped>,
 }
 
@@ -25,13 +22,13 @@ impl Orbit {
     /// One with nothing attached.
     fn new(alloc: Global, config: Config) -> Result<Orbit, NoMemory> {
         let (_wire, shutdown) = TripWire::new(alloc)?;
-        Ok(Orbit {
+        let tables = TablesOf {
+            router: Router::new(alloc),
             fairings: Fairings::new(alloc),
             config,
             managed: Managed::new(alloc),
-            router: Router::new(alloc),
-            shutdown,
-        })
+        };
+        Ok(Orbit { tables, shutdown })
     }
 
     /// The same, with the configuration by default.
@@ -41,43 +38,18 @@ impl Orbit {
 
     /// The rocket that is made of it.
     pub fn into_rocket(self, alloc: Global) -> Rocket<Ignite, Site> {
-        let Orbit {
-            fairings,
-            config,
-            managed,
-            router,
-            shutdown,
-        } = self;
-        let tables = TablesOf {
-            router,
-            fairings,
-            config,
-            managed,
-        };
         let table = ConfigTable::new(alloc);
-        Rocket::<InOrbit, Site>::from_parts(tables, table, shutdown).into_ignite()
+        Rocket::<InOrbit, Site>::from_parts(self.tables, table, self.shutdown).into_ignite()
     }
 
     /// What a rocket has.
     pub fn of_rocket(rocket: Rocket<Ignite, Site>) -> Orbit {
         let (tables, _table, shutdown) = rocket.into_orbit().into_parts();
-        let TablesOf {
-            router,
-            fairings,
-            config,
-            managed,
-        } = tables;
-        Orbit {
-            fairings,
-            config,
-            managed,
-            router,
-            shutdown,
-        }
+        Orbit { tables, shutdown }
     }
 
     pub fn fairings(&self) -> &Fairings<Actor> {
-        &self.fairings
+        &self.tables.fairings
     }
 
     /// The word that the handle has seen.
@@ -86,26 +58,26 @@ impl Orbit {
     }
 
     pub fn attach(&mut self, slot: Slot<Actor>) -> Result<(), NoMemory> {
-        self.fairings.add(slot)
+        self.tables.fairings.add(slot)
     }
 
     pub fn lift(&mut self, alloc: Global) -> Result<Seq<Called>, NoMemory> {
         let view = ViewOf {
-            config: &self.config,
-            managed: &self.managed,
-            router: &self.router,
+            config: &self.tables.config,
+            managed: &self.tables.managed,
+            router: &self.tables.router,
         };
-        liftoff::<Site, Actor, Acts>(alloc, &mut self.fairings, &view, &mut self.shutdown)
+        liftoff::<Site, Actor, Acts>(alloc, &mut self.tables.fairings, &view, &mut self.shutdown)
     }
 
     pub fn shut(&self, alloc: Global) -> Result<Seq<Called>, NoMemory> {
         let view = ViewOf {
-            config: &self.config,
-            managed: &self.managed,
-            router: &self.router,
+            config: &self.tables.config,
+            managed: &self.tables.managed,
+            router: &self.tables.router,
         };
-        let room = down_room(alloc, &self.fairings)?;
-        Ok(shut_down::<Site, Actor, Acts>(alloc, &self.fairings, &view, room))
+        let room = down_room(alloc, &self.tables.fairings)?;
+        Ok(shut_down::<Site, Actor, Acts>(alloc, &self.tables.fairings, &view, room))
     }
 }
 
