@@ -23,8 +23,7 @@ use crate::working::{CALLER, Worker};
 use crate::{Clock, Link, Listener};
 use rkt_base::Seq;
 use rkt_board::{
-    BoardOf, Book, Closed, Event, Mark, Turned, close, down, end, finish, lift, rejoin,
-    turn,
+    BoardOf, Book, Closed, Event, Mark, Turned, close, down, end, finish, lift, rejoin, turn,
 };
 use rkt_life::{App, Tables};
 use rkt_orbit::Called;
@@ -58,8 +57,8 @@ where
 }
 
 impl<'a, A: App, R: Wait> Worker<'a, A, R> {
-    // Serves a link that was admitted, to its End, and hands the handle back. Where that has seen a word, the board has it
-    // from then on, and its Trip stands before the End.
+    // Serves a link that was admitted, to its End, and hands the handle back. The Trip of a word that was seen meanwhile
+    // stands before the End; where the handle has seen it, the board has that from then on.
     fn serve_given<'b, L: Listener, C: Clock>(
         &self,
         board: &mut BoardOf<'b, A, Lent<'b, Tables<A>>, L, C>,
@@ -82,7 +81,7 @@ impl<'a, A: App, R: Wait> Worker<'a, A, R> {
         ensures clock { TellsOn (C.meaning board.old.near.clock) (C.meaning board.new.near.clock) }
         ensures keeps { Keeps L.Link.meaning L.meaning C.meaning (cause_of A.Reason.allowed A.Fairing.Shuts.calling A.Fairing.Requests.calling A.Fairing.Responses.calling A.Handler.calling A.Catch.calling A.Source.meaning A.Stream.meaning L.Link.meaning) board.new }
     {
-        let (entry, back) = self.serve(link, shutdown, moment, &mut board.near.clock);
+        let (entry, back) = self.serve(link, shutdown, moment, board);
         let back = note_word::<A, L, C>(board, back);
         end::<A, Lent<'b, Tables<A>>, L, C>(board, CALLER, number, entry);
         back
@@ -203,13 +202,7 @@ where
 {
     let lent = Lent { tables };
     let mut board = lift::<A, Lent<'_, Tables<A>>, L, C>(
-        book,
-        &lent,
-        listener,
-        clock,
-        handle,
-        CALLER,
-        calls,
+        book, &lent, listener, clock, handle, CALLER, calls,
     );
     let worker: Worker<'_, A, R> = Worker { rt, alloc, tables };
     let back = worker.work(&mut board, shutdown);
