@@ -1,10 +1,9 @@
 use Rattle.std.proofs.Common.{inl, inr, refl, sym, subst, ◌∙◌, arith}
 use Rattle.rkt_lifecycle.specs.Peeks.{waits_of}
 use Rattle.rkt_lifecycle.specs.Stands.{EndsSo}
-use Rattle.rkt_router.specs.Calls.{GateFits}
-use Rattle.rkt_serve.proofs.Endings.{fit_before, goes_on}
+use Rattle.rkt_serve.proofs.Endings.{fit_before, fit_gate, goes_on}
 use Rattle.rkt_serve.proofs.Meanwhile.{looks_again, still_unclosed, trips_then}
-use Rattle.rkt_link.proofs.Telling.{tells_same, tells_then, told_within}
+use Rattle.rkt_link.proofs.Telling.{tells_same, tells_then}
 use Rattle.rkt_serve.specs.Serving.{callbacks_with}
 use Rattle.rkt_serve.proofs.exchanging.to_end.Goals as goal
 
@@ -22,7 +21,6 @@ loop-preserved g c =
     let now = g.C.Clock.meaning c.next_gate-gate.new.board.near.clock in
     let gate = c.next_gate-gate.result in
     let next = c.next_gate-gate.ensures in
-    let within = told_within told before gate.moment inv.4 next.moment.within in
     let polled = c.in-Pending.ensures in (
       tt,
       tt,
@@ -30,7 +28,7 @@ loop-preserved g c =
       polled.tables ∙ inv.3,
       tells_then told before now inv.4 next.clock,
       λ rule first fit stands.
-          let fits = subst (λ gate. GateFits rule gate) (sym next.gate) (fit gate.moment (record { from = omega (arith, inv.4.rises, next.moment.from); to = next.moment.to; within = within })) in
+          let fits = fit_gate rule c.args.grace c.args.mercy told before now gate fit next.gate inv.4 next.moment in
           goes_on (callbacks_with g.A.Source.Source.meaning g.A-Fairing-Requests-RequestCallback.calling g.A.Fairing.Responses.ResponseCallback.calling g.A-Handler-Handler.calling g.A.Catch.CatchHandler.calling rule) first c.poll.new.self.tables (waits_of g.A.Source.Source.meaning g.A.Source.Shut.shuts g.A.Source.Source.polled) gate c.poll.new.self.phase
           (polled.gives rule first fits (inv.5 rule first (fit_before rule c.args.grace c.args.mercy told before now next.clock.rises fit) stands)),
       next.keeps,
@@ -47,8 +45,7 @@ returns-in-Ready-clause-ends g c rule first fit stands =
     let now = g.C.Clock.meaning c.next_gate-gate.new.board.near.clock in
     let gate = c.next_gate-gate.result in
     let next = c.next_gate-gate.ensures in
-    let within = told_within told before gate.moment inv.4 next.moment.within in
-    let fits = subst (λ gate. GateFits rule gate) (sym next.gate) (fit gate.moment (record { from = omega (arith, inv.4.rises, next.moment.from); to = next.moment.to; within = within })) in
+    let fits = fit_gate rule c.args.grace c.args.mercy told before now gate fit next.gate inv.4 next.moment in
     let polled = c.in-Ready.ensures in
     subst (λ ts. EndsSo (callbacks_with g.A.Source.Source.meaning g.A-Fairing-Requests-RequestCallback.calling g.A.Fairing.Responses.ResponseCallback.calling g.A-Handler-Handler.calling g.A.Catch.CatchHandler.calling rule) first ts c.in-Ready.ended) (polled.tables ∙ inv.3)
     (polled.gives rule first fits (inv.5 rule first (fit_before rule c.args.grace c.args.mercy told before now next.clock.rises fit) stands))
