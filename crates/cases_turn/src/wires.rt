@@ -206,7 +206,12 @@ pub fn push_threads<R: Threads + Wait + Sync>(
     out: &mut String,
 ) -> Result<(), CaseError> {
     let (one, two) = first_word(words);
-    let [waited, notified, before, late] = seen_words(rt, alloc, parse_told(one)?, parse_told(two)?)?;
+    let [waited, notified, before, late] = seen_words(
+        rt,
+        alloc,
+        parse_told(one)?,
+        parse_told(two)?,
+    )?;
     write!(out, "waited={waited} notified={notified}")?;
     Ok(write!(out, " before={before} late={late}")?)
 }

@@ -1,69 +1,48 @@
-//! A launch for each line.
+//! A launch over the lines of standard input.
 use crate::printed::print_history;
 use crate::site::Site;
 use rkt_base::{NoMemory, Seq, Text};
 use rkt_life::{Ignite, Rocket};
 use rkt_request::Head;
-use rkt_serve::{Launch, Launched, ListClock, ListListener, MemoryLink};
-use std::alloc::{AllocError, Global};
+use rkt_serve::{Launch, Links, ListClock, ListListener, MemoryLink};
+use std::alloc::Global;
 use std::io;
 use std::sync::Wait;
 use std::thread::Threads;
 
-type Over = Launched<Site, ListListener, ListClock>;
-
-/// The head of METHOD TARGET.
-fn head_of(alloc: Global, line: &str) -> Result<Head, NoMemory> {
+/// A link that asks METHOD TARGET.
+fn link_of(alloc: Global, line: &str) -> Result<MemoryLink, NoMemory> {
     let (method, target) = line.split_once(' ').unwrap_or((line, ""));
-    Ok(Head {
+    let head = Head {
         method: Text::new(alloc, method)?,
         target: Text::new(alloc, target)?,
         headers: Seq::new(alloc),
         remote: None,
-    })
+    };
+    MemoryLink::new(alloc, head, Vec::new(alloc))
 }
 
-fn launched<R: Wait + Threads>(
-    rt: &R,
-    alloc: Global,
-    rocket: Rocket<Ignite, Site>,
-    head: Head,
-) -> Result<Over, NoMemory> {
-    let link = MemoryLink::new(alloc, head, Vec::new(alloc))?;
-    let links = vec![in alloc; link]?;
-    let listener = ListListener::new(alloc, links, Vec::new(alloc))?;
-    let clock = ListClock::new(Vec::new(alloc));
-    match rocket.launch(rt, alloc, listener, clock, 0) {
-        Ok(over) => Ok(over),
-        Err(error) => {
-            let _text = error.pretty_print();
-            Err(AllocError)
-        }
+/// A link for each line of standard input.
+fn read_links(rt: &impl Input, alloc: Global) -> io::Result<Links> {
+    let mut links = Links::new(alloc);
+    for line in rt.lines(alloc) {
+        let line = line?;
+        links.push(link_of(alloc, line.as_str())?)?;
     }
+    Ok(links)
 }
 
-/// Serves the request of a line, and hands the rocket back.
-fn serve_line<R: Print + Wait + Threads>(
-    rt: &R,
-    alloc: Global,
-    rocket: Rocket<Ignite, Site>,
-    line: &str,
-) -> io::Result<Rocket<Ignite, Site>> {
-    let head = head_of(alloc, line)?;
-    let over = launched(rt, alloc, rocket, head)?;
-    print_history(rt, alloc, &over.history)?;
-    Ok(over.rocket)
-}
-
-/// Serves each line of standard input.
+/// Serves each line of standard input, and prints what came of it.
 pub fn serve_lines<R: Print + Input + Wait + Threads>(
     rt: &R,
     alloc: Global,
-    mut rocket: Rocket<Ignite, Site>,
+    rocket: Rocket<Ignite, Site>,
 ) -> io::Result<()> {
-    for line in rt.lines(alloc) {
-        let line = line?;
-        rocket = serve_line(rt, alloc, rocket, line.as_str())?;
+    let links = read_links(rt, alloc)?;
+    let listener = ListListener::new(alloc, links.into_vec(), Vec::new(alloc))?;
+    let clock = ListClock::new(Vec::new(alloc));
+    match rocket.launch(rt, alloc, listener, clock, 0) {
+        Ok(over) => print_history(rt, alloc, &over.history),
+        Err(error) => println!(rt; "{}", error.pretty_print()),
     }
-    Ok(())
 }

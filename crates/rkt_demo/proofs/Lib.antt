@@ -4,6 +4,7 @@ pub mod Cookies
 pub mod Cuts
 pub mod Headers
 pub mod Igniting
+pub mod Lifted
 pub mod Lines
 pub mod LivesOnce
 pub mod Mounting

@@ -19,6 +19,10 @@ use Rattle.rkt_board.specs.declared.history.Failure.TheVariants.{BadHead, BodyFa
 use Rattle.rkt_board.specs.declared.history.EntryOf.{EntryOf}
 use Rattle.rkt_board.specs.declared.history.EventOf.{EventOf}
 use Rattle.rkt_board.specs.declared.history.EventOf.TheVariants.{Lift, Trip, Admit, End, Down, Close}
+use Rattle.rkt_life.specs.declared.no_fairing.NoFairing.{NoFairing}
+use Rattle.rkt_orbit.specs.Calls.{CallingAtShutdown}
+use Rattle.rkt_sample.specs.declared.catcher.SampleCatcher.{SampleCatcher}
+use Rattle.rkt_sample.specs.declared.route.SampleRoute.{SampleRoute}
 use Rattle.rkt_message.specs.Reading.{StreamErrs}
 use Rattle.rkt_message.specs.Sending.{MayWait}
 use Rattle.rkt_message.specs.Sent.{Sent}
@@ -54,14 +58,14 @@ timed_end window k (End n other m b ∷ es) entry timed found = by_number (n == 
     by_number false here later = later here
 
 -- where no word is allowed there is no Trip
-pub none_trips : (window : Option (ℕ × ℕ)) (tables : SampleTables) (before es : List (EventOf ℕ SourceInMemory LinkInMemory)) → AfterFrom (CauseAt NoWord (served_in window) tables) before es → list_any is_trip es ≡ false
-none_trips window tables before [] caused = refl
-none_trips window tables before (Trip w m ∷ es) caused = absurd (no_word w caused.0)
-none_trips window tables before (Lift calls ∷ es) caused = none_trips window tables (before ++ Lift calls ∷ []) es caused.1
-none_trips window tables before (Admit n m b ∷ es) caused = none_trips window tables (before ++ Admit n m b ∷ []) es caused.1
-none_trips window tables before (End n x m b ∷ es) caused = none_trips window tables (before ++ End n x m b ∷ []) es caused.1
-none_trips window tables before (Down calls ∷ es) caused = none_trips window tables (before ++ Down calls ∷ []) es caused.1
-none_trips window tables before (Close m ∷ es) caused = none_trips window tables (before ++ Close m ∷ []) es caused.1
+pub none_trips : {Task : Type 0} (shuts : CallingAtShutdown SampleRoute SampleCatcher (Unit {0}) ℕ NoFairing Task) (window : Option (ℕ × ℕ)) (tables : SampleTables) (before es : List (EventOf ℕ SourceInMemory LinkInMemory)) → AfterFrom (CauseAt NoWord shuts (served_in window) tables) before es → list_any is_trip es ≡ false
+none_trips shuts window tables before [] caused = refl
+none_trips shuts window tables before (Trip w m ∷ es) caused = absurd (no_word w caused.0)
+none_trips shuts window tables before (Lift calls ∷ es) caused = none_trips shuts window tables (before ++ Lift calls ∷ []) es caused.1
+none_trips shuts window tables before (Admit n m b ∷ es) caused = none_trips shuts window tables (before ++ Admit n m b ∷ []) es caused.1
+none_trips shuts window tables before (End n x m b ∷ es) caused = none_trips shuts window tables (before ++ End n x m b ∷ []) es caused.1
+none_trips shuts window tables before (Down calls ∷ es) caused = none_trips shuts window tables (before ++ Down calls ∷ []) es caused.1
+none_trips shuts window tables before (Close m ∷ es) caused = none_trips shuts window tables (before ++ Close m ∷ []) es caused.1
 
 -- an entry of a request
 record ServedFor (window : Option (ℕ × ℕ)) (tables : SampleTables) (request : ScriptRequest) (entry : Kept) : Type 0 where

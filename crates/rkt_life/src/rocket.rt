@@ -1,5 +1,5 @@
 //! A rocket, which is what it is made of in its phase, and what it does once it has ignited.
-ghost use Rattle.std.specs.Prelude.{◌≡◌, IfOk};
+ghost use Rattle.std.specs.Prelude.{◌≡◌, ◌<◌, ◌+◌, IfNone, IfOk, IfSome};
 ghost use Rattle.std.specs.Option.{option_copied};
 ghost use Rattle.rkt_config.specs.Managed.{value_at};
 ghost use Rattle.rkt_turn.specs.Shutdown.{fresh};
@@ -73,6 +73,20 @@ impl<P, A: App> RocketOf<
         ensures { option_copied result ≡ value_at key self.now.tables.managed }
     {
         self.state.tables.managed.get(key)
+    }
+
+    /// The word of the wire, if there is one. It looks with one load, unless a word was seen before.
+    pub fn tripped(&mut self) -> Option<u64>
+        ensures same { (self.new.tables ≡ self.old.tables) × (self.new.table ≡ self.old.table) }
+        ensures wire { self.new.handle.wire ≡ self.old.handle.wire }
+        ensures again { 0 < self.old.handle.seen → self.new ≡ self.old }
+        ensures load { self.old.handle.seen ≡ 0 → self.new.handle.looked ≡ self.old.handle.looked + 1 }
+
+        ensures found { IfSome result (λ word. (0 < word) × (self.new.handle.seen ≡ word)) }
+        ensures none { IfNone result (self.new.handle.seen ≡ 0) }
+        ensures allowed { IfSome result A.Reason.allowed }
+    {
+        self.state.handle.tripped()
     }
 
     /// Another handle of the wire, which has seen as much.

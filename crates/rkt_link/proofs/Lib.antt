@@ -1,3 +1,4 @@
 pub mod Clocks
 pub mod Listening
 pub mod Telling
+pub mod Unused

@@ -4,6 +4,7 @@
 mod boxed;
 mod clock;
 mod link;
+mod links;
 mod list_clock;
 mod list_listener;
 mod listener;
@@ -13,6 +14,7 @@ mod system_clock;
 pub use boxed::Boxed;
 pub use clock::Clock;
 pub use link::{Handed, Link, SendError};
+pub use links::Links;
 pub use list_clock::ListClock;
 pub use list_listener::ListListener;
 pub use listener::{Accepted, Listener};

@@ -1,5 +1,6 @@
 -- What is known of an exchange with a link that has ended.
 use Rattle.std.proofs.Common.{◌≡◌, ◌≤◌, ℕ, None, Some, Option, Result, arith, refl, sym, subst}
+use Rattle.std.specs.List.{All}
 use Rattle.rkt_base.specs.declared.poll.Poll.TheVariants.{Pending}
 use Rattle.rkt_cancel.specs.Cancel.{Cancellable}
 use Rattle.rkt_data.specs.Body.{Body}
@@ -20,6 +21,7 @@ use Rattle.rkt_request.specs.declared.head.Head.{Head}
 use Rattle.rkt_router.specs.Callbacks.{Handed, Refused, Reply}
 use Rattle.rkt_router.specs.Calling.{Calling}
 use Rattle.rkt_router.specs.Calls.{GateFits, GateRule, InWindow}
+use Rattle.rkt_routing.specs.Backs.{Sees}
 use Rattle.rkt_routing.specs.Beginning.{Beginning}
 use Rattle.rkt_source.specs.Source.{Meaning}
 use Rattle.rkt_source.specs.declared.source.Gate.{Gate}
@@ -67,6 +69,10 @@ module _ {V B C R F FTask GTask H HTask K KTask N : Type 0} (rel : Relations V B
   pub ended_back : (ended : EndedOf C R Handle) → EndsSo rel first tables ended → HandsBack first.at.kept.shutdown (handle_of ended)
   ended_back (Finished run response handle) ends = ends.backs.hands_back
   ended_back (Starved handle) ends = ends
+
+  pub ended_words : (ended : EndedOf C R Handle) → EndsSo rel first tables ended → IfFinished ended (λ run response. All (Sees (handle_of ended)) run.calls)
+  ended_words (Finished run response handle) ends = ends.backs.words
+  ended_words (Starved handle) ends = tt
 
   pub ended_moment : (ended : EndedOf C R Handle) → EndsSo rel first tables ended → IfFinished ended (λ run response. InWindow rel.gates.window run.moment)
   ended_moment (Finished run response handle) ends = subst (λ m. InWindow rel.gates.window m) ends.moment.2 ends.moment.1.moment

@@ -77,7 +77,7 @@ module _ {F H K N V X Q C R L : Type 0} (tables : SeenTables F H K N V) (table :
 
 module _ {V S C R F FTask GTask STask H HTask K KTask L N : Type 0} (allowed : ℕ → Type 0) (shuts : CallingAtShutdown H K N V F STask) (served : Serving V S C R F FTask GTask H HTask K KTask L) (tables : SeenTables F H K N V) where
   pub entry_of : (given : Option (List Asked)) (es : List (EventOf C R L)) (k : ℕ) → Entered served.links (CauseAt allowed shuts served tables) given es k → HasEntry served tables given es k
-  entry_of given es k entered = record { entry = entered.entry; found = entered.found; caused = entered.caused; asks = entered.asks }
+  entry_of given es k entered = record { entry = entered.entry; found = entered.found; caused = entered.caused.0; asks = entered.asks }
 
   -- what is known of a closed board is what is legal
   pub legal_of : (given : Option (List Asked)) (es seen : List (EventOf C R L)) → Ordered es → IsClosed es → AllCaused allowed shuts served tables es → EachEndsOnce es

@@ -1,5 +1,6 @@
 -- What stands behind each event.
-use Rattle.std.specs.Prelude.{◌≡◌, ℕ, List, [], Some, None}
+use Rattle.std.specs.Prelude.{◌≡◌, ◌<◌, ℕ, List, [], Some, None}
+use Rattle.std.specs.List.{All}
 use Rattle.std.specs.Option.{ForSome}
 use Rattle.rkt_lifecycle.specs.Tables.{SeenTables, table_of}
 use Rattle.rkt_lifecycle.specs.declared.ended.RunOf.{RunOf}
@@ -8,7 +9,9 @@ use Rattle.rkt_message.specs.Response.{ResponseOf}
 use Rattle.rkt_message.specs.Sending.{ReadOn}
 use Rattle.rkt_message.specs.declared.piece.Piece.{Piece}
 use Rattle.rkt_routing.specs.Routed.{turns_of}
+use Rattle.rkt_routing.specs.declared.run.Call.{Call}
 use Rattle.rkt_board.specs.After.{AfterFrom}
+use Rattle.rkt_board.specs.Turns.{ShowsTrip}
 use Rattle.rkt_orbit.specs.Calls.{CallingAtShutdown}
 use Rattle.rkt_orbit.specs.ShutsDown.{ShutsDown}
 use Rattle.rkt_serve.specs.Lifecycle.{Lifecycle}
@@ -50,13 +53,17 @@ module _ {V S C R F FTask GTask H HTask K KTask L N : Type 0} (served : Serving 
   abbrev pub Caused : EntryOf C R L → Type 0
   Caused entry = CausedAs entry entry.end
 
+-- a word that a call recorded is that of a Trip before
+abbrev pub SawTrip : {C R L : Type 0} → List (EventOf C R L) → Call → Type 0
+SawTrip before call = 0 < call.word → ShowsTrip (Some call.word) before
+
 module _ {V S C R F FTask GTask STask H HTask K KTask L N : Type 0} (allowed : ℕ → Type 0) (shuts : CallingAtShutdown H K N V F STask) (served : Serving V S C R F FTask GTask H HTask K KTask L) (tables : SeenTables F H K N V) where
-  -- what stands behind an event that follows those before it: an End has its cause, a Trip a word that is allowed, and a Down one call of each fairing that is called at a shutdown
+  -- what stands behind an event that follows those before it: an End has its cause, behind the Trip of a word that its run saw, a Trip a word that is allowed, and a Down one call of each fairing that is called at a shutdown
   abbrev pub CauseAt : List (EventOf C R L) → EventOf C R L → Type 0
   CauseAt before (Lift calls) = Unit {0}
   CauseAt before (Trip word moment) = allowed word
   CauseAt before (Admit number moment by) = Unit {0}
-  CauseAt before (End number entry moment by) = Caused served tables entry
+  CauseAt before (End number entry moment by) = Caused served tables entry × ForSome entry.run (λ run. All (SawTrip before) run.calls)
   CauseAt before (Down calls) = ShutsDown shuts (view_of tables) tables.fairings calls
   CauseAt before (Close moment) = Unit {0}
 

@@ -1,6 +1,6 @@
 //! One exchange, from what a link asks to its end.
 ghost use Rattle.std.specs.Prelude.{◌≡◌, ◌<◌, ◌+◌, false, IfErr, IfOk, IsSome};
-ghost use Rattle.std.specs.List.{list_any};
+ghost use Rattle.std.specs.List.{list_any, All};
 ghost use Rattle.rkt_board.specs.Board.{Keeps};
 ghost use Rattle.rkt_board.specs.Events.{is_close};
 ghost use Rattle.rkt_board.specs.Marks.{events};
@@ -10,6 +10,7 @@ ghost use Rattle.rkt_data.specs.Body.{Body};
 ghost use Rattle.rkt_lifecycle.specs.Ended.{IfFinished, handle_of};
 ghost use Rattle.rkt_lifecycle.specs.Stands.{EndsSo, StandsFor};
 ghost use Rattle.rkt_router.specs.Calls.{GateRule};
+ghost use Rattle.rkt_routing.specs.Backs.{Sees};
 ghost use Rattle.rkt_routing.specs.Beginning.{Beginning};
 ghost use Rattle.rkt_turn.specs.HandsBack.{HandsBack};
 ghost use Rattle.rkt_link.specs.Asked.{Asked, GivesBody, IsUntouched};
@@ -132,7 +133,7 @@ where
 }
 
 /// The exchange of what a head asks, with the body that a source gives. It begins at this moment, and ends at the one that
-/// stands beside it. Between its polls the wire is looked at, which may enter a Trip.
+/// stands beside it. Before each poll of it the wire is looked at, which may enter a Trip.
 pub(crate) fn run_exchange<'b, A: App, R: Wait, L: Listener, C: Clock>(
     rt: &R,
     alloc: Global,
@@ -153,6 +154,8 @@ where
     ensures moment { IfFinished result.0 (λ run response. IsAmid (C.meaning board.old.near.clock) (C.meaning board.new.near.clock) run.moment) }
     ensures last { IfFinished result.0 (λ run response. result.1 ≡ (C.meaning board.new.near.clock).last) }
     ensures handle { HandsBack shutdown (handle_of result.0) }
+    // A word that a call of the run recorded is the one that the handle has seen which comes back.
+    ensures words { IfFinished result.0 (λ run response. All (Sees (handle_of result.0)) run.calls) }
     ensures clock { TellsOn (C.meaning board.old.near.clock) (C.meaning board.new.near.clock) }
     ensures adds { TripsAs 0 board.old.book.marks.items board.new.book.marks.items }
     ensures keeps { Keeps L.Link.meaning L.meaning C.meaning (cause_of A.Reason.allowed A.Fairing.Shuts.calling A.Fairing.Requests.calling A.Fairing.Responses.calling A.Handler.calling A.Catch.calling A.Source.meaning A.Stream.meaning L.Link.meaning) board.new }

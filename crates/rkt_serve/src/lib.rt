@@ -14,8 +14,8 @@ pub use error::{Error, ErrorKind, ErrorKindOf, Launched, LaunchedOf};
 pub use launch::Launch;
 pub use rkt_board::{End, Entry, EntryOf, Event, EventOf, Failure, History, HistoryOf};
 pub use rkt_link::{
-    Accepted, Boxed, Clock, Handed, Link, ListClock, ListListener, Listener, MemoryLink, SendError,
-    SystemClock,
+    Accepted, Boxed, Clock, Handed, Link, Links, ListClock, ListListener, Listener, MemoryLink,
+    SendError, SystemClock,
 };
 pub use rkt_orbit::Called;
 pub use sending::send;

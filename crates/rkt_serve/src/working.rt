@@ -1,7 +1,8 @@
 //! What serves a link: one exchange with it, and the sending of its response.
 ghost use Rattle.std.specs.Prelude.{◌≡◌, ℕ, [], Option, None, Some, false};
-ghost use Rattle.std.specs.List.{list_any};
+ghost use Rattle.std.specs.List.{list_any, All};
 ghost use Rattle.std.specs.Option.{ForSome};
+ghost use Rattle.rkt_routing.specs.Backs.{Sees};
 ghost use Rattle.rkt_turn.specs.HandsBack.{HandsBack};
 ghost use Rattle.rkt_board.specs.Board.{Keeps};
 ghost use Rattle.rkt_board.specs.Events.{is_close};
@@ -69,6 +70,7 @@ impl<'a, A: App, R: Wait> Worker<'a, A, R> {
             → ForSome (K.meaning link).asked (λ asked. Lifecycle (callbacks_of (serving A.Fairing.Requests.calling A.Fairing.Responses.calling A.Handler.calling A.Catch.calling A.Source.meaning A.Stream.meaning K.meaning window) self.now.tables.now) self.now.tables.now A.Source.meaning asked run response)
             → Caused (serving A.Fairing.Requests.calling A.Fairing.Responses.calling A.Handler.calling A.Catch.calling A.Source.meaning A.Stream.meaning K.meaning window) self.now.tables.now result }
         ensures moment { ForSome result.run (λ kept. kept.moment ≡ run.moment) }
+        ensures calls { ForSome result.run (λ kept. kept.calls ≡ run.calls) }
     {
         let gate = gate_of::<A>(self.tables, moment);
         let turns = turns_of::<A>(self.tables);
@@ -108,6 +110,7 @@ impl<'a, A: App, R: Wait> Worker<'a, A, R> {
         ensures caused { IsFreshLink (L.Link.meaning link)
             → Caused (serving A.Fairing.Requests.calling A.Fairing.Responses.calling A.Handler.calling A.Catch.calling A.Source.meaning A.Stream.meaning L.Link.meaning (C.meaning board.old.near.clock).window) self.now.tables.now result.0 }
         ensures moment { ForSome result.0.run (λ run. IsAmid (C.meaning board.old.near.clock) (C.meaning board.new.near.clock) run.moment) }
+        ensures words { ForSome result.0.run (λ run. All (Sees result.1) run.calls) }
         ensures handle { HandsBack shutdown result.1 }
         ensures clock { TellsOn (C.meaning board.old.near.clock) (C.meaning board.new.near.clock) }
         ensures adds { TripsAs 0 board.old.book.marks.items board.new.book.marks.items }

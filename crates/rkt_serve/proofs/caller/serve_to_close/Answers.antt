@@ -3,7 +3,11 @@ use Rattle.rkt_board.specs.Events.{admitted}
 use Rattle.rkt_serve.specs.Headline.{IsLegal}
 use Rattle.rkt_serve.specs.Serving.{serving}
 use Rattle.rkt_serve.proofs.Launching.{legal_of}
+use Rattle.rkt_serve.proofs.Resting.{rest_lift}
 use Rattle.rkt_serve.proofs.caller.serve_to_close.Goals as goal
+
+pub work-back-requires-clause-rest : goal.work-back-requires-clause-rest
+work-back-requires-clause-rest g c = rest_lift _ _ c.args.calls c.lift-board.ensures.adds
 
 pub finish-closed-requires-clause-fresh : goal.finish-closed-requires-clause-fresh
 finish-closed-requires-clause-fresh g c given is =

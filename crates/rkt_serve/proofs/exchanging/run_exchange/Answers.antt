@@ -2,7 +2,7 @@ use Rattle.std.proofs.Common.{Some, subst}
 use Rattle.rkt_lifecycle.specs.Beginning.{beginning}
 use Rattle.rkt_lifecycle.specs.Stands.{EndsSo}
 use Rattle.rkt_source.specs.declared.source.Gate.{Gate}
-use Rattle.rkt_serve.proofs.Endings.{ended_back, ended_moment, ended_lifecycle, fit_between, fit_window, run_amid}
+use Rattle.rkt_serve.proofs.Endings.{ended_back, ended_words, ended_moment, ended_lifecycle, fit_between, fit_window, run_amid}
 use Rattle.rkt_serve.specs.Lifecycle.{body_from}
 use Rattle.rkt_serve.specs.Serving.{callbacks_with, gates_of, gates_with}
 use Rattle.rkt_serve.proofs.exchanging.run_exchange.Goals as goal
@@ -40,4 +40,14 @@ returns-in-Ok-clause-handle g c =
     let begun = c.in-Ok.ensures.begun in
     let first = beginning begun.request begun.jar begun.faults (body_from c.args.source) c.args.shutdown in
     ended_back (callbacks_with g.A.Source.Source.meaning g.A-Fairing-Requests-RequestCallback.calling g.A.Fairing.Responses.ResponseCallback.calling g.A-Handler-Handler.calling g.A.Catch.CatchHandler.calling rule) first c.in-Ok.exchange.tables c.to_end-ended.result.0
+    (c.to_end-ended.ensures.ends rule first (fit_window gate.grace gate.mercy old (g.C.Clock.meaning c.to_end-ended.new.board.near.clock)) (begun.stands rule))
+
+pub returns-in-Ok-clause-words : goal.returns-in-Ok-clause-words
+returns-in-Ok-clause-words g c =
+    let old = g.C.Clock.meaning c.args.board.now.near.clock in
+    let gate = c.gate_of-gate.result in
+    let rule = gates_with old.window gate.grace gate.mercy in
+    let begun = c.in-Ok.ensures.begun in
+    let first = beginning begun.request begun.jar begun.faults (body_from c.args.source) c.args.shutdown in
+    ended_words (callbacks_with g.A.Source.Source.meaning g.A-Fairing-Requests-RequestCallback.calling g.A.Fairing.Responses.ResponseCallback.calling g.A-Handler-Handler.calling g.A.Catch.CatchHandler.calling rule) first c.in-Ok.exchange.tables c.to_end-ended.result.0
     (c.to_end-ended.ensures.ends rule first (fit_window gate.grace gate.mercy old (g.C.Clock.meaning c.to_end-ended.new.board.near.clock)) (begun.stands rule))

@@ -11,7 +11,7 @@ use Rattle.rkt_serve.proofs.launch.RocketIgniteLaunch.launch.Goals as goal
 pub with_back-handle-requires : goal.with_back-handle-requires
 with_back-handle-requires g c =
     let known = c.serve_to_close-closed.ensures in
-    same_wire c.serve_to_close-closed.result.1 c.in-Ok-split.shutdown c.lift_tables.new.handle c.serve_to_close-closed.result.0.handle known.lent known.handle (c.requires-wire)
+    same_wire c.serve_to_close-closed.result.1 c.in-Ok-split.shutdown c.lift_tables.new.handle c.serve_to_close-closed.result.0.handle known.lent known.handle (ap (λ h. h.wire) (c.in-Ok-split.ensures.copy ∙ sym c.split.ensures.same) ∙ sym c.lift_tables.ensures.handle.wire)
 
 pub returns : goal.returns
 returns g c =

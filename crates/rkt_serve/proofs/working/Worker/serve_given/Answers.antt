@@ -3,7 +3,7 @@ use Rattle.rkt_link.specs.Clock.{IsWithin}
 use Rattle.rkt_board.proofs.Tripping.{stays_open}
 use Rattle.rkt_board.specs.Marks.{events}
 use Rattle.rkt_board.specs.Turns.{IsOpen}
-use Rattle.rkt_serve.proofs.Boards.{until_later}
+use Rattle.rkt_serve.proofs.Boards.{saw_trip, until_later}
 use Rattle.rkt_serve.proofs.Meanwhile.{still_unclosed, trips_then}
 use Rattle.rkt_serve.specs.Causes.{Caused}
 use Rattle.rkt_serve.specs.Serving.{serving}
@@ -33,11 +33,13 @@ end-requires-clause-ran g c run is =
     )
 
 pub end-requires-clause-caused : goal.end-requires-clause-caused
-end-requires-clause-caused g c moment late =
-    subst (λ n. Caused (serving g.A-Fairing-Requests-RequestCallback.calling g.A.Fairing.Responses.ResponseCallback.calling g.A-Handler-Handler.calling g.A.Catch.CatchHandler.calling g.A.Source.Source.meaning g.A.Stream.Source.meaning g.L.Link.Link.meaning (g.C.Clock.meaning n.clock.value).window) n.served.now.tables.now c.serve-entry.result.0) (sym (c.note_word-back.ensures.name ∙ c.serve-entry.ensures.name))
-    (subst (λ tables. Caused (serving g.A-Fairing-Requests-RequestCallback.calling g.A.Fairing.Responses.ResponseCallback.calling g.A-Handler-Handler.calling g.A.Catch.CatchHandler.calling g.A.Source.Source.meaning g.A.Stream.Source.meaning g.L.Link.Link.meaning (g.C.Clock.meaning c.args.board.now.name.clock.value).window) tables c.serve-entry.result.0) (sym c.requires.tables)
-    (subst (λ (w : Option (ℕ × ℕ)). Caused (serving g.A-Fairing-Requests-RequestCallback.calling g.A.Fairing.Responses.ResponseCallback.calling g.A-Handler-Handler.calling g.A.Catch.CatchHandler.calling g.A.Source.Source.meaning g.A.Stream.Source.meaning g.L.Link.Link.meaning w) c.args.self.now.tables.now c.serve-entry.result.0) c.requires.keeps.holds.clock.window
-    (c.serve-entry.ensures.caused c.requires.given.fresh)))
+end-requires-clause-caused g c moment late = (
+  subst (λ n. Caused (serving g.A-Fairing-Requests-RequestCallback.calling g.A.Fairing.Responses.ResponseCallback.calling g.A-Handler-Handler.calling g.A.Catch.CatchHandler.calling g.A.Source.Source.meaning g.A.Stream.Source.meaning g.L.Link.Link.meaning (g.C.Clock.meaning n.clock.value).window) n.served.now.tables.now c.serve-entry.result.0) (sym (c.note_word-back.ensures.name ∙ c.serve-entry.ensures.name))
+      (subst (λ tables. Caused (serving g.A-Fairing-Requests-RequestCallback.calling g.A.Fairing.Responses.ResponseCallback.calling g.A-Handler-Handler.calling g.A.Catch.CatchHandler.calling g.A.Source.Source.meaning g.A.Stream.Source.meaning g.L.Link.Link.meaning (g.C.Clock.meaning c.args.board.now.name.clock.value).window) tables c.serve-entry.result.0) (sym c.requires.tables)
+      (subst (λ (w : Option (ℕ × ℕ)). Caused (serving g.A-Fairing-Requests-RequestCallback.calling g.A.Fairing.Responses.ResponseCallback.calling g.A-Handler-Handler.calling g.A.Catch.CatchHandler.calling g.A.Source.Source.meaning g.A.Stream.Source.meaning g.L.Link.Link.meaning w) c.args.self.now.tables.now c.serve-entry.result.0) c.requires.keeps.holds.clock.window
+      (c.serve-entry.ensures.caused c.requires.given.fresh))),
+  λ run is. saw_trip c.note_word-back.result c.serve-entry.result.1 (events c.note_word-back.new.board.book.marks.items) run.calls c.note_word-back.ensures.unseen c.note_word-back.ensures.trip (c.serve-entry.ensures.words run is),
+)
 
 pub returns-clause-adds : goal.returns-clause-adds
 returns-clause-adds g c =

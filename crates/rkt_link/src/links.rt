@@ -1,0 +1,57 @@
+//! Links that nobody has used.
+ghost use Rattle.std.specs.Prelude.{◌≡◌, ◌++◌, ◌∷◌, [], OnOk, OnErr};
+ghost use Rattle.std.specs.List.{AllByRecursion};
+ghost use Rattle.rkt_link.specs.Memory.{IsUnused};
+
+use crate::MemoryLink;
+use rkt_base::NoMemory;
+use std::alloc::Global;
+use std::marker::Model;
+
+/// A list of links in memory that nobody has used, to be offered by a `ListListener`.
+#[derive(Debug, Drop)]
+pub struct Links {
+    links: Vec<MemoryLink>,
+}
+
+impl Model for Links {
+    ghost use Rattle.std.specs.Prelude.{List};
+    ghost use Rattle.std.specs.List.{AllByRecursion};
+    ghost use Rattle.rkt_link.specs.Memory.{LinkInMemory, IsUnused};
+
+    ghost Value = { List LinkInMemory };
+
+    ghost view = { λ l. l.links.items };
+
+    ghost invariant = { λ l. AllByRecursion IsUnused l.links.items };
+}
+
+impl Links {
+    /// No links.
+    pub fn new(alloc: Global) -> Links
+        ensures { result ≡ [] }
+    {
+        Links {
+            links: Vec::new(alloc),
+        }
+    }
+
+    /// Adds a link behind the others.
+    #[tactic(auto, using(crate::proofs::Unused::unused_push))]
+    pub fn push(&mut self, link: MemoryLink) -> Result<(), NoMemory>
+        requires unused { IsUnused link }
+        ensures ok { OnOk result (self.new ≡ self.old ++ link ∷ []) }
+        ensures err { OnErr result (self.new ≡ self.old) }
+    {
+        self.links.push(link)?;
+        Ok(())
+    }
+
+    /// All of them, in order.
+    pub fn into_vec(self) -> Vec<MemoryLink>
+        ensures all { result.items ≡ self }
+        ensures unused { AllByRecursion IsUnused result.items }
+    {
+        self.links
+    }
+}
