@@ -1,12 +1,17 @@
 -- What the handlers of the cases may answer.
-use Rattle.std.specs.Prelude.{◌≡◌, ⊤}
+use Rattle.std.specs.Prelude.{◌≡◌, ℕ}
 use Rattle.rkt_http.specs.declared.outcome.Outcome.TheVariants.{Success}
 use Rattle.rkt_message.specs.Response.{ResponseOf}
 use Rattle.rkt_request.specs.Lent.{Kept, Grows}
-use Rattle.rkt_router.specs.Callbacks.{Handed, Reply, at_once}
+use Rattle.rkt_router.specs.Callbacks.{Handed, Reply}
 use Rattle.rkt_router.specs.Calling.{Calling}
 use Rattle.cases_serve.specs.declared.app.Saying.{Saying}
 
--- some response at once, with what is lent grown
-abbrev pub saying : {V B C R : Type 0} → Calling Saying (Handed V B) (Kept C) (Reply R B) (Unit {0})
-saying {R = R} = at_once (λ handler handed task. ⊤) (λ handler handed before reply after. (response : ResponseOf R) × (reply ≡ Success response) × Grows before after)
+-- some response, with what is lent grown then; it is Pending once at most, and the task says how often it was
+abbrev pub saying : {V B C R : Type 0} → Calling Saying (Handed V B) (Kept C) (Reply R B) ℕ
+saying {R = R} = record {
+  may = λ handler handed before gates reply after. (response : ResponseOf R) × (reply ≡ Success response) × Grows before after;
+  begun = λ handler handed task before now gates n. (n ≡ task) × (now ≡ before);
+  pendings = λ handler handed before. 1;
+  may_fault = λ handler handed before. ⊥;
+}

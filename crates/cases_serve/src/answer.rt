@@ -1,3 +1,4 @@
+use crate::alarm::alarm;
 use crate::built::{ignite, told};
 use crate::error::CaseError;
 use crate::exchange::{exchange, parted};
@@ -49,6 +50,7 @@ fn launching<R: Wait + Threads>(
         "launch" => launch(rt, alloc, setting, rest),
         "ignite" => ignite(rt, alloc, setting, rest),
         "order" => order(rt, alloc, setting, rest),
+        "alarm" => alarm(rt, alloc, setting, rest),
         _ => told(rt, alloc, setting, rest),
     }
 }
@@ -63,7 +65,9 @@ pub fn answer<R: Wait + Threads>(
     let (command, rest) = first_word(line);
     match command {
         "routes" | "header" => set(alloc, setting, command, rest),
-        "launch" | "order" | "ignite" | "told" => launching(rt, alloc, setting, command, rest),
+        "launch" | "order" | "alarm" | "ignite" | "told" => launching(
+            rt, alloc, setting, command, rest,
+        ),
         "send" => send_case(rt, alloc, setting, rest),
         _ => asked(alloc, setting, command, rest),
     }

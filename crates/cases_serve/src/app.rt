@@ -13,7 +13,7 @@ use rkt_router::{Handler, Route, RouteOutcome, Router, Step};
 use rkt_turn::Reason;
 use std::alloc::Global;
 
-/// Answers with its own text. One that says `stop` notifies the wire.
+/// Answers with its own text. One that says `stop` notifies the wire, and one that says `wait` is Pending once.
 #[derive(Drop)]
 pub struct Saying {
     text: String,
@@ -42,19 +42,26 @@ impl Handler<Site> for Saying {
     ghost use Rattle.cases_serve.specs.Sayings.{saying};
     ghost use Rattle.cases_serve.specs.SayingLaws.{saying_keeps};
 
-    type Task = ();
+    /// How often it was Pending.
+    type Task = u32;
 
     ghost calling = { saying };
 
-    fn start(&self, _request: &Request<'_, Site>, _body: Body0<Site>) {}
+    fn start(&self, _request: &Request<'_, Site>, _body: Body0<Site>) -> u32 {
+        0
+    }
 
     fn poll(
         &self,
         alloc: Global,
-        _task: &mut (),
+        task: &mut u32,
         _request: &Request<'_, Site>,
         ctx: &mut Ctx<Site>,
     ) -> Step<RouteOutcome<Site>> {
+        if self.text.as_str() == "wait" && *task == 0 {
+            *task = 1;
+            return Step::Pending;
+        }
         match page(alloc, self.text.as_str()) {
             Ok(response) => {
                 notify(self.text.as_str(), ctx);

@@ -89,7 +89,7 @@ fn gives(listener: &mut ListListener) -> bool {
 }
 
 /// How many links a listener still gives, of nine at most.
-fn count_links(mut listener: ListListener) -> usize {
+pub fn count_links(mut listener: ListListener) -> usize {
     (0..9).filter(|_| gives(&mut listener)).count()
 }
 

@@ -11,15 +11,14 @@ use crate::pieces::ended;
 use crate::setting::Setting;
 use crate::words::{first_word, number, numbers};
 use rkt_serve::{
-    Entry, Error, EventOf, History, Launch, Launched, ListClock, ListListener, MemoryLink,
+    Clock, Entry, Error, EventOf, History, Launch, Launched, ListClock, ListListener, Listener,
+    MemoryLink,
 };
 use std::alloc::{AllocError, Global};
 use std::sync::Wait;
 use std::thread::Threads;
 
 pub type Over = Launched<Site, ListListener, ListClock>;
-
-pub type Refused = Error<Site, ListListener, ListClock>;
 
 fn run_cookies(alloc: Global, entry: &Entry<Site, MemoryLink>) -> Result<String, AllocError> {
     match &entry.run {
@@ -78,7 +77,7 @@ pub fn history_text(
 }
 
 /// Want of memory, which is the one error of a rocket that has ignited.
-pub fn refused(error: Refused) -> CaseError {
+pub fn refused<L: Listener, C: Clock>(error: Error<Site, L, C>) -> CaseError {
     let _text = error.pretty_print();
     CaseError::NoMemory
 }

@@ -3,7 +3,8 @@
 //! An empty line and one that begins with `#` are headings. What is no line of these is answered with `? line`.
 //!
 //!     routes PATH=TEXT ..                  from here on the application has these routes of GET, each of which says its
-//!                                          text; one that says `stop` notifies the wire
+//!                                          text; one that says `stop` notifies the wire, and one that says `wait` is
+//!                                          Pending once
 //!     header NAME: VALUE                   from here on every request has this header; without one, it has none
 //!     exchange MOMENT METHOD TARGET        one exchange at this moment: the status, the content type, the size of the
 //!                                          body, the calls, the cookies that came, the cached values and the moment
@@ -15,6 +16,10 @@
 //!                                          are, each entry, and the moment of the close
 //!     order POLLS LINK | LINK ..           the events of such a launch, in order, and those of a second launch of the rocket that
 //!                                          comes back, over the same links
+//!     alarm MOMENT MOMENTS POLLS LINK | LINK ..
+//!                                          the events of a launch whose clock tells these moments, and how many links are
+//!                                          left. The wire is notified by the clock where it tells this moment or a later
+//!                                          one, and by the listener in each poll that is Pending
 //!     ignite SETTINGS LINK | LINK ..       a launch of what is still built: the routes are mounted at `/`, and the table has
 //!                                          these settings. Its history, or why it does not ignite and how many links are
 //!                                          left
@@ -29,6 +34,7 @@
 //! MOMENTS, POLLS and READS are numbers parted by commas, SETTINGS are NAME=TEXT parted by commas, or `-` for none. In a value, `\n` is a line feed.
 #![tactic(auto)]
 
+mod alarm;
 mod answer;
 mod app;
 mod built;

@@ -34,7 +34,11 @@ fn push_event(
     push_item(text, event.as_str())
 }
 
-fn events_text(alloc: Global, history: &History<Site, MemoryLink>) -> Result<String, AllocError> {
+/// The events of a launch, in order.
+pub fn events_text(
+    alloc: Global,
+    history: &History<Site, MemoryLink>,
+) -> Result<String, AllocError> {
     let mut text = String::new(alloc);
     for event in history.events.as_slice() {
         push_event(alloc, &mut text, event)?;

@@ -40,7 +40,7 @@ with_clock s clock = record { name = s.name; book = s.book; near = record { list
 abbrev pub with_handle : {C S K P L Q : Type 0} → BoardAs C S K P L Q → Handle → BoardAs C S K P L Q
 with_handle s handle = record { name = s.name; book = s.book; near = record { listener = s.near.listener; clock = s.near.clock; handle = handle; over = s.near.over } }
 
-no_less : (seen old new : ℕ) → (0 < seen → new ≡ old) → (seen ≡ 0 → new ≡ old + 1) → old ≤ new
+pub no_less : (seen old new : ℕ) → (0 < seen → new ≡ old) → (seen ≡ 0 → new ≡ old + 1) → old ≤ new
 no_less zero old new again load = omega (arith, load refl)
 no_less (suc n) old new again load = omega (arith, again (omega arith))
 

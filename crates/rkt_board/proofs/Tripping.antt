@@ -1,11 +1,14 @@
 -- What a Trip leaves.
-use Rattle.std.proofs.Common.{inl, inr, ◌≡◌, ◌++◌, ℕ, true, false, List, [], ◌∷◌, Some, slice_get, refl, ap, ◌∙◌, sym, subst, arith}
+use Rattle.std.proofs.Common.{inl, inr, ◌≡◌, ◌<◌, ◌+◌, ◌++◌, ℕ, true, false, List, [], ◌∷◌, Some, slice_get, refl, ap, ◌∙◌, sym, subst, arith}
 use Rattle.std.proofs.lemmas.Grind.{common_steps}
 use Rattle.std.specs.List.{list_any}
+use Rattle.rkt_turn.specs.HandsBack.{HandsBack}
+use Rattle.rkt_turn.specs.Shutdown.{Handle}
 use Rattle.rkt_link.specs.Link.{LinkMeaning}
 use Rattle.rkt_board.proofs.Core.{down_tripped}
 use Rattle.rkt_board.proofs.Counting.{is_not}
 use Rattle.rkt_board.proofs.Holding.{carries_other}
+use Rattle.rkt_board.proofs.Keeping.{no_less}
 use Rattle.rkt_board.proofs.Pushes.{any_push, map_push, word_new}
 use Rattle.rkt_board.specs.Events.{is_trip, is_down, is_close, admits_by, admits_until, ends, trip_word, Ordered}
 use Rattle.rkt_board.specs.Marks.{events, carries}
@@ -13,6 +16,10 @@ use Rattle.rkt_board.specs.Turns.{mark, IsOpen, MayDown, TripsAs, ShowsTrip, Sta
 use Rattle.rkt_board.specs.declared.history.EventOf.{EventOf}
 use Rattle.rkt_board.specs.declared.history.EventOf.TheVariants.{Trip}
 use Rattle.rkt_board.specs.declared.mark.MarkOf.{MarkOf}
+
+-- a handle that has looked
+pub looked_back : (old new : Handle) → new.wire ≡ old.wire → (0 < old.seen → new ≡ old) → (old.seen ≡ 0 → new.looked ≡ old.looked + 1) → HandsBack old new
+looked_back old new wire again load = record { wire = wire; looked = no_less old.seen old.looked new.looked (λ some. ap (λ h. h.looked) (again some)) load; seen = λ some. ap (λ h. h.seen) (again some) }
 
 -- a Trip more, where none stood yet
 pub shows_new : {C S K : Type 0} (v ms : List (MarkOf C S K)) (by word moment : ℕ) → v ≡ ms ++ mark by (Trip word moment) ∷ [] → list_any is_trip (events ms) ≡ false → ShowsTrip (Some word) (events v)

@@ -1,6 +1,7 @@
 //! What happens in a launch: one call for each event.
 ghost use Rattle.std.specs.Prelude.{◌≡◌, ◌≤◌, ◌<◌, ◌+◌, ◌↔◌, ℕ, Some, true, false, IsTrue, IfSome, length, vec_capacity};
 ghost use Rattle.std.specs.List.{list_any};
+ghost use Rattle.rkt_turn.specs.HandsBack.{HandsBack};
 ghost use Rattle.rkt_link.specs.Clock.{IsAmid, IsWithin, TellsOn};
 ghost use Rattle.rkt_board.specs.Board.{Keeps, SameBook};
 ghost use Rattle.rkt_board.specs.Events.{is_close, admitted};
@@ -170,6 +171,7 @@ pub fn look<'a, A: Types, P: Served<A, L::Link>, L: Listener, C: Clock>(
     ensures moment { IsAmid (C.meaning board.old.near.clock) (C.meaning board.new.near.clock) result.0 }
     ensures last { (C.meaning board.new.near.clock).last ≡ result.0 }
     ensures looked { board.old.near.handle.seen ≡ 0 → board.new.near.handle.looked ≡ board.old.near.handle.looked + 1 }
+    ensures handle { HandsBack board.old.near.handle board.new.near.handle }
     ensures clock { TellsOn (C.meaning board.old.near.clock) (C.meaning board.new.near.clock) }
     ensures word { ShowsTrip result.1 (events board.new.book.marks.items) }
     ensures adds { TripsAs by board.old.book.marks.items board.new.book.marks.items }

@@ -20,7 +20,7 @@ use Rattle.rkt_request.specs.Seen.{Seen}
 use Rattle.rkt_request.specs.declared.head.Head.{Head}
 use Rattle.rkt_router.specs.Callbacks.{Handed, Refused, Reply}
 use Rattle.rkt_router.specs.Calling.{Calling}
-use Rattle.rkt_router.specs.Calls.{GateRule, InWindow}
+use Rattle.rkt_router.specs.Calls.{GateFits, GateRule, InWindow}
 use Rattle.rkt_routing.specs.Backs.{Sees}
 use Rattle.rkt_routing.specs.Beginning.{Beginning}
 use Rattle.rkt_source.specs.Source.{Meaning}
@@ -28,8 +28,9 @@ use Rattle.rkt_source.specs.declared.source.Gate.{Gate}
 use Rattle.rkt_turn.specs.HandsBack.{HandsBack}
 use Rattle.rkt_turn.specs.Shutdown.{Handle}
 use Rattle.rkt_link.specs.Asked.{Asked, GivesBody, IsUntouched}
-use Rattle.rkt_serve.specs.Begun.{AllFit, IsBegun}
-use Rattle.rkt_link.specs.Clock.{ClockMeaning, IsAmid, IsWithin}
+use Rattle.rkt_serve.specs.Begun.{AllFit, IsBegun, gate_with}
+use Rattle.rkt_link.proofs.Telling.{told_within}
+use Rattle.rkt_link.specs.Clock.{ClockMeaning, IsAmid, IsWithin, TellsOn}
 use Rattle.rkt_serve.specs.Lifecycle.{Lifecycle, body_from}
 use Rattle.rkt_serve.specs.Serving.{callbacks_with, gates_with}
 
@@ -52,6 +53,12 @@ fit_between grace mercy old new moment amid = record { moment = (amid.from, amid
 -- what all Gates fit that may be told up to a moment, those fit that were told before
 pub fit_before : (rule : GateRule) (grace mercy : ℕ) (old now new : ClockMeaning) → now.last ≤ new.last → AllFit rule grace mercy old new → AllFit rule grace mercy old now
 fit_before rule grace mercy old now new rises fit moment amid = fit moment (record { from = amid.from; to = omega (arith, amid.to, rises); within = amid.within })
+
+-- the Gate of a moment that was told last fits them
+pub fit_gate : (rule : GateRule) (grace mercy : ℕ) (first old new : ClockMeaning) (gate : Gate) → AllFit rule grace mercy first new → gate ≡ gate_with gate.moment grace mercy → TellsOn first old → IsAmid old new gate.moment → GateFits rule gate
+fit_gate rule grace mercy first old new gate fit is told amid =
+    let since : IsAmid first new gate.moment = record { from = omega (arith, told.rises, amid.from); to = amid.to; within = told_within first old gate.moment told amid.within } in
+    subst (λ (x : Gate). GateFits rule x) (sym is) (fit gate.moment since)
 
 module _ {V B C R F FTask GTask H HTask K KTask N : Type 0} (rel : Relations V B C R F FTask GTask H HTask K KTask) (first : Beginning V B C) (tables : SeenTables F H K N V) where
   -- one that was Pending goes on

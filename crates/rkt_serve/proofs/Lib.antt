@@ -7,4 +7,5 @@ pub mod Sendings
 pub mod Launching
 pub mod Lifting
 pub mod Lighting
+pub mod Meanwhile
 pub mod Handles

@@ -57,8 +57,8 @@ where
 }
 
 impl<'a, A: App, R: Wait> Worker<'a, A, R> {
-    // Serves a link that was admitted, to its End, and hands the handle back. Where that has seen a word, the board has it
-    // from then on, and its Trip stands before the End.
+    // Serves a link that was admitted, to its End, and hands the handle back. The Trip of a word that was seen meanwhile
+    // stands before the End; where the handle has seen it, the board has that from then on.
     fn serve_given<'b, L: Listener, C: Clock>(
         &self,
         board: &mut BoardOf<'b, A, Lent<'b, Tables<A>>, L, C>,
@@ -81,7 +81,7 @@ impl<'a, A: App, R: Wait> Worker<'a, A, R> {
         ensures clock { TellsOn (C.meaning board.old.near.clock) (C.meaning board.new.near.clock) }
         ensures keeps { Keeps L.Link.meaning L.meaning C.meaning (cause_of A.Reason.allowed A.Fairing.Shuts.calling A.Fairing.Requests.calling A.Fairing.Responses.calling A.Handler.calling A.Catch.calling A.Source.meaning A.Stream.meaning L.Link.meaning) board.new }
     {
-        let (entry, back) = self.serve(link, shutdown, moment, &mut board.near.clock);
+        let (entry, back) = self.serve(link, shutdown, moment, board);
         let back = note_word::<A, L, C>(board, back);
         end::<A, Lent<'b, Tables<A>>, L, C>(board, CALLER, number, entry);
         back

@@ -1,6 +1,10 @@
 //! One exchange, from what a link asks to its end.
-ghost use Rattle.std.specs.Prelude.{◌≡◌, IfErr, IfOk, IsSome};
-ghost use Rattle.std.specs.List.{All};
+ghost use Rattle.std.specs.Prelude.{◌≡◌, ◌<◌, ◌+◌, false, IfErr, IfOk, IsSome};
+ghost use Rattle.std.specs.List.{list_any, All};
+ghost use Rattle.rkt_board.specs.Board.{Keeps};
+ghost use Rattle.rkt_board.specs.Events.{is_close};
+ghost use Rattle.rkt_board.specs.Marks.{events};
+ghost use Rattle.rkt_board.specs.Turns.{TripsAs};
 ghost use Rattle.rkt_cancel.specs.Cancel.{Cancellable};
 ghost use Rattle.rkt_data.specs.Body.{Body};
 ghost use Rattle.rkt_lifecycle.specs.Ended.{IfFinished, handle_of};
@@ -12,11 +16,15 @@ ghost use Rattle.rkt_turn.specs.HandsBack.{HandsBack};
 ghost use Rattle.rkt_link.specs.Asked.{Asked, GivesBody, IsUntouched};
 ghost use Rattle.rkt_serve.specs.Begun.{AllFit, IsBegun, gate_at, gate_with};
 ghost use Rattle.rkt_link.specs.Clock.{IsAmid, TellsOn};
+ghost use Rattle.rkt_serve.specs.Lent.{cause_of};
 ghost use Rattle.rkt_serve.specs.Lifecycle.{Lifecycle};
 ghost use Rattle.rkt_serve.specs.Serving.{callbacks_with, gates_of};
 
-use crate::Clock;
+use crate::causes::Lent;
+use crate::working::CALLER;
+use crate::{Clock, Link, Listener};
 use rkt_base::Poll;
+use rkt_board::{BoardOf, look};
 use rkt_data::{CancellableIo, Data, Gate};
 use rkt_life::{App, Ended, EndedOf, Exchange, Tables};
 use rkt_request::{Head, Request};
@@ -64,27 +72,60 @@ fn begin<'a, A: App>(
     Ok(Exchange::new(alloc, tables, incoming, body, shutdown, gate))
 }
 
-// Polls an exchange to its end, each time under the Gate of the next moment, and gives the last one beside it.
-fn to_end<A: App, R: Wait, C: Clock>(
+// Looks at the wire, and gives the Gate of that moment. Where it is the first to see a word, it enters the Trip.
+fn next_gate<'b, A: App, L: Listener, C: Clock>(
+    grace: u32,
+    mercy: u32,
+    board: &mut BoardOf<'b, A, Lent<'b, Tables<A>>, L, C>,
+) -> Gate
+where
+    L::Link: Link<Source = A::Source>,
+    requires keeps { Keeps L.Link.meaning L.meaning C.meaning (cause_of A.Reason.allowed A.Fairing.Shuts.calling A.Fairing.Requests.calling A.Fairing.Responses.calling A.Handler.calling A.Catch.calling A.Source.meaning A.Stream.meaning L.Link.meaning) board.old }
+    requires unclosed { list_any is_close (events board.old.book.marks.items) ≡ false }
+    ensures name { board.new.name ≡ board.old.name }
+    ensures gate { result ≡ gate_with result.moment grace mercy }
+    ensures moment { IsAmid (C.meaning board.old.near.clock) (C.meaning board.new.near.clock) result.moment }
+    ensures last { (C.meaning board.new.near.clock).last ≡ result.moment }
+    ensures clock { TellsOn (C.meaning board.old.near.clock) (C.meaning board.new.near.clock) }
+    // It looks with one load, unless a word was seen before.
+    ensures looked { board.old.near.handle.seen ≡ 0 → board.new.near.handle.looked ≡ board.old.near.handle.looked + 1 }
+    ensures handle { HandsBack board.old.near.handle board.new.near.handle }
+    ensures adds { TripsAs 0 board.old.book.marks.items board.new.book.marks.items }
+    ensures keeps { Keeps L.Link.meaning L.meaning C.meaning (cause_of A.Reason.allowed A.Fairing.Shuts.calling A.Fairing.Requests.calling A.Fairing.Responses.calling A.Handler.calling A.Catch.calling A.Source.meaning A.Stream.meaning L.Link.meaning) board.new }
+{
+    let (moment, _word) = look::<A, Lent<'b, Tables<A>>, L, C>(board, CALLER);
+    gate_with(moment, grace, mercy)
+}
+
+// Polls an exchange to its end, each time under the Gate of the next moment, and gives the last one beside it. Before each
+// poll it looks at the wire.
+fn to_end<'b, A: App, R: Wait, L: Listener, C: Clock>(
     rt: &R,
     exchange: &mut Exchange<'_, A>,
     grace: u32,
     mercy: u32,
-    clock: &mut C,
+    board: &mut BoardOf<'b, A, Lent<'b, Tables<A>>, L, C>,
 ) -> (Ended<A>, u64)
+where
+    L::Link: Link<Source = A::Source>,
     requires going { IsSome exchange.old.phase }
+    requires keeps { Keeps L.Link.meaning L.meaning C.meaning (cause_of A.Reason.allowed A.Fairing.Shuts.calling A.Fairing.Requests.calling A.Fairing.Responses.calling A.Handler.calling A.Catch.calling A.Source.meaning A.Stream.meaning L.Link.meaning) board.old }
+    requires unclosed { list_any is_close (events board.old.book.marks.items) ≡ false }
+    ensures name { board.new.name ≡ board.old.name }
     // Whatever rule all Gates fit that it may be polled under.
-    ensures ends { (rule : GateRule) (first : Beginning A.Value (Body (Cancellable A.Source)) A.Cached) → AllFit rule grace mercy (C.meaning clock.old) (C.meaning clock.new)
+    ensures ends { (rule : GateRule) (first : Beginning A.Value (Body (Cancellable A.Source)) A.Cached) → AllFit rule grace mercy (C.meaning board.old.near.clock) (C.meaning board.new.near.clock)
         → StandsFor (callbacks_with A.Source.meaning A.Fairing.Requests.calling A.Fairing.Responses.calling A.Handler.calling A.Catch.calling rule) first exchange.old.tables exchange.old.phase
         → EndsSo (callbacks_with A.Source.meaning A.Fairing.Requests.calling A.Fairing.Responses.calling A.Handler.calling A.Catch.calling rule) first exchange.old.tables result.0 }
-    ensures last { result.1 ≡ (C.meaning clock.new).last }
-    ensures clock { TellsOn (C.meaning clock.old) (C.meaning clock.new) }
+    ensures last { result.1 ≡ (C.meaning board.new.near.clock).last }
+    ensures clock { TellsOn (C.meaning board.old.near.clock) (C.meaning board.new.near.clock) }
+    ensures looked { board.old.near.handle.seen ≡ 0 → board.old.near.handle.looked < board.new.near.handle.looked }
+    ensures adds { TripsAs 0 board.old.book.marks.items board.new.book.marks.items }
+    ensures keeps { Keeps L.Link.meaning L.meaning C.meaning (cause_of A.Reason.allowed A.Fairing.Shuts.calling A.Fairing.Requests.calling A.Fairing.Responses.calling A.Handler.calling A.Catch.calling A.Source.meaning A.Stream.meaning L.Link.meaning) board.new }
 {
     for _ in rt.forever() {
-        let moment = clock.now();
-        let gate = gate_with(moment, grace, mercy);
+        let gate = next_gate::<A, L, C>(grace, mercy, board);
         match exchange.poll(gate) {
-            Poll::Ready(ended) => return (ended, moment),
+            Poll::Ready(ended) => return (ended, gate.moment),
             Poll::Pending => {}
         }
     }
@@ -92,8 +133,8 @@ fn to_end<A: App, R: Wait, C: Clock>(
 }
 
 /// The exchange of what a head asks, with the body that a source gives. It begins at this moment, and ends at the one that
-/// stands beside it.
-pub(crate) fn run_exchange<A: App, R: Wait, C: Clock>(
+/// stands beside it. Before each poll of it the wire is looked at, which may enter a Trip.
+pub(crate) fn run_exchange<'b, A: App, R: Wait, L: Listener, C: Clock>(
     rt: &R,
     alloc: Global,
     tables: &Tables<A>,
@@ -101,21 +142,28 @@ pub(crate) fn run_exchange<A: App, R: Wait, C: Clock>(
     source: A::Source,
     shutdown: Shutdown<A::Reason>,
     moment: u64,
-    clock: &mut C,
+    board: &mut BoardOf<'b, A, Lent<'b, Tables<A>>, L, C>,
 ) -> (Ended<A>, u64)
+where
+    L::Link: Link<Source = A::Source>,
+    requires keeps { Keeps L.Link.meaning L.meaning C.meaning (cause_of A.Reason.allowed A.Fairing.Shuts.calling A.Fairing.Requests.calling A.Fairing.Responses.calling A.Handler.calling A.Catch.calling A.Source.meaning A.Stream.meaning L.Link.meaning) board.old }
+    requires unclosed { list_any is_close (events board.old.book.marks.items) ≡ false }
+    ensures name { board.new.name ≡ board.old.name }
     ensures lifecycle { (asked : Asked) → asked.head ≡ head.now → IsUntouched (A.Source.meaning source) → GivesBody asked (A.Source.meaning source)
-        → IfFinished result.0 (Lifecycle (callbacks_with A.Source.meaning A.Fairing.Requests.calling A.Fairing.Responses.calling A.Handler.calling A.Catch.calling (gates_of (C.meaning clock.old).window tables.now)) tables.now A.Source.meaning asked) }
-    ensures moment { IfFinished result.0 (λ run response. IsAmid (C.meaning clock.old) (C.meaning clock.new) run.moment) }
-    ensures last { IfFinished result.0 (λ run response. result.1 ≡ (C.meaning clock.new).last) }
+        → IfFinished result.0 (Lifecycle (callbacks_with A.Source.meaning A.Fairing.Requests.calling A.Fairing.Responses.calling A.Handler.calling A.Catch.calling (gates_of (C.meaning board.old.near.clock).window tables.now)) tables.now A.Source.meaning asked) }
+    ensures moment { IfFinished result.0 (λ run response. IsAmid (C.meaning board.old.near.clock) (C.meaning board.new.near.clock) run.moment) }
+    ensures last { IfFinished result.0 (λ run response. result.1 ≡ (C.meaning board.new.near.clock).last) }
     ensures handle { HandsBack shutdown (handle_of result.0) }
     // A word that a call of the run recorded is the one that the handle has seen which comes back.
     ensures words { IfFinished result.0 (λ run response. All (Sees (handle_of result.0)) run.calls) }
-    ensures clock { TellsOn (C.meaning clock.old) (C.meaning clock.new) }
+    ensures clock { TellsOn (C.meaning board.old.near.clock) (C.meaning board.new.near.clock) }
+    ensures adds { TripsAs 0 board.old.book.marks.items board.new.book.marks.items }
+    ensures keeps { Keeps L.Link.meaning L.meaning C.meaning (cause_of A.Reason.allowed A.Fairing.Shuts.calling A.Fairing.Requests.calling A.Fairing.Responses.calling A.Handler.calling A.Catch.calling A.Source.meaning A.Stream.meaning L.Link.meaning) board.new }
 {
     let gate = gate_of::<A>(tables, moment);
     match begin(alloc, tables, head, source, shutdown, gate) {
         Ok(mut exchange) => {
-            let ended = to_end::<A, R, C>(rt, &mut exchange, gate.grace, gate.mercy, clock);
+            let ended = to_end::<A, R, L, C>(rt, &mut exchange, gate.grace, gate.mercy, board);
             // By a call, in which that is proved once for its type.
             drop(exchange);
             ended

@@ -1,18 +1,25 @@
 //! What serves a link: one exchange with it, and the sending of its response.
-ghost use Rattle.std.specs.Prelude.{◌≡◌, ℕ, [], Option, None, Some};
-ghost use Rattle.std.specs.List.{All};
+ghost use Rattle.std.specs.Prelude.{◌≡◌, ℕ, [], Option, None, Some, false};
+ghost use Rattle.std.specs.List.{list_any, All};
 ghost use Rattle.std.specs.Option.{ForSome};
 ghost use Rattle.rkt_routing.specs.Backs.{Sees};
 ghost use Rattle.rkt_turn.specs.HandsBack.{HandsBack};
+ghost use Rattle.rkt_board.specs.Board.{Keeps};
+ghost use Rattle.rkt_board.specs.Events.{is_close};
+ghost use Rattle.rkt_board.specs.Marks.{events};
+ghost use Rattle.rkt_board.specs.Turns.{TripsAs};
 ghost use Rattle.rkt_serve.specs.Causes.{Caused};
 ghost use Rattle.rkt_link.specs.Clock.{IsAmid, TellsOn};
+ghost use Rattle.rkt_serve.specs.Lent.{cause_of};
 ghost use Rattle.rkt_serve.specs.Lifecycle.{Lifecycle};
 ghost use Rattle.rkt_link.specs.Link.{IsFreshLink};
 ghost use Rattle.rkt_serve.specs.Serving.{serving, callbacks_of};
 
+use crate::causes::Lent;
 use crate::exchanging::{gate_of, run_exchange};
 use crate::sending::send;
-use crate::{Boxed, Clock, End, Entry, EntryOf, Link};
+use crate::{Boxed, Clock, End, Entry, EntryOf, Link, Listener};
+use rkt_board::BoardOf;
 use rkt_life::{App, EndedOf, Run, Tables};
 use rkt_message::Response;
 use rkt_turn::Shutdown;
@@ -87,25 +94,32 @@ impl<'a, A: App, R: Wait> Worker<'a, A, R> {
 
     // One exchange from a moment on, kept with its end, and the handle that it was given. A link that is fresh has its
     // source.
-    pub(crate) fn serve<K: Link<Source = A::Source>, C: Clock>(
+    pub(crate) fn serve<'b, L: Listener, C: Clock>(
         &self,
-        mut link: K,
+        mut link: L::Link,
         shutdown: Shutdown<A::Reason>,
         moment: u64,
-        clock: &mut C,
-    ) -> (Entry<A, K>, Shutdown<A::Reason>)
-        ensures asked { (K.meaning result.0.link).asked ≡ (K.meaning link).asked }
-        ensures caused { IsFreshLink (K.meaning link)
-            → Caused (serving A.Fairing.Requests.calling A.Fairing.Responses.calling A.Handler.calling A.Catch.calling A.Source.meaning A.Stream.meaning K.meaning (C.meaning clock.old).window) self.now.tables.now result.0 }
-        ensures moment { ForSome result.0.run (λ run. IsAmid (C.meaning clock.old) (C.meaning clock.new) run.moment) }
+        board: &mut BoardOf<'b, A, Lent<'b, Tables<A>>, L, C>,
+    ) -> (Entry<A, L::Link>, Shutdown<A::Reason>)
+    where
+        L::Link: Link<Source = A::Source>,
+        requires keeps { Keeps L.Link.meaning L.meaning C.meaning (cause_of A.Reason.allowed A.Fairing.Shuts.calling A.Fairing.Requests.calling A.Fairing.Responses.calling A.Handler.calling A.Catch.calling A.Source.meaning A.Stream.meaning L.Link.meaning) board.old }
+        requires unclosed { list_any is_close (events board.old.book.marks.items) ≡ false }
+        ensures name { board.new.name ≡ board.old.name }
+        ensures asked { (L.Link.meaning result.0.link).asked ≡ (L.Link.meaning link).asked }
+        ensures caused { IsFreshLink (L.Link.meaning link)
+            → Caused (serving A.Fairing.Requests.calling A.Fairing.Responses.calling A.Handler.calling A.Catch.calling A.Source.meaning A.Stream.meaning L.Link.meaning (C.meaning board.old.near.clock).window) self.now.tables.now result.0 }
+        ensures moment { ForSome result.0.run (λ run. IsAmid (C.meaning board.old.near.clock) (C.meaning board.new.near.clock) run.moment) }
         ensures words { ForSome result.0.run (λ run. All (Sees result.1) run.calls) }
         ensures handle { HandsBack shutdown result.1 }
-        ensures clock { TellsOn (C.meaning clock.old) (C.meaning clock.new) }
+        ensures clock { TellsOn (C.meaning board.old.near.clock) (C.meaning board.new.near.clock) }
+        ensures adds { TripsAs 0 board.old.book.marks.items board.new.book.marks.items }
+        ensures keeps { Keeps L.Link.meaning L.meaning C.meaning (cause_of A.Reason.allowed A.Fairing.Shuts.calling A.Fairing.Requests.calling A.Fairing.Responses.calling A.Handler.calling A.Catch.calling A.Source.meaning A.Stream.meaning L.Link.meaning) board.new }
     {
         let Some(source) = link.take_source() else {
             return (starved(link), shutdown);
         };
-        let (ended, last) = run_exchange::<A, R, C>(
+        let (ended, last) = run_exchange::<A, R, L, C>(
             self.rt,
             self.alloc,
             self.tables,
@@ -113,7 +127,7 @@ impl<'a, A: App, R: Wait> Worker<'a, A, R> {
             source,
             shutdown,
             moment,
-            clock,
+            board,
         );
         match ended {
             EndedOf::Finished {

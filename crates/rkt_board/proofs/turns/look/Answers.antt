@@ -1,6 +1,6 @@
 use Rattle.rkt_board.proofs.Holding.{tells_this, untripped}
 use Rattle.rkt_board.proofs.Keeping.{keeps_look}
-use Rattle.rkt_board.proofs.Tripping.{stays_open}
+use Rattle.rkt_board.proofs.Tripping.{looked_back, stays_open}
 use Rattle.rkt_board.proofs.turns.look.Goals as goal
 
 pub note_trip-requires-clause-keeps : goal.note_trip-requires-clause-keeps
@@ -15,3 +15,9 @@ returns-in-None-clause-word g c =
     let after = keeps_look _ _ _ _ c.args.board.now c.now-moment.new.self c.tripped.new.self c.requires.keeps
     (tells_this _ _ _ c.now-moment.ensures.rises c.now-moment.ensures.last) c.tripped.ensures.wire c.tripped.ensures.again c.tripped.ensures.load in
     untripped _ _ _ _ _ _ after.holds after.legal.ordered (rw c.in-None.is at c.tripped.ensures.none)
+
+pub returns-in-Some-clause-handle : goal.returns-in-Some-clause-handle
+returns-in-Some-clause-handle g c = rw c.note_trip.ensures.near (looked_back _ _ c.tripped.ensures.wire c.tripped.ensures.again c.tripped.ensures.load)
+
+pub returns-in-None-clause-handle : goal.returns-in-None-clause-handle
+returns-in-None-clause-handle g c = looked_back _ _ c.tripped.ensures.wire c.tripped.ensures.again c.tripped.ensures.load

@@ -1,52 +1,66 @@
-use Rattle.std.proofs.Common.{refl, sym, subst, ◌∙◌, ap, arith}
+use Rattle.std.proofs.Common.{inl, inr, refl, sym, subst, ◌∙◌, arith}
 use Rattle.rkt_lifecycle.specs.Peeks.{waits_of}
 use Rattle.rkt_lifecycle.specs.Stands.{EndsSo}
-use Rattle.rkt_router.specs.Calls.{GateFits}
-use Rattle.rkt_serve.proofs.Endings.{fit_before, goes_on}
-use Rattle.rkt_link.proofs.Telling.{tells_same, tells_more, told_within}
-use Rattle.rkt_link.specs.Clock.{ClockMeaning}
+use Rattle.rkt_serve.proofs.Endings.{fit_before, fit_gate, goes_on}
+use Rattle.rkt_serve.proofs.Meanwhile.{looks_again, still_unclosed, trips_then}
+use Rattle.rkt_link.proofs.Telling.{tells_same, tells_then}
 use Rattle.rkt_serve.specs.Serving.{callbacks_with}
 use Rattle.rkt_serve.proofs.exchanging.to_end.Goals as goal
 
 pub loop-init : goal.loop-init
-loop-init g c = (tt, tt, c.requires.going, refl, tells_same (g.C.Clock.meaning c.args.clock.now), λ rule first fit stands. stands)
+loop-init g c = (tt, tt, c.requires.going, refl, tells_same (g.C.Clock.meaning c.args.board.now.near.clock), λ rule first fit stands. stands, c.requires.keeps, refl, inl refl, λ none. inl (none, omega arith))
+
+pub next_gate-gate-requires-clause-unclosed : goal.next_gate-gate-requires-clause-unclosed
+next_gate-gate-requires-clause-unclosed g c = still_unclosed 0 c.args.board.now.book.marks.items c.loop.board.book.marks.items c.loop.invariant.8 c.requires.unclosed
 
 pub loop-preserved : goal.loop-preserved
 loop-preserved g c =
     let inv = c.loop.invariant in
-    let told = g.C.Clock.meaning c.args.clock.now in
-    let before = g.C.Clock.meaning c.loop.clock in
-    let now = g.C.Clock.meaning c.now-moment.new.self in
-    let last = ap (λ (m : ClockMeaning). m.last) c.now-moment.ensures.last in
-    let within = told_within told before c.now-moment.result inv.4 c.now-moment.ensures.window in
+    let told = g.C.Clock.meaning c.args.board.now.near.clock in
+    let before = g.C.Clock.meaning c.loop.board.near.clock in
+    let now = g.C.Clock.meaning c.next_gate-gate.new.board.near.clock in
+    let gate = c.next_gate-gate.result in
+    let next = c.next_gate-gate.ensures in
     let polled = c.in-Pending.ensures in (
       tt,
       tt,
       polled.going refl,
       polled.tables ∙ inv.3,
-      tells_more told before now c.now-moment.result inv.4 c.now-moment.ensures.rises c.now-moment.ensures.last,
+      tells_then told before now inv.4 next.clock,
       λ rule first fit stands.
-          let fits = subst (λ gate. GateFits rule gate) (sym c.gate_with-gate.ensures) (fit c.now-moment.result (record { from = omega (arith, inv.4.rises, c.now-moment.ensures.rises); to = omega (arith, last); within = within })) in
-          goes_on (callbacks_with g.A.Source.Source.meaning g.A-Fairing-Requests-RequestCallback.calling g.A.Fairing.Responses.ResponseCallback.calling g.A-Handler-Handler.calling g.A.Catch.CatchHandler.calling rule) first c.poll.new.self.tables (waits_of g.A.Source.Source.meaning g.A.Source.Shut.shuts g.A.Source.Source.polled) c.gate_with-gate.result c.poll.new.self.phase
-          (polled.gives rule first fits (inv.5 rule first (fit_before rule c.args.grace c.args.mercy told before now (omega (arith, last, c.now-moment.ensures.rises)) fit) stands)),
+          let fits = fit_gate rule c.args.grace c.args.mercy told before now gate fit next.gate inv.4 next.moment in
+          goes_on (callbacks_with g.A.Source.Source.meaning g.A-Fairing-Requests-RequestCallback.calling g.A.Fairing.Responses.ResponseCallback.calling g.A-Handler-Handler.calling g.A.Catch.CatchHandler.calling rule) first c.poll.new.self.tables (waits_of g.A.Source.Source.meaning g.A.Source.Shut.shuts g.A.Source.Source.polled) gate c.poll.new.self.phase
+          (polled.gives rule first fits (inv.5 rule first (fit_before rule c.args.grace c.args.mercy told before now next.clock.rises fit) stands)),
+      next.keeps,
+      next.name ∙ inv.7,
+      trips_then 0 c.args.board.now.book.marks.items c.loop.board.book.marks.items c.next_gate-gate.new.board.book.marks.items next.keeps.legal.ordered inv.8 next.adds,
+      λ none. inr (looks_again c.args.board.now.near.handle c.loop.board.near.handle c.next_gate-gate.new.board.near.handle (inv.9 none) next.looked next.handle),
     )
 
 pub returns-in-Ready-clause-ends : goal.returns-in-Ready-clause-ends
 returns-in-Ready-clause-ends g c rule first fit stands =
     let inv = c.loop.invariant in
-    let told = g.C.Clock.meaning c.args.clock.now in
-    let before = g.C.Clock.meaning c.loop.clock in
-    let now = g.C.Clock.meaning c.now-moment.new.self in
-    let last = ap (λ (m : ClockMeaning). m.last) c.now-moment.ensures.last in
-    let within = told_within told before c.now-moment.result inv.4 c.now-moment.ensures.window in
-    let fits = subst (λ gate. GateFits rule gate) (sym c.gate_with-gate.ensures) (fit c.now-moment.result (record { from = omega (arith, inv.4.rises, c.now-moment.ensures.rises); to = omega (arith, last); within = within })) in
+    let told = g.C.Clock.meaning c.args.board.now.near.clock in
+    let before = g.C.Clock.meaning c.loop.board.near.clock in
+    let now = g.C.Clock.meaning c.next_gate-gate.new.board.near.clock in
+    let gate = c.next_gate-gate.result in
+    let next = c.next_gate-gate.ensures in
+    let fits = fit_gate rule c.args.grace c.args.mercy told before now gate fit next.gate inv.4 next.moment in
     let polled = c.in-Ready.ensures in
     subst (λ ts. EndsSo (callbacks_with g.A.Source.Source.meaning g.A-Fairing-Requests-RequestCallback.calling g.A.Fairing.Responses.ResponseCallback.calling g.A-Handler-Handler.calling g.A.Catch.CatchHandler.calling rule) first ts c.in-Ready.ended) (polled.tables ∙ inv.3)
-    (polled.gives rule first fits (inv.5 rule first (fit_before rule c.args.grace c.args.mercy told before now (omega (arith, last, c.now-moment.ensures.rises)) fit) stands))
+    (polled.gives rule first fits (inv.5 rule first (fit_before rule c.args.grace c.args.mercy told before now next.clock.rises fit) stands))
 
 pub returns-in-Ready-clause-last : goal.returns-in-Ready-clause-last
-returns-in-Ready-clause-last g c = sym (ap (λ (m : ClockMeaning). m.last) c.now-moment.ensures.last)
+returns-in-Ready-clause-last g c = sym c.next_gate-gate.ensures.last
 
 pub returns-in-Ready-clause-clock : goal.returns-in-Ready-clause-clock
 returns-in-Ready-clause-clock g c =
-    tells_more (g.C.Clock.meaning c.args.clock.now) (g.C.Clock.meaning c.loop.clock) (g.C.Clock.meaning c.now-moment.new.self) c.now-moment.result c.loop.invariant.4 c.now-moment.ensures.rises c.now-moment.ensures.last
+    tells_then (g.C.Clock.meaning c.args.board.now.near.clock) (g.C.Clock.meaning c.loop.board.near.clock) (g.C.Clock.meaning c.next_gate-gate.new.board.near.clock) c.loop.invariant.4 c.next_gate-gate.ensures.clock
+
+pub returns-in-Ready-clause-adds : goal.returns-in-Ready-clause-adds
+returns-in-Ready-clause-adds g c =
+    trips_then 0 c.args.board.now.book.marks.items c.loop.board.book.marks.items c.next_gate-gate.new.board.book.marks.items c.next_gate-gate.ensures.keeps.legal.ordered c.loop.invariant.8 c.next_gate-gate.ensures.adds
+
+pub returns-in-Ready-clause-looked : goal.returns-in-Ready-clause-looked
+returns-in-Ready-clause-looked g c none =
+    looks_again c.args.board.now.near.handle c.loop.board.near.handle c.next_gate-gate.new.board.near.handle (c.loop.invariant.9 none) c.next_gate-gate.ensures.looked c.next_gate-gate.ensures.handle

@@ -10,12 +10,12 @@ returns-in-Finished-clause-caused g c fresh =
     let taken = c.in-Some.ensures in
     let asks = sym (ap (λ (m : LinkMeaning). m.asked) taken.link) in
     let holds = sym (ap (λ (m : LinkMeaning). m.held) taken.link) in
-    c.answer.ensures.caused (g.C.Clock.meaning c.args.clock.now).window (λ held told. fresh.none_held held (holds ∙ told))
+    c.answer.ensures.caused (g.C.Clock.meaning c.args.board.now.near.clock).window (λ held told. fresh.none_held held (holds ∙ told))
     (λ asked told. rw c.in-Finished.is at (c.run_exchange-ended.ensures.lifecycle asked (c.head.ensures asked told) taken.untouched (taken.body asked (asks ∙ told))))
 
 pub returns-in-Finished-clause-moment : goal.returns-in-Finished-clause-moment
 returns-in-Finished-clause-moment g c x told =
-    subst (λ m. IsAmid (g.C.Clock.meaning c.args.clock.now) (g.C.Clock.meaning c.run_exchange-ended.new.clock) m) (sym (c.answer.ensures.moment x told)) (rw c.in-Finished.is at c.run_exchange-ended.ensures.moment)
+    subst (λ m. IsAmid (g.C.Clock.meaning c.args.board.now.near.clock) (g.C.Clock.meaning c.run_exchange-ended.new.board.near.clock) m) (sym (c.answer.ensures.moment x told)) (rw c.in-Finished.is at c.run_exchange-ended.ensures.moment)
 
 pub returns-in-Finished-clause-words : goal.returns-in-Finished-clause-words
 returns-in-Finished-clause-words g c x told =
