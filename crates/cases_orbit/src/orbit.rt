@@ -62,12 +62,7 @@ impl Orbit {
     }
 
     pub fn lift(&mut self, alloc: Global) -> Result<Seq<Called>, NoMemory> {
-        let view = ViewOf {
-            config: &self.tables.config,
-            managed: &self.tables.managed,
-            router: &self.tables.router,
-        };
-        liftoff::<Site, Actor, Acts>(alloc, &mut self.tables.fairings, &view, &mut self.shutdown)
+        lift_tables(alloc, &mut self.tables, &mut self.shutdown)
     }
 
     pub fn shut(&self, alloc: Global) -> Result<Seq<Called>, NoMemory> {
@@ -79,6 +74,19 @@ impl Orbit {
         let room = down_room(alloc, &self.tables.fairings)?;
         Ok(shut_down::<Site, Actor, Acts>(alloc, &self.tables.fairings, &view, room))
     }
+}
+
+fn lift_tables(
+    alloc: Global,
+    tables: &mut Tables<Site>,
+    shutdown: &mut Shutdown<Stopped>,
+) -> Result<Seq<Called>, NoMemory> {
+    let view = ViewOf {
+        config: &tables.config,
+        managed: &tables.managed,
+        router: &tables.router,
+    };
+    liftoff::<Site, Actor, Acts>(alloc, &mut tables.fairings, &view, shutdown)
 }
 
 fn read_config(alloc: Global, turns: &str) -> Result<Config, CaseError> {
