@@ -59,30 +59,33 @@ elsewhere other at bt ad bd (inr (inr (inr (inr same), end))) = other same
 
 routes_clear : AllClear (λ (a b : SampleRoute). RoutesCollide (mounted_route a) (mounted_route b)) all_routes
 routes_clear = (
-  (λ c. cc c.rank, (λ c. cc c.method, (λ c. cc c.method, (λ c. cc c.method, (λ c. cc c.method, (λ c. cc c.rank, (λ c. cc c.rank, (λ c. cc c.rank, (λ c. cc c.rank, (λ c. cc c.method, (λ c. cc c.rank, tt))))))))))),
+  (λ c. cc c.rank, (λ c. cc c.method, (λ c. cc c.method, (λ c. cc c.method, (λ c. cc c.method, (λ c. cc c.rank, (λ c. cc c.rank, (λ c. cc c.rank, (λ c. cc c.rank, (λ c. cc c.method, (λ c. cc c.rank, (λ c. cc c.rank, tt)))))))))))),
   (
-    (λ c. cc c.method, (λ c. cc c.method, (λ c. cc c.method, (λ c. cc c.method, (λ c. cc c.rank, (λ c. cc c.rank, (λ c. elsewhere (λ s. let e : 112 ≡ 115 = ap first_byte s in omega (arith, e)) refl refl refl refl c.paths, (λ c. elsewhere (λ s. let e : 112 ≡ 102 = ap first_byte s in omega (arith, e)) refl refl refl refl c.paths, (λ c. cc c.method, (λ c. elsewhere (λ s. let e : 112 ≡ 98 = ap first_byte s in omega (arith, e)) refl refl refl refl c.paths, tt)))))))))),
+    (λ c. cc c.method, (λ c. cc c.method, (λ c. cc c.method, (λ c. cc c.method, (λ c. cc c.rank, (λ c. cc c.rank, (λ c. elsewhere (λ s. let e : 112 ≡ 115 = ap first_byte s in omega (arith, e)) refl refl refl refl c.paths, (λ c. elsewhere (λ s. let e : 112 ≡ 102 = ap first_byte s in omega (arith, e)) refl refl refl refl c.paths, (λ c. cc c.method, (λ c. elsewhere (λ s. let e : 112 ≡ 115 = ap first_byte s in omega (arith, e)) refl refl refl refl c.paths, (λ c. elsewhere (λ s. let e : 112 ≡ 98 = ap first_byte s in omega (arith, e)) refl refl refl refl c.paths, tt))))))))))),
     (
-      (λ c. elsewhere (λ s. let e : 112 ≡ 103 = ap first_byte s in omega (arith, e)) refl refl refl refl c.paths, (λ c. cc c.method, (λ c. cc c.method, (λ c. cc c.method, (λ c. cc c.method, (λ c. cc c.method, (λ c. cc c.method, (λ c. cc c.method, (λ c. cc c.method, tt))))))))),
+      (λ c. elsewhere (λ s. let e : 112 ≡ 103 = ap first_byte s in omega (arith, e)) refl refl refl refl c.paths, (λ c. cc c.method, (λ c. cc c.method, (λ c. cc c.method, (λ c. cc c.method, (λ c. cc c.method, (λ c. cc c.method, (λ c. cc c.method, (λ c. cc c.method, (λ c. cc c.method, tt)))))))))),
       (
-        (λ c. cc c.method, (λ c. cc c.method, (λ c. cc c.method, (λ c. cc c.method, (λ c. cc c.method, (λ c. cc c.method, (λ c. cc c.method, (λ c. cc c.method, tt)))))))),
+        (λ c. cc c.method, (λ c. cc c.method, (λ c. cc c.method, (λ c. cc c.method, (λ c. cc c.method, (λ c. cc c.method, (λ c. cc c.method, (λ c. cc c.method, (λ c. cc c.method, tt))))))))),
         (
-          (λ c. cc c.method, (λ c. cc c.method, (λ c. cc c.method, (λ c. cc c.method, (λ c. cc c.method, (λ c. elsewhere (λ s. let e : 102 ≡ 101 = ap first_byte s in omega (arith, e)) refl refl refl refl c.paths, (λ c. cc c.method, tt))))))),
+          (λ c. cc c.method, (λ c. cc c.method, (λ c. cc c.method, (λ c. cc c.method, (λ c. cc c.method, (λ c. elsewhere (λ s. let e : 102 ≡ 101 = ap first_byte s in omega (arith, e)) refl refl refl refl c.paths, (λ c. cc c.method, (λ c. cc c.method, tt)))))))),
           (
-            (λ c. cc c.method, (λ c. cc c.method, (λ c. cc c.method, (λ c. cc c.method, (λ c. cc c.method, (λ c. cc c.method, tt)))))),
+            (λ c. cc c.method, (λ c. cc c.method, (λ c. cc c.method, (λ c. cc c.method, (λ c. cc c.method, (λ c. cc c.method, (λ c. cc c.method, tt))))))),
             (
-              (λ c. cc c.rank, (λ c. cc c.rank, (λ c. cc c.rank, (λ c. cc c.method, (λ c. cc c.rank, tt))))),
+              (λ c. cc c.rank, (λ c. cc c.rank, (λ c. cc c.rank, (λ c. cc c.method, (λ c. cc c.rank, (λ c. cc c.rank, tt)))))),
               (
-                (λ c. cc c.rank, (λ c. cc c.rank, (λ c. cc c.method, (λ c. cc c.rank, tt)))),
+                (λ c. cc c.rank, (λ c. cc c.rank, (λ c. cc c.method, (λ c. cc c.rank, (λ c. cc c.rank, tt))))),
                 (
-                  (λ c. elsewhere (λ s. let e : 115 ≡ 102 = ap first_byte s in omega (arith, e)) refl refl refl refl c.paths, (λ c. cc c.method, (λ c. elsewhere (λ s. let e : 115 ≡ 98 = ap first_byte s in omega (arith, e)) refl refl refl refl c.paths, tt))),
+                  (λ c. elsewhere (λ s. let e : 115 ≡ 102 = ap first_byte s in omega (arith, e)) refl refl refl refl c.paths, (λ c. cc c.method, (λ c. elsewhere (λ s. let e : 7 ≡ 4 = ap length s in omega (arith, e)) refl refl refl refl c.paths, (λ c. elsewhere (λ s. let e : 115 ≡ 98 = ap first_byte s in omega (arith, e)) refl refl refl refl c.paths, tt)))),
                   (
-                    (λ c. cc c.method, (λ c. elsewhere (λ s. let e : 102 ≡ 98 = ap first_byte s in omega (arith, e)) refl refl refl refl c.paths, tt)),
+                    (λ c. cc c.method, (λ c. elsewhere (λ s. let e : 102 ≡ 115 = ap first_byte s in omega (arith, e)) refl refl refl refl c.paths, (λ c. elsewhere (λ s. let e : 102 ≡ 98 = ap first_byte s in omega (arith, e)) refl refl refl refl c.paths, tt))),
                     (
-                      (λ c. cc c.method, tt),
+                      (λ c. cc c.method, (λ c. cc c.method, tt)),
                       (
-                        tt,
-                        tt,
+                        (λ c. elsewhere (λ s. let e : 115 ≡ 98 = ap first_byte s in omega (arith, e)) refl refl refl refl c.paths, tt),
+                        (
+                          tt,
+                          tt,
+                        ),
                       ),
                     ),
                   ),

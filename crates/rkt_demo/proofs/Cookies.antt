@@ -8,6 +8,9 @@ use Rattle.rkt_lifecycle.specs.Dressed.{pending_cookies}
 use Rattle.rkt_request.specs.Lent.{Kept}
 use Rattle.rkt_routing.specs.Routed.{settled}
 use Rattle.rkt_sample.specs.Added.{with_added}
+use Rattle.rkt_sample.specs.Replies.{added_by, left_by, told_by}
+use Rattle.rkt_sample.specs.Told.{with_word}
+use Rattle.rkt_sample.specs.declared.route.SampleRoute.{SampleRoute}
 
 -- each change adds a cookie
 abbrev pub OnlyAdds : List Change → Type 0
@@ -65,6 +68,14 @@ added_alike (Some cookie) kept other alike = record {
   floor = alike.floor;
   adds = adds_push kept.jar.log cookie alike.adds;
 }
+
+-- a word that is told is no cookie
+told_alike : {C : Type 0} (word : Option ℕ) (kept other : Kept C) → AddedAlike kept other → AddedAlike (with_word word kept) (with_word word other)
+told_alike None kept other alike = alike
+told_alike (Some word) kept other alike = record { log = alike.log; floor = alike.floor; adds = alike.adds }
+
+pub left_alike : {C : Type 0} (word : ℕ) (route : SampleRoute) (kept other : Kept C) → AddedAlike kept other → AddedAlike (left_by word route kept) (left_by word route other)
+left_alike word route kept other alike = told_alike (told_by word route) (with_added (added_by route) kept) (with_added (added_by route) other) (added_alike (added_by route) kept other alike)
 
 pub settled_alike : {C : Type 0} (kept other : Kept C) → AddedAlike kept other → AddedAlike (settled kept) (settled other)
 settled_alike kept other alike = record { log = alike.log; floor = ap (λ (log : List Change). length log) alike.log; adds = alike.adds }

@@ -8,6 +8,7 @@ pub mod Lifted
 pub mod Lines
 pub mod LivesOnce
 pub mod Mounting
+pub mod Offered
 pub mod Once
 pub mod Opened
 pub mod Requests

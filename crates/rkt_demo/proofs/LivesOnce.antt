@@ -118,7 +118,7 @@ module _ (laws : Spelling) (window window' : Option (ℕ × ℕ)) (table : Table
       → Routes (callbacks (Rel window)) (table_of tables) faults (record { request = request; body = body; kept = kept }) calls (Finds found)
       → Routes (callbacks (Rel window')) (table_of tables) faults (record { request = request; body = body'; kept = kept' }) calls' (Finds found') → SameFound like found found'
   found_once faults request body body' kept kept' calls calls' found found' bodies kepts finds finds' =
-      routes_once like (route_calling source_meaning) catch_calling (gates_of window tables) (gates_of window' tables) (table_of tables)
+      routes_once like (route_calling source_meaning 0) catch_calling (gates_of window tables) (gates_of window' tables) (table_of tables)
       (calls_once laws (gates_of window tables) (gates_of window' tables) refl refl (table_of tables)) found found' faults request body body' kept kept' calls calls' bodies kepts finds finds'
 
   -- what a request is once it has its method

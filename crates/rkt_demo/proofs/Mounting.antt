@@ -47,6 +47,7 @@ module _ (says : SaysWhatItSpells) where
   route_base route.Spoiled = fits_of says (base_of route.Spoiled) (base_spelled route.Spoiled)
   route_base route.Flash = fits_of says (base_of route.Flash) (base_spelled route.Flash)
   route_base route.Echo = fits_of says (base_of route.Echo) (base_spelled route.Echo)
+  route_base route.Stop = fits_of says (base_of route.Stop) (base_spelled route.Stop)
   route_base route.Broken = fits_of says (base_of route.Broken) (base_spelled route.Broken)
 
   catcher_base : (c : SampleCatcher) → IsBase (mounted_catcher c).base

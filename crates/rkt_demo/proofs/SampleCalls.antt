@@ -18,14 +18,14 @@ use Rattle.rkt_sample.specs.Catching.{answer_of, catch_calling}
 use Rattle.rkt_sample.specs.Catching as catching
 use Rattle.rkt_sample.specs.Greeting.{greeting}
 use Rattle.rkt_sample.specs.MadeLaws.{catcher_made, route_made}
-use Rattle.rkt_sample.specs.Replies.{added_by, echoes, greets, reply_of}
+use Rattle.rkt_sample.specs.Replies.{echoes, greets, reply_of}
 use Rattle.rkt_sample.specs.Routing.{route_calling}
 use Rattle.rkt_sample.specs.declared.catcher.SampleCatcher.{SampleCatcher}
 use Rattle.rkt_sample.specs.declared.catcher.SampleCatcher.TheVariants as catcher
 use Rattle.rkt_sample.specs.declared.route.SampleRoute.{SampleRoute}
 use Rattle.rkt_sample.specs.declared.route.SampleRoute.TheVariants as route
 use Rattle.rkt_source.specs.Memory.{SourceInMemory, source_meaning}
-use Rattle.rkt_demo.proofs.Cookies.{AddedAlike, added_alike, settled_alike}
+use Rattle.rkt_demo.proofs.Cookies.{AddedAlike, added_alike, left_alike, settled_alike}
 use Rattle.rkt_demo.proofs.Once.{Spelling, page_once}
 use Rattle.rkt_demo.proofs.RoutedOnce.{CallsAlike, CallsOnce, Likeness, SameAnswer, SameReply}
 
@@ -78,6 +78,7 @@ module _ (request : Seen ℕ) (body body' : Body) (bodies : BodiesAlike body bod
   replies_alike route.Echo =
       let limit : ℕ = string_limit request.config.limits in
       subst (λ (bytes : Option (List ℕ)). SameReply like (echoes (text_in limit (whole source_meaning body))) (echoes (text_in limit bytes))) (sym bodies.bytes) (echoes_same (text_in limit (whole source_meaning body)))
+  replies_alike route.Stop = (refl, tt)
   replies_alike route.Broken = (refl, tt)
 
 answers_alike : (catcher : SampleCatcher) (status : Status) → SameAnswer like (answer_of catcher status) (answer_of catcher status)
@@ -95,18 +96,18 @@ module _ (laws : Spelling) (rule rule' : GateRule) (untripped : rule.may_trip �
   Reply' = Reply SourceInMemory Body
 
   handled_once : (handler : SampleRoute) (request : Seen ℕ) (body body' : Body) (before before' after after' : Kept ℕ) (reply reply' : Final Reply') → BodiesAlike body body' → AddedAlike before before'
-      → Made (route_calling source_meaning) rule (turns_of table) handler (record { request = request; body = body }) before reply after
-      → Made (route_calling source_meaning) rule' (turns_of table) handler (record { request = request; body = body' }) before' reply' after' → CallsAlike like (SameReply like) reply reply' after after'
+      → Made (route_calling source_meaning 0) rule (turns_of table) handler (record { request = request; body = body }) before reply after
+      → Made (route_calling source_meaning 0) rule' (turns_of table) handler (record { request = request; body = body' }) before' reply' after' → CallsAlike like (SameReply like) reply reply' after after'
   handled_once handler request body body' before before' after after' reply reply' bodies kepts made made' =
-      let one = route_made rule (turns_of table) (some_turns table.turns) SourceInMemory before after source_meaning handler (record { request = request; body = body }) reply untripped bodies.steady made in
-      let other = route_made rule' (turns_of table) (some_turns table.turns) SourceInMemory before' after' source_meaning handler (record { request = request; body = body' }) reply' untripped' bodies.steady_too made' in
+      let one = route_made rule (turns_of table) (some_turns table.turns) SourceInMemory before after source_meaning 0 handler (record { request = request; body = body }) reply untripped bodies.steady made in
+      let other = route_made rule' (turns_of table) (some_turns table.turns) SourceInMemory before' after' source_meaning 0 handler (record { request = request; body = body' }) reply' untripped' bodies.steady_too made' in
       record {
         answer = reply_of source_meaning handler (record { request = request; body = body });
         other = reply_of source_meaning handler (record { request = request; body = body' });
         is = one.0;
         other_is = other.0;
         same = replies_alike request body body' bodies handler;
-        kept = rw (one.1, other.1) (added_alike (added_by handler) before before' kepts);
+        kept = rw (one.1, other.1) (left_alike 0 handler before before' kepts);
       }
 
   caught_once : (catcher : SampleCatcher) (refused : Refused ℕ) (before before' after after' : Kept ℕ) (answer answer' : Final (Result Response Status)) → AddedAlike before before'
@@ -123,7 +124,7 @@ module _ (laws : Spelling) (rule rule' : GateRule) (untripped : rule.may_trip �
         kept = rw (one.1, other.1) (added_alike (catching.added_by catcher) before before' kepts);
       }
 
-  pub calls_once : CallsOnce {V = ℕ} like (route_calling source_meaning) catch_calling rule rule' table
+  pub calls_once : CallsOnce {V = ℕ} like (route_calling source_meaning 0) catch_calling rule rule' table
   calls_once = record {
     handled = handled_once;
     caught = caught_once;

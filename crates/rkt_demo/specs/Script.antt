@@ -1,6 +1,7 @@
 -- Scripts: the requests that the program is asked to serve, a line each.
 use Rattle.std.specs.Prelude.{◌≡◌, ◌≤◌, ◌<◌, ◌⊎◌, ℕ, ◌+◌, ◌-◌, ◌==◌, ◌&&◌, List, [], ◌∷◌, ◌++◌, Bool, true, IsTrue, if◌then◌else◌, codes, drop, fold, length, take, slice_index, nat_le, not, None}
 use Rattle.std.specs.List.{onto_first, list_all, before_first, after_first, take_while}
+use Rattle.std.specs.Str.{bytes_eq}
 use Rattle.rkt_media.specs.MediaText.{is_token_byte}
 use Rattle.rkt_request.specs.declared.head.Head.{Head}
 use Rattle.rkt_demo.specs.declared.script.ScriptRequest.{ScriptRequest}
@@ -51,11 +52,17 @@ pub record IsHeader (content name value : List ℕ) : Type 0 where
 abbrev pub IsPiece : List ℕ → List ℕ → Type 0
 IsPiece content bytes = content ≡ codes "= " ++ bytes
 
--- what a line may have behind these requests: it is skipped, or it is a request, or it belongs to the last one
+-- a line behind which no request is offered
+abbrev pub is_shutdown : List ℕ → Bool
+is_shutdown content = bytes_eq content (codes "shutdown")
+
+-- what a line may have behind these requests, which stand behind the last `shutdown`: it is skipped, or it is a request, or a
+-- `shutdown`, or it belongs to the last one
 abbrev pub IsContent : List ScriptRequest → List ℕ → Type 0
 IsContent requests content = IsTrue (is_skipped content)
     ⊎ (((method : List ℕ) × (target : List ℕ) × IsRequest content method target)
-    ⊎ ((0 < length requests) × (((name : List ℕ) × (value : List ℕ) × IsHeader content name value) ⊎ ((bytes : List ℕ) × IsPiece content bytes))))
+    ⊎ (IsTrue (is_shutdown content)
+    ⊎ ((0 < length requests) × (((name : List ℕ) × (value : List ℕ) × IsHeader content name value) ⊎ ((bytes : List ℕ) × IsPiece content bytes)))))
 
 abbrev pub is_space : ℕ → Bool
 is_space b = b == 32
@@ -85,17 +92,18 @@ with_last change [] = []
 with_last change (request ∷ []) = change request ∷ []
 with_last change (request ∷ other ∷ others) = request ∷ with_last change (other ∷ others)
 
--- the requests behind one more line, which tells by its first byte what it is
+-- the requests behind one more line, which tells by its first byte what it is; a `shutdown` leaves none
 abbrev pub add_line : List ScriptRequest → List ℕ → List ScriptRequest
 add_line requests [] = requests
 add_line requests (b ∷ bs) =
     if b == 35 then requests else (
     if b == 58 then with_last (with_header (header_of (b ∷ bs))) requests else (
-    if b == 61 then with_last (with_piece (piece_of (b ∷ bs))) requests else requests ++ (record { head = head_of (b ∷ bs); body = [] }) ∷ []))
+    if b == 61 then with_last (with_piece (piece_of (b ∷ bs))) requests else (
+    if b == 115 then [] else requests ++ (record { head = head_of (b ∷ bs); body = [] }) ∷ [])))
 
--- what the lines ask, in order
+-- what the lines offer, in order: the requests before the first `shutdown`
 abbrev pub requests_of : List (List ℕ) → List ScriptRequest
-requests_of lines = fold (λ requests line. add_line requests (content_of line)) [] lines
+requests_of lines = fold (λ requests line. add_line requests (content_of line)) [] (before_first (λ line. is_shutdown (content_of line)) lines)
 
 -- a line is of the grammar behind these requests, where this many bytes of the script may still come
 abbrev pub IsGood : ℕ → List ScriptRequest → List ℕ → Type 0

@@ -24,9 +24,9 @@ use Rattle.rkt_demo.specs.Script.{lines_of, requests_of}
 use Rattle.rkt_demo.specs.Words.{Table}
 use Rattle.rkt_demo.specs.declared.script.ScriptRequest.{ScriptRequest}
 
--- the sample, served over links in memory in this window of moments
+-- the sample, served over links in memory in this window of moments; `/stop` tells no word
 abbrev pub served_in : Option (ℕ × ℕ) → Serving ℕ SourceInMemory ℕ SourceInMemory NoFairing (Unit {0}) (Unit {0}) SampleRoute (Option (SampleBody SourceInMemory)) SampleCatcher Status LinkInMemory
-served_in window = serving quiet quiet (route_calling source_meaning) catch_calling source_meaning source_meaning link_meaning window
+served_in window = serving quiet quiet (route_calling source_meaning 0) catch_calling source_meaning source_meaning link_meaning window
 
 -- what a link asks that never fails, with the head and the body of a request
 abbrev pub asked_for : ScriptRequest → Asked

@@ -11,6 +11,6 @@ mod words;
 
 pub use laws::{sets_once, shown_once};
 pub use program::{CONFIG_REFUSAL, run};
-pub use sample::{Sample, Unstoppable};
+pub use sample::{Quiet, Sample};
 pub use script::SCRIPT_LIMIT;
 pub use words::USAGE;

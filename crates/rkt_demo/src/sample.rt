@@ -10,41 +10,39 @@ use rkt_data::MemorySource;
 use rkt_http::says_what_it_spells;
 use rkt_life::{App, Build, Handed, Ignite, IgniteError, NoFairing, Parts, Rocket};
 use rkt_request::{ConfigTable, Types};
-use rkt_sample::{SampleCatcher, SampleRoute, catchers, routes};
+use rkt_sample::{SampleCatcher, SampleRoute, StopReason, catchers, routes};
 use rkt_turn::Reason;
 use std::alloc::{AllocError, Global};
-use std::marker::Model;
 
 /// The sample's routes and catchers as an application.
 pub struct Sample;
 
-/// The reasons for which the sample may be shut down: there is none, since no word is allowed.
-#[derive(Clone, Copy, Drop)]
-pub struct Unstoppable {
-    word: u64,
-}
+/// The reason of an application that nothing shuts down. It has no word, and no word is allowed.
+#[derive(Clone, Copy, Debug, PartialEq, Eq)]
+pub struct Quiet;
 
-impl Model for Unstoppable {
-    ghost use Rattle.std.specs.Prelude.{ℕ, ◌<◌};
-    ghost use Rattle.rkt_demo.specs.NoWord.{NoWord};
+impl Reason for Quiet {
+    ghost use Rattle.std.specs.Prelude.{◌≡◌};
 
-    ghost Value = { ℕ };
+    ghost allowed = { λ word. ⊥ };
 
-    ghost view = { λ r. r.word };
+    ghost says = { λ reason word. word ≡ 0 };
 
-    ghost invariant = { λ r. (0 < r.word) × NoWord r.word };
-
-    ghost inverse = { λ w. record { word = w } };
-}
-
-impl Reason for Unstoppable {
-    ghost use Rattle.rkt_demo.specs.NoWord.{NoWord};
-
-    ghost allowed = { NoWord };
+    ghost stops = { λ reason. ⊥ };
 
     fn word(self) -> u64 {
-        self.word
+        0
     }
+}
+
+impl StopReason for Quiet {
+    ghost stop_word = { 0 };
+
+    fn stop() -> Quiet {
+        Quiet
+    }
+
+    ghost alone = { λ word allowed. absurd allowed };
 }
 
 impl Types for Sample {
@@ -56,7 +54,7 @@ impl Types for Sample {
 
     type Value = u64;
 
-    type Reason = Unstoppable;
+    type Reason = Quiet;
 }
 
 impl Parts for Sample {

@@ -1,9 +1,9 @@
 //! Reads a script.
-ghost use Rattle.std.specs.Prelude.{◌≡◌, ◌<◌, ◌∷◌, ◌++◌, [], List, ℕ, None, IfOk, IfSome, IfNone, OnOk, codes, length};
+ghost use Rattle.std.specs.Prelude.{◌≡◌, ◌<◌, ◌∷◌, ◌++◌, [], List, ℕ, None, IfOk, IfSome, IfNone, IsTrue, OnOk, codes, length};
 ghost use Rattle.std.specs.List.{list_all, take_while};
 ghost use Rattle.rkt_base.specs.Want.{IfRefused};
 ghost use Rattle.rkt_media.specs.MediaText.{is_token_byte};
-ghost use Rattle.rkt_demo.specs.Script.{AreGood, IsContent, IsFirstBad, IsHeader, IsPiece, IsRequest, add_line, content_of, head_of, header_of, is_capital, is_visible, is_word, lines_of, requests_of, with_header, with_last, with_piece, piece_of};
+ghost use Rattle.rkt_demo.specs.Script.{AreGood, IsContent, IsFirstBad, IsHeader, IsPiece, IsRequest, add_line, content_of, head_of, header_of, is_capital, is_shutdown, is_visible, is_word, lines_of, requests_of, with_header, with_last, with_piece, piece_of};
 
 use rkt_base::{Bytes, NoMemory, Seq, Text, Want};
 use rkt_request::Head;
@@ -243,7 +243,26 @@ fn read_piece(
     }
 }
 
-// Reads a line behind the requests so far.
+fn is_shutdown(content: &[u8]) -> bool
+    ensures { result ≡ is_shutdown content.now }
+{
+    content == b"shutdown".as_slice()
+}
+
+// Leaves no request for the lines behind a `shutdown`.
+fn read_shutdown(requests: &mut Vec<ScriptRequest>, content: &[u8]) -> Result<(), Want<BadContent>>
+    ensures good { OnOk result (IsTrue (is_shutdown content.now)) }
+    ensures read { OnOk result (requests.new.items ≡ []) }
+    ensures refused { IfRefused result (λ _. ¬ IsTrue (is_shutdown content.now)) }
+{
+    if !is_shutdown(content) {
+        return Err(Want::Refused(BadContent));
+    }
+    requests.clear();
+    Ok(())
+}
+
+// Reads a line behind the requests that stand behind the last `shutdown`.
 fn read_line(
     alloc: Global,
     requests: &mut Vec<ScriptRequest>,
@@ -257,16 +276,18 @@ fn read_line(
         [] | [b'#', ..] => Ok(()),
         [b':', ..] => read_header(alloc, requests, content),
         [b'=', ..] => read_piece(alloc, requests, content),
+        [b's', ..] => read_shutdown(requests, content),
         _ => read_request(alloc, requests, content),
     }
 }
 
-/// The requests that a script asks, in order.
+/// The requests that a script offers, in order. Those behind its first `shutdown` are read, and not offered.
 pub fn parse_script(alloc: Global, script: &[u8]) -> Result<Vec<ScriptRequest>, Want<BadLine>>
     ensures good { IfOk result (λ requests. AreGood SCRIPT_LIMIT [] (lines_of script.now)) }
     ensures requests { IfOk result (λ requests. requests.items ≡ requests_of (lines_of script.now)) }
     ensures line { IfRefused result (λ bad. IsFirstBad 1 SCRIPT_LIMIT [] (lines_of script.now) bad.number) }
 {
+    let mut offered = None;
     let mut requests = Vec::new(alloc);
     let mut rest = script;
     let mut room = SCRIPT_LIMIT;
@@ -276,7 +297,11 @@ pub fn parse_script(alloc: Global, script: &[u8]) -> Result<Vec<ScriptRequest>, 
         if line.len() > room {
             return Err(Want::Refused(BadLine { number }));
         }
-        match read_line(alloc, &mut requests, content_of(line)) {
+        let content = content_of(line);
+        if offered.is_none() && is_shutdown(content) {
+            offered = Some(mem::replace(&mut requests, Vec::new(alloc)));
+        }
+        match read_line(alloc, &mut requests, content) {
             Ok(()) => {}
             Err(Want::Refused(_)) => return Err(Want::Refused(BadLine { number })),
             Err(Want::NoMemory) => return Err(Want::NoMemory),
@@ -285,5 +310,5 @@ pub fn parse_script(alloc: Global, script: &[u8]) -> Result<Vec<ScriptRequest>, 
         rest = after;
         number += 1;
     }
-    Ok(requests)
+    Ok(offered.unwrap_or(requests))
 }

@@ -7,15 +7,15 @@ pub record Made {X Y : Type 0} (f : X → Y) (made : List Y) (count : ℕ) (rest
   pub items : made ≡ map f (take count rest)
   pub same : rest ≡ all
 
-pub made_more : {X Y : Type 0} (f : X → Y) (made next : List Y) (i : ℕ) (rest all : List X) (x : X) (y : Y) → Made f made i rest all → i < length rest → x ≡ get_or rest i x → y ≡ f x → next ≡ made ++ y ∷ []
+pub made_more : {X Y : Type 0} (f : X → Y) (made next : List Y) (i : ℕ) (rest all : List X) (d : X) (y : Y) → Made f made i rest all → i < length rest → y ≡ f (get_or rest i d) → next ≡ made ++ y ∷ []
     → Made f next (i + 1) rest all
-made_more f made next i rest all x y so_far more is made_of pushed = record {
+made_more f made next i rest all d y so_far more made_of pushed = record {
   items =
       pushed
       ∙ ap (λ (l : List _). l ++ y ∷ []) so_far.items
-      ∙ ap (λ (z : _). map f (take i rest) ++ z ∷ []) (made_of ∙ ap f is)
-      ∙ sym (map-append f (take i rest) (get_or rest i x ∷ []))
-      ∙ ap (map f) (sym (take_more rest i x more));
+      ∙ ap (λ (z : _). map f (take i rest) ++ z ∷ []) made_of
+      ∙ sym (map-append f (take i rest) (get_or rest i d ∷ []))
+      ∙ ap (map f) (sym (take_more rest i d more));
   same = so_far.same;
 }
 

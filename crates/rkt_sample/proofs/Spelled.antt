@@ -54,6 +54,7 @@ path_spelled route.Tried = mounted _ refl
 path_spelled route.Spoiled = mounted _ refl
 path_spelled route.Flash = mounted _ refl
 path_spelled route.Echo = mounted _ refl
+path_spelled route.Stop = mounted _ refl
 path_spelled route.Broken = mounted _ refl
 
 pub base_spelled : (route : SampleRoute) → IsOrigin profile.Request (base_of route)
@@ -68,6 +69,7 @@ base_spelled route.Tried = is_base _ refl
 base_spelled route.Spoiled = is_base _ refl
 base_spelled route.Flash = is_base _ refl
 base_spelled route.Echo = is_base _ refl
+base_spelled route.Stop = is_base _ refl
 base_spelled route.Broken = is_base _ refl
 
 pub catch_base_spelled : (catcher : SampleCatcher) → IsOrigin profile.Request (catch_base_of catcher)

@@ -14,7 +14,7 @@ use Rattle.rkt_sample.specs.Added.{AddsOnly, with_added}
 use Rattle.rkt_sample.specs.Bodies.{IsSteadyBody, SampleBody}
 use Rattle.rkt_sample.specs.Catching as catching
 use Rattle.rkt_sample.specs.Greeting.{age_of}
-use Rattle.rkt_sample.specs.Replies.{added_by, reply_of}
+use Rattle.rkt_sample.specs.Replies.{left_by, reply_of}
 use Rattle.rkt_sample.specs.Routing.{route_calling}
 use Rattle.rkt_sample.specs.declared.catcher.SampleCatcher.{SampleCatcher}
 use Rattle.rkt_sample.specs.declared.route.SampleRoute.{SampleRoute}
@@ -25,10 +25,11 @@ pub record ComesTo {A : Type 0} (given expected : Final A) (before after left : 
   pub leaves : after ≡ left
   pub adds : AddsOnly before after
 
--- a whole call of a route, of a steady body and under Gates without a trip, is done, and replies what its route does
+-- a whole call of a route, of a steady body and under Gates without a trip, is done, and replies what its route does; `/stop`
+-- may tell any word
 abbrev pub RoutesReply : Type 0
-RoutesReply = (rule : GateRule) (turns : ℕ) (route : SampleRoute) (handed : Handed ℕ (SampleBody SourceInMemory)) (before after : Kept ℕ) (reply : Final (Reply SourceInMemory (SampleBody SourceInMemory))) → rule.may_trip ≡ false → 1 ≤ turns
-    → IsSteadyBody source_meaning handed.body → Made (route_calling source_meaning) rule turns route handed before reply after → ComesTo reply (Done (reply_of source_meaning route handed)) before after (with_added (added_by route) before)
+RoutesReply = (rule : GateRule) (turns word : ℕ) (route : SampleRoute) (handed : Handed ℕ (SampleBody SourceInMemory)) (before after : Kept ℕ) (reply : Final (Reply SourceInMemory (SampleBody SourceInMemory))) → rule.may_trip ≡ false → 1 ≤ turns
+    → IsSteadyBody source_meaning handed.body → Made (route_calling source_meaning word) rule turns route handed before reply after → ComesTo reply (Done (reply_of source_meaning route handed)) before after (left_by word route before)
 
 -- a whole call of a catcher is done, and answers what its catcher does
 abbrev pub CatchersAnswer : Type 0

@@ -10,3 +10,4 @@ pub mod Mounted
 pub mod Replies
 pub mod Routing
 pub mod RoutingLaws
+pub mod Told

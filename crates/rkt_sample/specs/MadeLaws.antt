@@ -15,7 +15,7 @@ use Rattle.rkt_sample.specs.Added.{with_added}
 use Rattle.rkt_sample.specs.Bodies.{IsSteadyBody, ReadsAll, SampleBody}
 use Rattle.rkt_sample.specs.Catching.{answer_of, catch_calling}
 use Rattle.rkt_sample.specs.Catching as catching
-use Rattle.rkt_sample.specs.Replies.{added_by, reply_of}
+use Rattle.rkt_sample.specs.Replies.{left_by, reply_of}
 use Rattle.rkt_sample.specs.Routing.{route_calling}
 use Rattle.rkt_sample.specs.RoutingLaws.{replies_so}
 use Rattle.rkt_sample.specs.declared.catcher.SampleCatcher.{SampleCatcher}
@@ -27,12 +27,12 @@ module _ (rule : GateRule) (turns : ℕ) (some : 1 ≤ turns) where
   reads_all meaning untripped body gates steady within = record { steady = steady; untripped = All-weaker (GateFits rule) (λ gate. IsNone gate.tripped) (λ gate fits. fits.trip untripped) gates within }
 
   module _ {V C : Type 0} (R : Type 0) (before after : Kept C) where
-    pub route_made : {S : Type 0} (meaning : S → Meaning) (route : SampleRoute) (handed : Handed V (SampleBody S)) (reply : Final (Reply R (SampleBody S))) → rule.may_trip ≡ false → IsSteadyBody meaning handed.body
-        → Made (route_calling meaning) rule turns route handed before reply after → (reply ≡ Done (reply_of meaning route handed)) × (after ≡ with_added (added_by route) before)
-    route_made meaning route handed (Done reply) untripped steady made =
+    pub route_made : {S : Type 0} (meaning : S → Meaning) (word : ℕ) (route : SampleRoute) (handed : Handed V (SampleBody S)) (reply : Final (Reply R (SampleBody S))) → rule.may_trip ≡ false → IsSteadyBody meaning handed.body
+        → Made (route_calling meaning word) rule turns route handed before reply after → (reply ≡ Done (reply_of meaning route handed)) × (after ≡ left_by word route before)
+    route_made meaning word route handed (Done reply) untripped steady made =
         (ap Done (replies_so meaning route handed made.gates reply (reads_all meaning untripped handed.body made.gates steady made.within) made.gives.0), made.gives.1)
-    route_made meaning route handed FailedTurn untripped steady made = absurd (⊎_elim (λ (fault : ⊥). fault) (λ (late : turns ≤ 0). absurd (omega (arith, late, some))) made.gives.cause)
-    route_made meaning route handed Starved untripped steady made = absurd (made.ended refl)
+    route_made meaning word route handed FailedTurn untripped steady made = absurd (⊎_elim (λ (fault : ⊥). fault) (λ (late : turns ≤ 0). absurd (omega (arith, late, some))) made.gives.cause)
+    route_made meaning word route handed Starved untripped steady made = absurd (made.ended refl)
 
     pub catcher_made : (catcher : SampleCatcher) (refused : Refused V) (answer : Final (Result (ResponseOf R) Status)) → Made catch_calling rule turns catcher refused before answer after
         → (answer ≡ Done (answer_of catcher refused.status)) × (after ≡ with_added (catching.added_by catcher) before)

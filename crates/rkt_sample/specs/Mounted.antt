@@ -26,6 +26,7 @@ method_of route.Tried = Get
 method_of route.Spoiled = Get
 method_of route.Flash = Get
 method_of route.Echo = Post
+method_of route.Stop = Get
 method_of route.Broken = Get
 
 -- the base, and the path behind it
@@ -45,6 +46,7 @@ path_of route.Tried = codes "/trial"
 path_of route.Spoiled = codes "/spoiled"
 path_of route.Flash = codes "/flash"
 path_of route.Echo = codes "/echo"
+path_of route.Stop = codes "/stop"
 path_of route.Broken = codes "/broken"
 
 -- the rank, where it is not the default one
@@ -65,7 +67,7 @@ mounted_route route = route_below (base_of route) (route_at_root route)
 
 abbrev pub all_routes : List SampleRoute
 all_routes =
-    route.Hello ∷ route.Page ∷ route.HeadPage ∷ route.HeadGone ∷ route.PostForm ∷ route.DeleteForm ∷ route.Trial ∷ route.Tried ∷ route.Spoiled ∷ route.Flash ∷ route.Echo ∷ route.Broken ∷ []
+    route.Hello ∷ route.Page ∷ route.HeadPage ∷ route.HeadGone ∷ route.PostForm ∷ route.DeleteForm ∷ route.Trial ∷ route.Tried ∷ route.Spoiled ∷ route.Flash ∷ route.Echo ∷ route.Stop ∷ route.Broken ∷ []
 
 -- the routes, in mounting order
 abbrev pub sample_routes : List (Route SampleRoute (Unit {0}))

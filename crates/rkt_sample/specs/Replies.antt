@@ -8,13 +8,15 @@ use Rattle.rkt_media.specs.Media.{known_text}
 use Rattle.rkt_media.specs.declared.known.Known.TheVariants.{Plain}
 use Rattle.rkt_message.specs.Response.{ResponseOf, empty_response}
 use Rattle.rkt_request.specs.Guards.{bad_request}
+use Rattle.rkt_request.specs.Lent.{Kept}
 use Rattle.rkt_response.specs.Flash.{Flashed, flash_cookie}
 use Rattle.rkt_response.specs.Responder.{status_alone, typed_bytes, with_header}
 use Rattle.rkt_router.specs.Callbacks.{Handed, Reply}
 use Rattle.rkt_source.specs.Source.{Meaning}
-use Rattle.rkt_sample.specs.Added.{mark_of}
+use Rattle.rkt_sample.specs.Added.{mark_of, with_added}
 use Rattle.rkt_sample.specs.Bodies.{SampleBody, string_limit, text_in, whole}
 use Rattle.rkt_sample.specs.Greeting.{greeting}
+use Rattle.rkt_sample.specs.Told.{with_word}
 use Rattle.rkt_sample.specs.declared.route.SampleRoute.{SampleRoute}
 use Rattle.rkt_sample.specs.declared.route.SampleRoute.TheVariants as route
 
@@ -63,6 +65,7 @@ reply_of meaning route.Tried handed = says (codes "tried")
 reply_of meaning route.Spoiled handed = Error teapot
 reply_of meaning route.Flash handed = Success to_page
 reply_of meaning route.Echo handed = echoes (text_in (string_limit handed.request.config.limits) (whole meaning handed.body))
+reply_of meaning route.Stop handed = says (codes "stopping")
 reply_of meaning route.Broken handed = Success broken
 
 abbrev pub it_worked : Flashed
@@ -74,3 +77,12 @@ added_by route.Trial = Some (mark_of (codes "a"))
 added_by route.Spoiled = Some (mark_of (codes "a"))
 added_by route.Flash = Some (flash_cookie it_worked)
 added_by _ = None
+
+-- the word that each route tells, where `/stop` tells this one
+abbrev pub told_by : ℕ → SampleRoute → Option ℕ
+told_by word route.Stop = Some word
+told_by word _ = None
+
+-- what each route leaves of what it may change
+abbrev pub left_by : {C : Type 0} → ℕ → SampleRoute → Kept C → Kept C
+left_by word route before = with_word (told_by word route) (with_added (added_by route) before)

@@ -1,6 +1,6 @@
 -- That the routes of the sample keep the laws of handlers.
-use Rattle.std.specs.Prelude.{◌≡◌, ℕ, List, ◌∷◌, [], Option, Some, None, false}
-use Rattle.std.proofs.Common.{⊎_elim, append-nil, le_refl, refl, sym, ◌∙◌}
+use Rattle.std.specs.Prelude.{◌≡◌, ◌<◌, zero, suc, ℕ, List, ◌∷◌, [], Option, Some, None, false}
+use Rattle.std.proofs.Common.{⊎_elim, append-nil, arith, le_refl, refl, sym, ◌∙◌}
 use Rattle.std.proofs.lemmas.List.Elements.{All-cons, All-nil}
 use Rattle.rkt_cookie.specs.Cookie.{Parts}
 use Rattle.rkt_cookie.specs.Jar.{addition}
@@ -8,17 +8,23 @@ use Rattle.rkt_cookie.specs.declared.change.Change.{Change}
 use Rattle.rkt_http.specs.declared.outcome.Outcome.TheVariants.{Error}
 use Rattle.rkt_request.specs.Guards.{bad_request}
 use Rattle.rkt_request.specs.Lent.{Grows, Kept}
-use Rattle.rkt_request.specs.LentLaws.{grows_same}
+use Rattle.rkt_request.specs.LentLaws.{grows_again, grows_same}
 use Rattle.rkt_router.specs.Callbacks.{GivesBack, Handed, KeepsHandler, Reply}
 use Rattle.rkt_source.specs.Source.{Meaning}
 use Rattle.rkt_source.specs.declared.source.Gate.{Gate}
 use Rattle.rkt_sample.specs.Added.{AddsOnly, with_added}
 use Rattle.rkt_sample.specs.Bodies.{ReadsAll, SampleBody, whole}
 use Rattle.rkt_sample.specs.Greeting.{greeting}
-use Rattle.rkt_sample.specs.Replies.{added_by, echoes, greets, reply_of}
-use Rattle.rkt_sample.specs.Routing.{MayBeRefused, MayReply, Replies, route_calling}
+use Rattle.rkt_sample.specs.Replies.{added_by, echoes, greets, left_by, reply_of, told_by}
+use Rattle.rkt_sample.specs.Routing.{MayBeRefused, Replies, route_calling}
+use Rattle.rkt_sample.specs.Told.{seen_then, with_word}
 use Rattle.rkt_sample.specs.declared.route.SampleRoute.{SampleRoute}
 use Rattle.rkt_sample.specs.declared.route.SampleRoute.TheVariants as route
+
+-- a word that was seen stays seen
+seen_stays : (word seen : ℕ) → 0 < seen → seen_then seen word ≡ seen
+seen_stays word zero was = absurd (omega (arith, was))
+seen_stays word (suc n) was = refl
 
 -- what a cookie is added to has grown
 pub grows_added : {C : Type 0} (cookie : Option Parts) (kept : Kept C) → Grows kept (with_added cookie kept)
@@ -30,6 +36,20 @@ grows_added (Some cookie) kept = record {
   cache = ([], sym (append-nil kept.cache));
   shutdown = record { wire = refl; looked = le_refl kept.shutdown.looked; seen = λ was. refl };
 }
+
+-- so has what a word is told to
+pub grows_told : {C : Type 0} (word : Option ℕ) (kept : Kept C) → Grows kept (with_word word kept)
+grows_told None kept = grows_same kept kept refl
+grows_told (Some word) kept = record {
+  originals = refl;
+  floor = refl;
+  log = ([], sym (append-nil kept.jar.log));
+  cache = ([], sym (append-nil kept.cache));
+  shutdown = record { wire = refl; looked = le_refl kept.shutdown.looked; seen = seen_stays word kept.shutdown.seen };
+}
+
+grows_left : {C : Type 0} (word : ℕ) (route : SampleRoute) (kept : Kept C) → Grows kept (left_by word route kept)
+grows_left word route kept = grows_again kept (with_added (added_by route) kept) (left_by word route kept) (grows_added (added_by route) kept) (grows_told (told_by word route) (with_added (added_by route) kept))
 
 greets_back : {S : Type 0} (R : Type 0) (whole : SampleBody S → Option (List ℕ)) (body : SampleBody S) (text : Option (List ℕ)) → GivesBack {R = R} whole body (greets body text)
 greets_back R whole body (Some text) = tt
@@ -51,12 +71,13 @@ gives_back R meaning route.Tried handed = tt
 gives_back R meaning route.Spoiled handed = tt
 gives_back R meaning route.Flash handed = tt
 gives_back R meaning route.Echo handed = echoes_back R (whole meaning) handed.body _
+gives_back R meaning route.Stop handed = tt
 gives_back R meaning route.Broken handed = tt
 
-pub routes_keep : {V S C R : Type 0} (meaning : S → Meaning) → KeepsHandler (whole meaning) (route_calling {V = V} {C = C} {R = R} meaning)
-routes_keep meaning = record {
+pub routes_keep : {V S C R : Type 0} (meaning : S → Meaning) (word : ℕ) → KeepsHandler (whole meaning) (route_calling {V = V} {C = C} {R = R} meaning word)
+routes_keep meaning word = record {
   keeps = record {
-    done = λ route handed before after gates reply is. rw is.1 (grows_added (added_by route) before);
+    done = λ route handed before after gates reply is. rw is.1 (grows_left word route before);
     begun = λ route handed task before now gates n begun. grows_same before now begun.1;
   };
   forwards = λ route handed before after gates reply is. ⊎_elim
@@ -73,16 +94,18 @@ replies_so meaning route handed gates reply reads is = ⊎_elim
     (λ (errs : (reply ≡ Error bad_request) × MayBeRefused meaning route handed.body gates). absurd (errs.1.1 reads))
     is
 
--- so it replies once, whatever the Gates
-pub replies_once : {V S C R : Type 0} (meaning : S → Meaning) (route : SampleRoute) (handed : Handed V (SampleBody S)) (before after after' : Kept C) (gates gates' : List Gate) (reply reply' : Reply R (SampleBody S))
-    → ReadsAll meaning handed.body gates → ReadsAll meaning handed.body gates' → MayReply meaning route handed before gates reply after → MayReply meaning route handed before gates' reply' after' → (reply ≡ reply') × (after ≡ after')
-replies_once meaning route handed before after after' gates gates' reply reply' reads reads' is is' =
-    (replies_so meaning route handed gates reply reads is.0 ∙ sym (replies_so meaning route handed gates' reply' reads' is'.0), is.1 ∙ sym is'.1)
-
 abbrev IsAddition : Change → Type 0
 IsAddition change = change.removal ≡ false
 
 -- what is added to the log is no removal
-pub adds_only : {C : Type 0} (cookie : Option Parts) (kept : Kept C) → AddsOnly kept (with_added cookie kept)
-adds_only None kept = ([], All-nil IsAddition, sym (append-nil kept.jar.log))
-adds_only (Some cookie) kept = (addition cookie ∷ [], All-cons IsAddition (addition cookie) [] refl (All-nil IsAddition), refl)
+pub adds_added : {C : Type 0} (cookie : Option Parts) (kept : Kept C) → AddsOnly kept (with_added cookie kept)
+adds_added None kept = ([], All-nil IsAddition, sym (append-nil kept.jar.log))
+adds_added (Some cookie) kept = (addition cookie ∷ [], All-cons IsAddition (addition cookie) [] refl (All-nil IsAddition), refl)
+
+-- and nothing is added where a word is told
+adds_told : {C : Type 0} (word : Option ℕ) (before kept : Kept C) → AddsOnly before kept → AddsOnly before (with_word word kept)
+adds_told None before kept adds = adds
+adds_told (Some word) before kept adds = adds
+
+pub adds_only : {C : Type 0} (word : ℕ) (route : SampleRoute) (kept : Kept C) → AddsOnly kept (left_by word route kept)
+adds_only word route kept = adds_told (told_by word route) kept (with_added (added_by route) kept) (adds_added (added_by route) kept)

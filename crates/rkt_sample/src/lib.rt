@@ -9,6 +9,7 @@ mod mounted;
 mod replies;
 mod route;
 mod source;
+mod stop;
 mod text;
 
 pub use catcher::SampleCatcher;
@@ -16,3 +17,4 @@ pub use laws::{catchers_answer, param_reads_age, routes_reply};
 pub use mounted::{catchers, routes};
 pub use route::SampleRoute;
 pub use source::ToldSource;
+pub use stop::StopReason;

@@ -13,7 +13,7 @@ use rkt_router::{Catcher, Route};
 use std::alloc::{AllocError, Global};
 
 /// The routes, in mounting order.
-const ROUTES: [SampleRoute; 12] = [
+const ROUTES: [SampleRoute; 13] = [
     SampleRoute::Hello,
     SampleRoute::Page,
     SampleRoute::HeadPage,
@@ -25,6 +25,7 @@ const ROUTES: [SampleRoute; 12] = [
     SampleRoute::Spoiled,
     SampleRoute::Flash,
     SampleRoute::Echo,
+    SampleRoute::Stop,
     SampleRoute::Broken,
 ];
 
@@ -71,6 +72,7 @@ impl SampleRoute {
             SampleRoute::Spoiled => "/spoiled",
             SampleRoute::Flash => "/flash",
             SampleRoute::Echo => "/echo",
+            SampleRoute::Stop => "/stop",
             SampleRoute::Broken => "/broken",
         }
     }

@@ -5,11 +5,13 @@ ghost use Rattle.rkt_sample.specs.Added.{mark_of, with_added};
 ghost use Rattle.rkt_sample.specs.Greeting.{greeting};
 ghost use Rattle.rkt_sample.specs.Replies.{broken, greets, it_worked, says, to_page};
 ghost use Rattle.rkt_sample.specs.Routing.{Replies};
+ghost use Rattle.rkt_sample.specs.Told.{with_word};
 
 use crate::cookies::mark;
 use crate::greeting::greeting;
 use crate::route::SampleRoute;
 use crate::source::ToldSource;
+use crate::stop::StopReason;
 use crate::text::read_text;
 use rkt_base::{NoMemory, Want};
 use rkt_data::Source;
@@ -111,6 +113,29 @@ pub(crate) fn flash<T: Types>(
     let flash = Flash::success(alloc, response, "It worked!")?;
     flash.add_to(alloc, ctx.cookies_mut())?;
     Ok(Outcome::Success(flash.into_inner()))
+}
+
+/// Notifies the handle of the server.
+fn notify<T: Types<Reason = R>, R: StopReason>(ctx: &mut Ctx<T>)
+    ensures { ctx.new ≡ record ctx.old { kept = with_word (Some R.stop_word) ctx.old.kept } }
+{
+    let reason = R::stop();
+    ctx.shutdown().notify(reason);
+}
+
+/// Says that it stops. The handle is notified last, so that nobody is told where memory runs out.
+pub(crate) fn stop<T: Types<Reason = R>, R: StopReason>(
+    alloc: Global,
+    request: &Request<'_, T>,
+    ctx: &mut Ctx<T>,
+) -> Result<RouteOutcome<T>, NoMemory>
+    ensures reply { IfOk result (λ reply. reply ≡ says (codes "stopping")) }
+    ensures ok { OnOk result (ctx.new ≡ record ctx.old { kept = with_word (Some R.stop_word) ctx.old.kept }) }
+    ensures err { OnErr result (ctx.new ≡ ctx.old) }
+{
+    let reply = say(alloc, request, ctx, "stopping")?;
+    notify(ctx);
+    Ok(reply)
 }
 
 /// An empty response with a header whose value no response may have.

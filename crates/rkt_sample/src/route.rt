@@ -1,12 +1,12 @@
 //! The routes: what each answers to a request.
 ghost use Rattle.std.specs.Prelude.{◌≡◌, ◌∷◌, [], IfOk, OnOk, OnErr};
 ghost use Rattle.rkt_router.specs.Answers.{StepsTo};
-ghost use Rattle.rkt_sample.specs.Added.{with_added};
-ghost use Rattle.rkt_sample.specs.Replies.{added_by};
+ghost use Rattle.rkt_sample.specs.Replies.{left_by};
 ghost use Rattle.rkt_sample.specs.Routing.{Replies};
 
-use crate::replies::{after_mark, broken, echo, flash, greet, say};
+use crate::replies::{after_mark, broken, echo, flash, greet, say, stop};
 use crate::source::ToldSource;
+use crate::stop::StopReason;
 use rkt_base::NoMemory;
 use rkt_http::{Outcome, Status};
 use rkt_request::{Body0, Ctx, Request, Types};
@@ -38,17 +38,19 @@ pub enum SampleRoute {
     Flash,
     /// POST `/echo`: the text of the body.
     Echo,
+    /// GET `/stop`: notifies the handle of the server, and says so.
+    Stop,
     /// GET `/broken`: an empty response that cannot be sent.
     Broken,
 }
 
-impl<T: Types<Source = S>, S: ToldSource> Handler<T> for SampleRoute {
+impl<T: Types<Source = S, Reason = R>, S: ToldSource, R: StopReason> Handler<T> for SampleRoute {
     ghost use Rattle.rkt_sample.specs.Routing.{route_calling};
     ghost use Rattle.rkt_sample.specs.RoutingLaws.{routes_keep};
 
     type Task = Option<Body0<T>>;
 
-    ghost calling = { route_calling S.Source.meaning };
+    ghost calling = { route_calling S.Source.meaning R.stop_word };
 
     fn start(&self, _request: &Request<'_, T>, body: Body0<T>) -> Option<Body0<T>> {
         Some(body)
@@ -67,11 +69,11 @@ impl<T: Types<Source = S>, S: ToldSource> Handler<T> for SampleRoute {
         }
     }
 
-    ghost keeps = { routes_keep S.Source.meaning };
+    ghost keeps = { routes_keep S.Source.meaning R.stop_word };
 }
 
 /// The step of a route that has its body.
-fn step<T: Types<Source = S>, S: ToldSource>(
+fn step<T: Types<Source = S, Reason = R>, S: ToldSource, R: StopReason>(
     alloc: Global,
     route: SampleRoute,
     request: &Request<'_, T>,
@@ -79,7 +81,7 @@ fn step<T: Types<Source = S>, S: ToldSource>(
     ctx: &mut Ctx<T>,
 ) -> Step<RouteOutcome<T>>
     ensures { StepsTo result
-        (λ reply. Replies S.Source.meaning route (record { request = request.now; body = body }) (ctx.old.gate ∷ []) reply × (ctx.new ≡ record ctx.old { kept = with_added (added_by route) ctx.old.kept }))
+        (λ reply. Replies S.Source.meaning route (record { request = request.now; body = body }) (ctx.old.gate ∷ []) reply × (ctx.new ≡ record ctx.old { kept = left_by R.stop_word route ctx.old.kept }))
         (ctx.new ≡ ctx.old) }
 {
     match reply(alloc, route, request, body, ctx) {
@@ -89,7 +91,7 @@ fn step<T: Types<Source = S>, S: ToldSource>(
 }
 
 /// What a route replies, once there is memory.
-fn reply<T: Types<Source = S>, S: ToldSource>(
+fn reply<T: Types<Source = S, Reason = R>, S: ToldSource, R: StopReason>(
     alloc: Global,
     route: SampleRoute,
     request: &Request<'_, T>,
@@ -97,7 +99,7 @@ fn reply<T: Types<Source = S>, S: ToldSource>(
     ctx: &mut Ctx<T>,
 ) -> Result<RouteOutcome<T>, NoMemory>
     ensures ok { IfOk result (Replies S.Source.meaning route (record { request = request.now; body = body }) (ctx.old.gate ∷ [])) }
-    ensures kept { OnOk result (ctx.new ≡ record ctx.old { kept = with_added (added_by route) ctx.old.kept }) }
+    ensures kept { OnOk result (ctx.new ≡ record ctx.old { kept = left_by R.stop_word route ctx.old.kept }) }
     ensures err { OnErr result (ctx.new ≡ ctx.old) }
 {
     match route {
@@ -113,6 +115,7 @@ fn reply<T: Types<Source = S>, S: ToldSource>(
         SampleRoute::Spoiled => after_mark(alloc, ctx, Outcome::Error(Status::ImATeapot)),
         SampleRoute::Flash => flash(alloc, request, ctx),
         SampleRoute::Echo => echo(alloc, request, body, ctx),
+        SampleRoute::Stop => stop(alloc, request, ctx),
         SampleRoute::Broken => Ok(Outcome::Success(broken(alloc)?)),
     }
 }

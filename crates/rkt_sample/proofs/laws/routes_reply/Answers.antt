@@ -3,11 +3,10 @@ use Rattle.rkt_request.specs.Lent.{Kept}
 use Rattle.rkt_source.specs.Memory.{SourceInMemory, source_meaning}
 use Rattle.rkt_sample.specs.Added.{AddsOnly}
 use Rattle.rkt_sample.specs.MadeLaws.{route_made}
-use Rattle.rkt_sample.specs.Replies.{added_by}
 use Rattle.rkt_sample.specs.RoutingLaws.{adds_only}
 use Rattle.rkt_sample.proofs.laws.routes_reply.Goals as goal
 
 pub returns : goal.returns
-returns c = λ rule turns route handed before after reply untripped some steady made.
-    let is = route_made rule turns some SourceInMemory before after source_meaning route handed reply untripped steady made in
-    record { gives = is.0; leaves = is.1; adds = subst (λ (kept : Kept ℕ). AddsOnly before kept) (sym is.1) (adds_only (added_by route) before) }
+returns c = λ rule turns word route handed before after reply untripped some steady made.
+    let is = route_made rule turns some SourceInMemory before after source_meaning word route handed reply untripped steady made in
+    record { gives = is.0; leaves = is.1; adds = subst (λ (kept : Kept ℕ). AddsOnly before kept) (sym is.1) (adds_only word route before) }
