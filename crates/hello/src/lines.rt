@@ -4,11 +4,13 @@ use crate::site::Site;
 use rkt_base::{NoMemory, Seq, Text};
 use rkt_life::{Ignite, Rocket};
 use rkt_request::Head;
-use rkt_serve::{Launch, Links, ListClock, ListListener, MemoryLink};
-use std::alloc::Global;
+use rkt_serve::{Launch, Launched, Links, ListClock, ListListener, MemoryLink};
+use std::alloc::{AllocError, Global};
 use std::io;
 use std::sync::Wait;
 use std::thread::Threads;
+
+type Over = Launched<Site, ListListener, ListClock>;
 
 /// A link that asks METHOD TARGET.
 fn link_of(alloc: Global, line: &str) -> Result<MemoryLink, NoMemory> {
@@ -32,6 +34,23 @@ fn read_links(rt: &impl Input, alloc: Global) -> io::Result<Links> {
     Ok(links)
 }
 
+fn launched<R: Wait + Threads>(
+    rt: &R,
+    alloc: Global,
+    rocket: Rocket<Ignite, Site>,
+    links: Links,
+) -> Result<Over, NoMemory> {
+    let listener = ListListener::new(alloc, links.into_vec(), Vec::new(alloc))?;
+    let clock = ListClock::new(Vec::new(alloc));
+    match rocket.launch(rt, alloc, listener, clock, 0) {
+        Ok(over) => Ok(over),
+        Err(error) => {
+            let _text = error.pretty_print();
+            Err(AllocError)
+        }
+    }
+}
+
 /// Serves each line of standard input, and prints what came of it.
 pub fn serve_lines<R: Print + Input + Wait + Threads>(
     rt: &R,
@@ -39,10 +58,8 @@ pub fn serve_lines<R: Print + Input + Wait + Threads>(
     rocket: Rocket<Ignite, Site>,
 ) -> io::Result<()> {
     let links = read_links(rt, alloc)?;
-    let listener = ListListener::new(alloc, links.into_vec(), Vec::new(alloc))?;
-    let clock = ListClock::new(Vec::new(alloc));
-    match rocket.launch(rt, alloc, listener, clock, 0) {
-        Ok(over) => print_history(rt, alloc, &over.history),
-        Err(error) => println!(rt; "{}", error.pretty_print()),
-    }
+    let over = launched(rt, alloc, rocket, links)?;
+    let printed = print_history(rt, alloc, &over.history);
+    drop(over);
+    printed
 }
