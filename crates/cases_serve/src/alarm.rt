@@ -21,13 +21,13 @@ use std::thread::Threads;
 
 /// A clock that notifies the wire where it tells this moment or a later one.
 #[derive(Drop)]
-pub struct Alarm {
+pub struct AlarmClock {
     clock: ListClock,
     at: u64,
     handle: Shutdown<Stopped>,
 }
 
-impl Clock for Alarm {
+impl Clock for AlarmClock {
     ghost use Rattle.rkt_link.specs.Memory.{clock_meaning};
 
     ghost meaning = { λ alarm. clock_meaning alarm.clock };
@@ -64,14 +64,14 @@ impl Listener for Bell {
     }
 }
 
-type Over = Launched<Site, Bell, Alarm>;
+type Over = Launched<Site, Bell, AlarmClock>;
 
 fn launched<R: Wait + Threads>(
     rt: &R,
     alloc: Global,
     rocket: Rocket<Ignite, Site>,
     bell: Bell,
-    alarm: Alarm,
+    alarm: AlarmClock,
 ) -> Result<Over, CaseError>
     requires { IsFresh (listener_meaning bell.listener) }
 {
@@ -102,7 +102,7 @@ fn launched_with<R: Wait + Threads>(
 {
     let (handle, other) = handles(&mut rocket)?;
     let bell = Bell { listener, handle };
-    let alarm = Alarm {
+    let alarm = AlarmClock {
         clock,
         at,
         handle: other,
