@@ -4,7 +4,7 @@ use crate::site::Site;
 use rkt_base::{NoMemory, Seq, Text};
 use rkt_life::{Ignite, Rocket};
 use rkt_request::Head;
-use rkt_serve::{Launch, Launched, Links, ListClock, ListListener, MemoryLink};
+use rkt_serve::{Launch, Launched, Links, ListClock, ListListener};
 use std::alloc::{AllocError, Global};
 use std::io;
 use std::sync::Wait;
@@ -12,16 +12,15 @@ use std::thread::Threads;
 
 type Over = Launched<Site, ListListener, ListClock>;
 
-/// A link that asks METHOD TARGET.
-fn link_of(alloc: Global, line: &str) -> Result<MemoryLink, NoMemory> {
+/// The head of METHOD TARGET.
+fn head_of(alloc: Global, line: &str) -> Result<Head, NoMemory> {
     let (method, target) = line.split_once(' ').unwrap_or((line, ""));
-    let head = Head {
+    Ok(Head {
         method: Text::new(alloc, method)?,
         target: Text::new(alloc, target)?,
         headers: Seq::new(alloc),
         remote: None,
-    };
-    MemoryLink::new(alloc, head, Vec::new(alloc))
+    })
 }
 
 /// A link for each line of standard input.
@@ -29,7 +28,7 @@ fn read_links(rt: &impl Input, alloc: Global) -> io::Result<Links> {
     let mut links = Links::new(alloc);
     for line in rt.lines(alloc) {
         let line = line?;
-        links.push(link_of(alloc, line.as_str())?)?;
+        links.push(alloc, head_of(alloc, line.as_str())?, Vec::new(alloc))?;
     }
     Ok(links)
 }

@@ -1,10 +1,11 @@
 //! Links that nobody has used.
-ghost use Rattle.std.specs.Prelude.{◌≡◌, ◌++◌, ◌∷◌, [], OnOk, OnErr};
+ghost use Rattle.std.specs.Prelude.{◌≡◌, ◌++◌, ◌∷◌, [], false, OnOk, OnErr};
 ghost use Rattle.std.specs.List.{AllByRecursion};
 ghost use Rattle.rkt_link.specs.Memory.{IsUnused};
 
 use crate::MemoryLink;
 use rkt_base::NoMemory;
+use rkt_request::Head;
 use std::alloc::Global;
 use std::marker::Model;
 
@@ -36,14 +37,13 @@ impl Links {
         }
     }
 
-    /// Adds a link behind the others.
+    /// Adds a link behind the others that asks this, with these bytes as the body.
     #[tactic(auto, using(crate::proofs::Unused::unused_push))]
-    pub fn push(&mut self, link: MemoryLink) -> Result<(), NoMemory>
-        requires unused { IsUnused link }
-        ensures ok { OnOk result (self.new ≡ self.old ++ link ∷ []) }
+    pub fn push(&mut self, alloc: Global, head: Head, bytes: Vec<u8>) -> Result<(), NoMemory>
+        ensures ok { OnOk result (self.new ≡ self.old ++ (record { head = head; body = bytes.items; source_taken = false; held = [] }) ∷ []) }
         ensures err { OnErr result (self.new ≡ self.old) }
     {
-        self.links.push(link)?;
+        self.links.push(MemoryLink::new(alloc, head, bytes)?)?;
         Ok(())
     }
 
