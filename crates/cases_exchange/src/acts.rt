@@ -3,12 +3,13 @@ ghost use Rattle.std.specs.Prelude.{◌≡◌};
 ghost use Rattle.rkt_request.specs.Lent.{MayGrow};
 
 use crate::app::Site;
+use crate::owned::kept;
 use crate::page::{Act, Made};
 use rkt_base::{NoMemory, Poll, Want};
 use rkt_cookie::Cookie;
 use rkt_data::{Gate, MemorySource};
 use rkt_http::{Key, Outcome, Status};
-use rkt_request::{Body0, Ctx, FromData, HasBody, Mounted, Request};
+use rkt_request::{Body0, Ctx, DataOutcome, FromData, HasBody, Mounted, Request};
 use rkt_response::responder::stream::TextStream;
 use rkt_response::{Flash, Redirect, Responder, Response};
 use sample_app::Stopped;
@@ -23,6 +24,9 @@ pub enum Said {
     /// It fails its turn.
     Fault,
 }
+
+/// What the body is read as.
+type TextOutcome = DataOutcome<String, <String as FromData<Site>>::Error, Body0<Site>>;
 
 /// Adds a cookie of this name, with the value 1.
 pub fn add_cookie(alloc: Global, name: &str, ctx: &mut Ctx<Site>) -> Result<(), NoMemory>
@@ -75,6 +79,38 @@ pub fn peeked(mut body: Body0<Site>, gate: Gate) -> Body0<Site>
     body
 }
 
+/// What the body is read as, if it is not Pending.
+fn read(
+    alloc: Global,
+    request: &Request<'_, Site>,
+    body: Body0<Site>,
+    gate: Gate,
+) -> Poll<Result<TextOutcome, NoMemory>> {
+    let mut reading = <String as FromData<Site>>::from_data(request, body);
+    let read = <String as FromData<Site>>::poll_data(alloc, &mut reading, gate);
+    drop(reading);
+    read
+}
+
+/// What the text of a body, or its refusal, answers.
+fn echo(
+    alloc: Global,
+    request: &Request<'_, Site>,
+    outcome: TextOutcome,
+    ctx: &mut Ctx<Site>,
+) -> Result<Said, NoMemory>
+    ensures grows { MayGrow ctx.old ctx.new }
+{
+    match outcome {
+        Outcome::Success(text) => responds(alloc, request, ctx, text),
+        Outcome::Error((status, _)) => Ok(Said::Error(status)),
+        Outcome::Forward(left) => {
+            drop(left);
+            Ok(Said::Fault)
+        }
+    }
+}
+
 /// What the text of the body, or its refusal, answers. A body that is Pending then is not waited for.
 pub fn echoed(
     alloc: Global,
@@ -84,12 +120,10 @@ pub fn echoed(
 ) -> Result<Said, NoMemory>
     ensures grows { MayGrow ctx.old ctx.new }
 {
-    let mut reading = <String as FromData<Site>>::from_data(request, body);
-    match <String as FromData<Site>>::poll_data(alloc, &mut reading, ctx.gate()) {
-        Poll::Ready(Ok(Outcome::Success(text))) => responds(alloc, request, ctx, text),
-        Poll::Ready(Ok(Outcome::Error((status, _)))) => Ok(Said::Error(status)),
-        Poll::Ready(Ok(Outcome::Forward(_))) | Poll::Pending => Ok(Said::Fault),
+    match read(alloc, request, body, ctx.gate()) {
+        Poll::Ready(Ok(outcome)) => echo(alloc, request, outcome, ctx),
         Poll::Ready(Err(_)) => Err(AllocError),
+        Poll::Pending => Ok(Said::Fault),
     }
 }
 
@@ -162,15 +196,15 @@ fn say_hello(alloc: Global, response: &mut Response<MemorySource>) -> Result<(),
 fn with_length(alloc: Global, status: Status) -> Result<Response<MemorySource>, NoMemory> {
     let mut response = Response::new(alloc);
     response.set_status(status);
-    say_hello(alloc, &mut response)?;
-    Ok(response)
+    let said = say_hello(alloc, &mut response);
+    kept(response, said)
 }
 
 /// An empty response with one header.
 fn with_header(alloc: Global, name: &str, value: &str) -> Result<Response<MemorySource>, NoMemory> {
     let mut response = Response::new(alloc);
-    response.set_raw_header(name, value)?;
-    Ok(response)
+    let set = response.set_raw_header(name, value);
+    kept(response, set)
 }
 
 fn made_alone(alloc: Global, made: Made) -> Result<Response<MemorySource>, NoMemory> {

@@ -1,10 +1,11 @@
 //! The application that is asked, by its types, and what its exchanges go by.
 use crate::changer::Changer;
+use crate::owned::kept;
 use crate::page::Page;
 use crate::routes::{CATCHERS, CatcherRow, ROUTES, RouteRow};
 use crate::source::Paused;
 use cases::CaseError;
-use rkt_base::{NoMemory, Want};
+use rkt_base::Want;
 use rkt_data::MemorySource;
 use rkt_fairing::{App, Fairings, Parts};
 use rkt_http::{InvalidUri, Origin};
@@ -98,22 +99,27 @@ fn fill(alloc: Global, router: &mut SiteRouter) -> Result<(), CaseError> {
 
 fn made_router(alloc: Global) -> Result<SiteRouter, CaseError> {
     let mut router = SiteRouter::new(alloc);
-    fill(alloc, &mut router)?;
-    Ok(router)
+    let filled = fill(alloc, &mut router);
+    kept(router, filled)
 }
 
-fn tables_of(alloc: Global, router: SiteRouter) -> Result<Tables<Site>, NoMemory> {
-    let config = Config::default(alloc)?;
-    Ok(TablesOf {
+fn tables_of(alloc: Global, router: SiteRouter, config: Config) -> Tables<Site> {
+    TablesOf {
         router,
         fairings: Fairings::new(alloc),
         config,
         managed: Managed::new(alloc),
-    })
+    }
 }
 
 /// All routes and catchers, no fairings, the default configuration, and nothing managed.
 pub fn made_tables(alloc: Global) -> Result<Tables<Site>, CaseError> {
     let router = made_router(alloc)?;
-    Ok(tables_of(alloc, router)?)
+    match Config::default(alloc) {
+        Ok(config) => Ok(tables_of(alloc, router, config)),
+        Err(_) => {
+            drop(router);
+            Err(CaseError::NoMemory)
+        }
+    }
 }

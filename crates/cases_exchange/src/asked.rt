@@ -1,5 +1,6 @@
 //! Requests, as lines say them.
 use crate::app::Site;
+use crate::owned::kept;
 use crate::source::Paused;
 use cases::{CaseError, cut, first_word, numbers, pair, parsed, written};
 use rkt_base::{NoMemory, Seq, Text};
@@ -20,7 +21,7 @@ pub struct Asked {
 }
 
 /// When an exchange begins, and whether the jar is shown behind it.
-#[derive(Clone, Copy, Debug, PartialEq, Eq, Drop)]
+#[derive(Clone, Copy, Drop)]
 pub struct When {
     pub moment: u64,
     pub shows_jar: bool,
@@ -90,7 +91,9 @@ fn take(alloc: Global, asked: &mut Asked, piece: &str) -> Result<(), CaseError> 
 }
 
 fn take_all(alloc: Global, asked: &mut Asked, text: &str) -> Result<(), CaseError> {
-    for piece in text.split(" | ").skip(1) {
+    let mut pieces = text.split(" | ");
+    let _first = pieces.next();
+    for piece in pieces {
         take(alloc, asked, piece)?;
     }
     Ok(())
@@ -114,8 +117,8 @@ fn plain(alloc: Global, text: &str) -> Result<Asked, NoMemory> {
 /// Reads `METHOD TARGET | PIECE | ..`. The moment is 1000 where none is said.
 pub fn read_asked(alloc: Global, text: &str) -> Result<Asked, CaseError> {
     let mut asked = plain(alloc, text)?;
-    take_all(alloc, &mut asked, text)?;
-    Ok(asked)
+    let taken = take_all(alloc, &mut asked, text);
+    kept(asked, taken)
 }
 
 impl Asked {

@@ -1,4 +1,5 @@
 //! Fairings, as lines say them.
+use crate::owned::kept;
 use cases::{CaseError, first_word, pair, parsed};
 use rkt_base::NoMemory;
 use rkt_fairing::{Attach, Fairings, Info, Kind, Slot};
@@ -7,7 +8,7 @@ use rkt_shield::Shield;
 use std::alloc::Global;
 
 /// What a fairing does. What does not fit what it is lent changes nothing.
-#[derive(Clone, Copy, Debug, PartialEq, Eq, Drop)]
+#[derive(Clone, Copy, Drop)]
 pub enum Does {
     /// Gives the request another method.
     Method(Method),
@@ -178,6 +179,6 @@ fn attach_all(
 /// The fairings of `FAIRING; ..`, attached in this order.
 pub fn read_fairings(alloc: Global, text: &str) -> Result<Fairings<Changer>, CaseError> {
     let mut fairings = Fairings::new(alloc);
-    attach_all(alloc, &mut fairings, text)?;
-    Ok(fairings)
+    let attached = attach_all(alloc, &mut fairings, text);
+    kept(fairings, attached)
 }

@@ -3,6 +3,7 @@ ghost use Rattle.std.specs.Prelude.{IfNone, IsSome};
 
 use crate::app::Site;
 use crate::asked::{Asked, When, body_of};
+use crate::owned::no_memory;
 use crate::shown::push_ended;
 use crate::source::Paused;
 use cases::CaseError;
@@ -33,6 +34,19 @@ fn polled(exchange: &mut Exchange<'_, Site>, gate: Gate) -> Option<Ended<Site>>
     }
 }
 
+/// Adds its end.
+fn push_end(
+    alloc: Global,
+    polls: u64,
+    mut ended: Ended<Site>,
+    when: When,
+    out: &mut String,
+) -> Result<(), CaseError> {
+    let pushed = push_ended(alloc, polls, &mut ended, when, out);
+    drop(ended);
+    pushed
+}
+
 /// Polls it until it ends, each time a second behind the one before, and adds its end. One that takes too many polls makes
 /// no case.
 fn drive(
@@ -46,7 +60,7 @@ fn drive(
     for before in 0..POLLS {
         let gate = gate_at(when.moment.saturating_add(before));
         if let Some(ended) = polled(exchange, gate) {
-            return push_ended(alloc, before + 1, ended, when, out);
+            return push_end(alloc, before + 1, ended, when, out);
         }
     }
     Err(CaseError::Line)
@@ -76,8 +90,13 @@ fn push_incoming(
     when: When,
     out: &mut String,
 ) -> Result<(), CaseError> {
-    let shutdown = handle(alloc)?;
-    push_exchange(alloc, tables, incoming, body, shutdown, when, out)
+    match handle(alloc) {
+        Ok(shutdown) => push_exchange(alloc, tables, incoming, body, shutdown, when, out),
+        Err(_) => {
+            drop(incoming);
+            no_memory(body)
+        }
+    }
 }
 
 fn push_head(
@@ -88,8 +107,10 @@ fn push_head(
     when: When,
     out: &mut String,
 ) -> Result<(), CaseError> {
-    let incoming = Request::from_incoming(alloc, head, &tables.config, &tables.managed)?;
-    push_incoming(alloc, tables, incoming, body, when, out)
+    match Request::from_incoming(alloc, head, &tables.config, &tables.managed) {
+        Ok(incoming) => push_incoming(alloc, tables, incoming, body, when, out),
+        Err(_) => no_memory(body),
+    }
 }
 
 fn push_source(

@@ -17,7 +17,7 @@ use rkt_router::Step;
 use std::alloc::Global;
 
 /// Stands for how a fairing is called: it is Pending as often as it says, and then makes its change.
-#[derive(Clone, Copy, Debug, Drop)]
+#[derive(Clone, Copy, Drop)]
 pub struct InTurns;
 
 impl Fairing<Site> for Changer {

@@ -39,6 +39,7 @@ mod asked;
 mod changer;
 mod exchanged;
 mod fairing;
+mod owned;
 mod page;
 mod routes;
 mod shown;

@@ -14,7 +14,7 @@ use rkt_router::{CatchHandler, Handler, RouteOutcome, Step};
 use std::alloc::Global;
 
 /// A response that is made with care.
-#[derive(Clone, Copy, Debug, PartialEq, Eq)]
+#[derive(Clone, Copy, Debug)]
 pub enum Made {
     /// Leads to `/page`, with a message.
     Flash,
@@ -41,7 +41,7 @@ pub enum Made {
 }
 
 /// What a page does once.
-#[derive(Clone, Copy, Debug, PartialEq, Eq)]
+#[derive(Clone, Copy, Debug)]
 pub enum Act {
     /// Greets the first segment behind the base, whose age is the second; where that is no small number, it leaves the
     /// request to another route, with 404.
@@ -61,7 +61,7 @@ pub enum Act {
 }
 
 /// What is called for a route and for a catcher: each answers in both places.
-#[derive(Clone, Copy, Debug, PartialEq, Eq)]
+#[derive(Clone, Copy, Debug)]
 pub enum Page {
     Does(Act),
     /// Adds a cookie of this name, with the value 1, first.
@@ -153,11 +153,11 @@ fn reply(said: Result<Said, NoMemory>, body: Body0<Site>) -> Step<RouteOutcome<S
     ensures { Ends ⟦<Site as HasBody>⟧.whole body result }
 {
     match said {
-        Ok(Said::Response(response)) => Step::Done(Outcome::Success(response)),
-        Ok(Said::Error(status)) => Step::Done(Outcome::Error(status)),
         Ok(Said::Forward(status)) => Step::Done(Outcome::Forward((body, status))),
-        Ok(Said::Fault) => Step::Fault,
-        Err(_) => Step::Starved,
+        said => {
+            drop(body);
+            spent(said)
+        }
     }
 }
 
@@ -173,6 +173,26 @@ fn spent(said: Result<Said, NoMemory>) -> Step<RouteOutcome<Site>>
     }
 }
 
+fn acted(
+    alloc: Global,
+    act: Act,
+    request: &Request<'_, Site>,
+    body: Body0<Site>,
+    ctx: &mut Ctx<Site>,
+) -> Step<RouteOutcome<Site>>
+    ensures ends { Ends ⟦<Site as HasBody>⟧.whole body result }
+    ensures grows { MayGrow ctx.old ctx.new }
+{
+    match act {
+        Act::Echoes => spent(echoed(alloc, request, body, ctx)),
+        Act::Peeks(code) => {
+            let body = peeked(body, ctx.gate());
+            Step::Done(Outcome::Forward((body, Status::new(code))))
+        }
+        act => reply(does(alloc, act, request, ctx), body),
+    }
+}
+
 fn replied(
     alloc: Global,
     page: Page,
@@ -183,16 +203,12 @@ fn replied(
     ensures ends { Ends ⟦<Site as HasBody>⟧.whole body result }
     ensures grows { MayGrow ctx.old ctx.new }
 {
-    if mark(alloc, page.mark(), ctx).is_err() {
-        return Step::Starved;
-    }
-    match page.last() {
-        Act::Echoes => spent(echoed(alloc, request, body, ctx)),
-        Act::Peeks(code) => reply(
-            Ok(Said::Forward(Status::new(code))),
-            peeked(body, ctx.gate()),
-        ),
-        act => reply(does(alloc, act, request, ctx), body),
+    match mark(alloc, page.mark(), ctx) {
+        Ok(()) => acted(alloc, page.last(), request, body, ctx),
+        Err(_) => {
+            drop(body);
+            Step::Starved
+        }
     }
 }
 

@@ -185,16 +185,14 @@ fn push_finished(
 pub fn push_ended(
     alloc: Global,
     polls: u64,
-    ended: Ended<Site>,
+    ended: &mut Ended<Site>,
     when: When,
     out: &mut String,
 ) -> Result<(), CaseError> {
     match ended {
-        EndedOf::Finished {
-            run,
-            mut response,
-            ..
-        } => written(push_finished(alloc, polls, &run, &mut response, when, out)),
+        EndedOf::Finished { run, response, .. } => {
+            written(push_finished(alloc, polls, run, response, when, out))
+        }
         EndedOf::Starved { .. } => Err(CaseError::NoMemory),
     }
 }

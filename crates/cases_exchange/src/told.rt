@@ -1,11 +1,13 @@
 //! What the application has, and how it is set.
 use crate::app::Site;
 use crate::changer::{Changer, read_fairings};
+use crate::page::Page;
 use cases::{CaseError, pair, parsed, written};
 use rkt_base::{NoMemory, Want};
 use rkt_fairing::{Callback, Fairings};
 use rkt_lifecycle::Tables;
 use rkt_request::{Config, ConfigTable};
+use rkt_router::{Catcher, Route};
 use std::alloc::Global;
 
 /// Sets an entry. The empty text, which stands for no entry at all, sets none.
@@ -28,11 +30,18 @@ fn config_of(alloc: Global, table: &ConfigTable) -> Result<Config, CaseError> {
     Ok(Config::from_table(alloc, table)?)
 }
 
+/// The configuration of an empty table with the entries of `NAME=TEXT; ..`.
+fn config_from(alloc: Global, table: &mut ConfigTable, text: &str) -> Result<Config, CaseError> {
+    set_entries(table, text)?;
+    config_of(alloc, table)
+}
+
 /// The configuration of `NAME=TEXT; ..`.
 fn read_config(alloc: Global, text: &str) -> Result<Config, CaseError> {
     let mut table = ConfigTable::new(alloc);
-    set_entries(&mut table, text)?;
-    config_of(alloc, &table)
+    let config = config_from(alloc, &mut table, text);
+    drop(table);
+    config
 }
 
 /// Sets the configuration of `NAME=TEXT; ..`.
@@ -64,24 +73,32 @@ pub fn set_fairings(
     written(push_counts(&tables.fairings, out))
 }
 
+fn push_route_of(route: &Route<Page, u8>, out: &mut String) -> Result<(), NoMemory> {
+    write!(out, "{} {}", route.method.as_str(), route.uri)?;
+    write!(out, " rank={} {:?}", route.rank, route.handler)
+}
+
 /// Adds the route at a position.
 pub fn push_route(tables: &Tables<Site>, text: &str, out: &mut String) -> Result<(), CaseError> {
     let position = parsed::<usize>(text)?;
-    let Some(route) = tables.router.routes().get(position) else {
-        return Err(CaseError::Line);
-    };
-    let (method, uri, rank) = (route.method.as_str(), &route.uri, route.rank);
-    Ok(write!(out, "{method} {uri} rank={rank} {:?}", route.handler)?)
+    match tables.router.routes().get(position) {
+        Some(route) => written(push_route_of(route, out)),
+        None => Err(CaseError::Line),
+    }
+}
+
+fn push_catcher_of(catcher: &Catcher<Page>, out: &mut String) -> Result<(), NoMemory> {
+    write!(out, "{} code={:?}", catcher.base.as_str(), catcher.code)?;
+    write!(out, " {:?}", catcher.handler)
 }
 
 /// Adds the catcher at a position.
 pub fn push_catcher(tables: &Tables<Site>, text: &str, out: &mut String) -> Result<(), CaseError> {
     let position = parsed::<usize>(text)?;
-    let Some(catcher) = tables.router.catchers().get(position) else {
-        return Err(CaseError::Line);
-    };
-    let (base, code) = (catcher.base.as_str(), catcher.code);
-    Ok(write!(out, "{base} code={code:?} {:?}", catcher.handler)?)
+    match tables.router.catchers().get(position) {
+        Some(catcher) => written(push_catcher_of(catcher, out)),
+        None => Err(CaseError::Line),
+    }
 }
 
 /// Adds whether the tables are taken.

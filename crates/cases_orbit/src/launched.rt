@@ -28,9 +28,9 @@ fn listener(alloc: Global) -> Result<ListListener, NoMemory>
         headers: Seq::new(alloc),
         remote: None,
     };
-    let link = MemoryLink::new(alloc, head, Vec::new(alloc))?;
+    let link = MemoryLink::new(alloc, head, Vec::new(alloc), Vec::new(alloc))?;
     let links = vec![in alloc; link]?;
-    ListListener::new(alloc, links, Vec::new(alloc))
+    ListListener::new(alloc, links, Vec::new(alloc), Vec::new(alloc))
 }
 
 fn launched<R: Wait + Threads>(

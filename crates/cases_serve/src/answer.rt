@@ -6,7 +6,7 @@ use crate::launch::launch;
 use crate::order::order;
 use crate::pieces::send_case;
 use crate::polls::{clock, polls};
-use crate::setting::{Setting, set_header, set_routes};
+use crate::setting::{Setting, set_faults, set_header, set_routes};
 use crate::sourced::sourced;
 use crate::words::first_word;
 use std::alloc::Global;
@@ -21,6 +21,7 @@ fn set(
 ) -> Result<String, CaseError> {
     match command {
         "routes" => set_routes(alloc, setting, rest)?,
+        "faults" => set_faults(alloc, setting, rest)?,
         _ => set_header(alloc, setting, rest)?,
     }
     Ok(String::from_str(alloc, "set")?)
@@ -64,7 +65,7 @@ pub fn answer<R: Wait + Threads>(
 ) -> Result<String, CaseError> {
     let (command, rest) = first_word(line);
     match command {
-        "routes" | "header" => set(alloc, setting, command, rest),
+        "routes" | "header" | "faults" => set(alloc, setting, command, rest),
         "launch" | "order" | "alarm" | "ignite" | "told" => launching(
             rt, alloc, setting, command, rest,
         ),

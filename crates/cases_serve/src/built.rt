@@ -108,7 +108,14 @@ fn listener_back(kind: ErrorKind<Site, ListListener, ListClock>) -> Option<ListL
             listener,
             clock: _clock,
         } => Some(listener),
-        ErrorKindOf::NoMemory { kept: _kept } => None,
+        ErrorKindOf::Shutdown(launched) => {
+            drop(launched);
+            None
+        }
+        ErrorKindOf::NoMemory { kept } => {
+            drop(kept);
+            None
+        }
     }
 }
 

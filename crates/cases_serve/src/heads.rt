@@ -52,7 +52,8 @@ pub fn link_with(
 {
     let head = head_of(alloc, setting, text)?;
     let bytes = body.as_bytes().to_vec(alloc)?;
-    MemoryLink::new(alloc, head, bytes)
+    let fails = setting.sends.clone()?;
+    MemoryLink::new(alloc, head, bytes, fails)
 }
 
 fn links_of(alloc: Global, setting: &Setting, text: &str) -> Result<Vec<MemoryLink>, NoMemory>
@@ -78,5 +79,6 @@ pub fn listener_of(
     ensures { IfOk result (λ listener. IsFresh (listener_meaning listener)) }
 {
     let links = links_of(alloc, setting, text)?;
-    ListListener::new(alloc, links, pends)
+    let fails = setting.polls.clone()?;
+    ListListener::new(alloc, links, pends, fails)
 }

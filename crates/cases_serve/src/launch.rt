@@ -11,8 +11,8 @@ use crate::pieces::ended;
 use crate::setting::Setting;
 use crate::words::{first_word, number, numbers};
 use rkt_serve::{
-    Clock, Entry, Error, EventOf, History, Launch, Launched, ListClock, ListListener, Listener,
-    MemoryLink,
+    Clock, Entry, Error, ErrorKindOf, EventOf, History, Launch, Launched, ListClock, ListListener,
+    Listener, MemoryLink,
 };
 use std::alloc::{AllocError, Global};
 use std::sync::Wait;
@@ -76,12 +76,21 @@ pub fn history_text(
     Ok(text)
 }
 
-/// Want of memory, which is the one error of a rocket that has ignited.
+/// Want of memory, which is what is left of the errors of a rocket that has ignited.
 pub fn refused<L: Listener, C: Clock>(error: Error<Site, L, C>) -> CaseError {
     let _text = error.pretty_print();
     CaseError::NoMemory
 }
 
+/// A launch whose listener failed.
+fn failed(error: Error<Site, ListListener, ListClock>) -> Result<(Over, bool), CaseError> {
+    match error.kind() {
+        ErrorKindOf::Shutdown(over) => Ok((over, true)),
+        _ => Err(CaseError::NoMemory),
+    }
+}
+
+/// What a launch leaves, and whether its listener failed.
 fn launched<R: Wait + Threads>(
     rt: &R,
     alloc: Global,
@@ -89,14 +98,22 @@ fn launched<R: Wait + Threads>(
     workers: u64,
     clock: ListClock,
     listener: ListListener,
-) -> Result<Over, CaseError>
+) -> Result<(Over, bool), CaseError>
     requires { IsFresh (listener_meaning listener) }
 {
     let rocket = rocket(alloc, setting.routes.as_slice())?;
     match rocket.launch(rt, alloc, listener, clock, workers as usize) {
-        Ok(launched) => Ok(launched),
-        Err(error) => Err(refused(error)),
+        Ok(over) => Ok((over, false)),
+        Err(error) => failed(error),
     }
+}
+
+fn over_text(alloc: Global, over: &Over, failed: bool) -> Result<String, AllocError> {
+    let text = history_text(alloc, &over.history)?;
+    if failed {
+        return format!(in alloc; "shutdown failed; {text}");
+    }
+    Ok(text)
 }
 
 /// The listener of `POLLS LINK | LINK ..`.
@@ -120,6 +137,8 @@ pub fn launch<R: Wait + Threads>(
     let workers = number(workers)?;
     let clock = ListClock::new(numbers(alloc, moments)?);
     let listener = listener(alloc, setting, rest)?;
-    let launched = launched(rt, alloc, setting, workers, clock, listener)?;
-    Ok(history_text(alloc, &launched.history)?)
+    let (over, failed) = launched(rt, alloc, setting, workers, clock, listener)?;
+    let text = over_text(alloc, &over, failed);
+    drop(over);
+    Ok(text?)
 }

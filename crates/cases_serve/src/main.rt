@@ -6,6 +6,7 @@
 //!                                          text; one that says `stop` notifies the wire, and one that says `wait` is
 //!                                          Pending once
 //!     header NAME: VALUE                   from here on every request has this header; without one, it has none
+//!     faults SENDS POLLS                   from here on these sends of each link fail, and these polls of a listener (from 0)
 //!     exchange MOMENT METHOD TARGET        one exchange at this moment: the status, the content type, the size of the
 //!                                          body, the calls, the cookies that came, the cached values and the moment
 //!     parted                               how many routes a rocket has that was taken apart and put together, and
@@ -13,7 +14,8 @@
 //!     launch WORKERS MOMENTS POLLS LINK | LINK ..
 //!                                          a launch: the clock tells these moments, these polls of the listener (from
 //!                                          0) are Pending, and each link asks METHOD TARGET. How many events there
-//!                                          are, each entry, and the moment of the close
+//!                                          are, each entry, and the moment of the close; in front, what is said of
+//!                                          it where the listener failed
 //!     order POLLS LINK | LINK ..           the events of such a launch, in order, and those of a second launch of the rocket that
 //!                                          comes back, over the same links
 //!     alarm MOMENT MOMENTS POLLS LINK | LINK ..
@@ -31,7 +33,7 @@
 //!     send TURNS CHUNK READS TEXT          a response with the header above and a streamed body, which gives chunks
 //!                                          and fails at these reads (from 0), is sent: how that ends, and the pieces
 //!
-//! MOMENTS, POLLS and READS are numbers parted by commas, SETTINGS are NAME=TEXT parted by commas, or `-` for none. In a value, `\n` is a line feed.
+//! MOMENTS, SENDS, POLLS and READS are numbers parted by commas, SETTINGS are NAME=TEXT parted by commas, or `-` for none. In a value, `\n` is a line feed.
 #![tactic(auto)]
 
 mod alarm;

@@ -11,6 +11,7 @@ fn polled(listener: &mut ListListener) -> &'static str {
     match listener.poll_accept() {
         Poll::Ready(Accepted::Given(_)) => "given",
         Poll::Ready(Accepted::End) => "end",
+        Poll::Ready(Accepted::Fault) => "fault",
         Poll::Pending => "pending",
     }
 }

@@ -1,6 +1,6 @@
 //! What earlier lines have said.
 use crate::error::CaseError;
-use crate::words::unescaped;
+use crate::words::{first_word, numbers, unescaped};
 use std::alloc::{AllocError, Global};
 
 /// A route's path and what it says, or a header's name and value.
@@ -10,11 +10,13 @@ pub struct Pair {
     pub right: String,
 }
 
-/// The routes of the application, and the header of every request.
+/// The routes of the application, the header of every request, and which sends of a link and which polls of a listener fail.
 #[derive(Drop)]
 pub struct Setting {
     pub routes: Vec<Pair>,
     pub header: Option<Pair>,
+    pub sends: Vec<u64>,
+    pub polls: Vec<u64>,
 }
 
 impl Setting {
@@ -22,6 +24,8 @@ impl Setting {
         Setting {
             routes: Vec::new(alloc),
             header: None,
+            sends: Vec::new(alloc),
+            polls: Vec::new(alloc),
         }
     }
 }
@@ -65,5 +69,13 @@ pub fn set_header(alloc: Global, setting: &mut Setting, text: &str) -> Result<()
     if !text.is_empty() {
         setting.header = Some(split_pair(alloc, text, ": ")?);
     }
+    Ok(())
+}
+
+/// Sets the faults of `SENDS POLLS`.
+pub fn set_faults(alloc: Global, setting: &mut Setting, text: &str) -> Result<(), CaseError> {
+    let (sends, polls) = first_word(text);
+    setting.sends = numbers(alloc, sends)?;
+    setting.polls = numbers(alloc, polls)?;
     Ok(())
 }

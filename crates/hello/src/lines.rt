@@ -39,7 +39,8 @@ fn launched<R: Wait + Threads>(
     rocket: Rocket<Ignite, Site>,
     links: Links,
 ) -> Result<Over, NoMemory> {
-    let listener = ListListener::new(alloc, links.into_vec(), Vec::new(alloc))?;
+    let links = links.into_vec();
+    let listener = ListListener::new(alloc, links, Vec::new(alloc), Vec::new(alloc))?;
     let clock = ListClock::new(Vec::new(alloc));
     match rocket.launch(rt, alloc, listener, clock, 0) {
         Ok(over) => Ok(over),

@@ -8,12 +8,12 @@ use Rattle.rkt_turn.specs.Shutdown.{Handle}
 use Rattle.rkt_link.specs.Asked.{Asked}
 use Rattle.rkt_link.specs.Clock.{ClockMeaning, IsWithin, TellsOn}
 use Rattle.rkt_link.specs.Link.{LinkMeaning}
-use Rattle.rkt_link.specs.Listener.{ListenerMeaning, GivesMore, Settled}
+use Rattle.rkt_link.specs.Listener.{ListenerMeaning, Faulted, GivesMore, Settled}
 use Rattle.rkt_board.proofs.Core.{worded}
 use Rattle.rkt_board.proofs.Counting.{is_not}
 use Rattle.rkt_board.proofs.Pushes.{any_push, count_push, all_push, after_push, map_push, latest_push, word_old}
 use Rattle.rkt_board.specs.After.{AfterFrom}
-use Rattle.rkt_board.specs.Board.{Told, TimedIn, Holds}
+use Rattle.rkt_board.specs.Board.{Told, SoundAs, TimedIn, Holds}
 use Rattle.rkt_board.specs.Events.{is_trip, is_admit, moment_of, latest, admitted, trip_word, InOrder, Ordered}
 use Rattle.rkt_board.specs.Marks.{events, asked_by, carried, carries, IsOwn, AsksAt, Legal}
 use Rattle.rkt_board.specs.Turns.{admit_mark}
@@ -28,6 +28,16 @@ told_more : (first old new : Option (List Asked)) (asks : List (Option Asked)) (
 told_more None old new asks ask t gives = subst (λ (o : Option (List Asked)). GivesMore o ask new) t gives
 told_more (Some g) old new asks ask t gives = let more = t.0 in let h : GivesMore (Some (g ++ more)) ask new = subst (λ (o : Option (List Asked)). GivesMore o ask new) t.1 gives in
     (more ++ h.0 ∷ [], h.2 ∙ ap Some (append_assoc g more (h.0 ∷ [])), map_push (λ a. Some a) more h.0 ∙ ap (λ l. l ++ Some h.0 ∷ []) t.2 ∙ ap (λ a. asks ++ a ∷ []) (sym h.1))
+
+-- a count that stands as it stood
+pub sound_same : (faulted : Bool) (first old new : ListenerMeaning) → SoundAs faulted first old → new.faults ≡ old.faults → SoundAs faulted first new
+sound_same true first old new sound same = (rw same sound.0, sound.1)
+sound_same false first old new sound same = same ∙ sound
+
+-- a listener that had not failed, and then fails
+pub sound_fault : (faulted : Bool) (first old new : ListenerMeaning) → SoundAs faulted first old → faulted ≡ false → Settled first old → Faulted old new → SoundAs true first new
+sound_fault true first old new sound none settled fault = absurd (cc none)
+sound_fault false first old new sound none settled fault = (rw (sym sound) fault.0, sym settled.never_faults ∙ fault.1)
 
 -- nothing was given yet
 pub told_none : (first : Option (List Asked)) → Told first first []
@@ -119,6 +129,7 @@ module _ {C S K P L Q : Type 0} (links : K → LinkMeaning) (listeners : L → L
         still = λ p. ((h.still p).0, same ∙ (h.still p).1);
         told = subst (Told (listeners name.listener.value).given (listeners near.listener).given) (sym (carries_other links ms m other)) h.told;
         settled = h.settled;
+        sound = h.sound;
         ended = h.ended;
         offers = h.offers;
         clock = h.clock;
@@ -143,9 +154,9 @@ module _ {C S K P L Q : Type 0} (links : K → LinkMeaning) (listeners : L → L
   pub holds_admit : (name : Name P L Q Handle) (near : Near L Q Handle) (listener : L) (ms : List (MarkOf C S K)) (by number moment : ℕ) (copy : Snapshot K) → Holds links listeners clocks name near ms → Ordered (events ms)
       → near.handle.seen ≡ 0 → name.handle.value.looked + admitted (events ms) < near.handle.looked → near.over ≡ false
       → moment ≤ (clocks near.clock).last → IsWithin (clocks name.clock.value).window moment
-      → GivesMore (listeners near.listener).given (links copy.value).asked (listeners listener).given → Settled (listeners near.listener) (listeners listener)
-      → Holds links listeners clocks name (record { listener = listener; clock = near.clock; handle = near.handle; over = near.over }) (ms ++ admit_mark by number moment copy ∷ [])
-  holds_admit name near listener ms by number moment copy h ordered unseen looked ongoing late within gives settled =
+      → GivesMore (listeners near.listener).given (links copy.value).asked (listeners listener).given → Settled (listeners near.listener) (listeners listener) → (listeners listener).faults ≡ (listeners near.listener).faults
+      → Holds links listeners clocks name (record { listener = listener; clock = near.clock; handle = near.handle; over = near.over; faulted = near.faulted }) (ms ++ admit_mark by number moment copy ∷ [])
+  holds_admit name near listener ms by number moment copy h ordered unseen looked ongoing late within gives settled same =
       let es = events ms in
       let e : EventOf C S K = Admit number moment by in
       let m : MarkOf C S K = admit_mark by number moment copy in
@@ -159,7 +170,8 @@ module _ {C S K P L Q : Type 0} (links : K → LinkMeaning) (listeners : L → L
         still = λ p. absurd (omega (arith, p, (h.still p).0, unseen));
         told = subst (Told (listeners name.listener.value).given (listeners listener).given) (sym (carries_admit links ms m refl))
             (told_more (listeners name.listener.value).given (listeners near.listener).given (listeners listener).given (carries links ms) (links copy.value).asked h.told gives);
-        settled = record { offers = settled.offers ∙ h.settled.offers; faults = settled.faults ∙ h.settled.faults; never_faults = settled.never_faults ∙ h.settled.never_faults };
+        settled = record { offers = settled.offers ∙ h.settled.offers; never_faults = settled.never_faults ∙ h.settled.never_faults };
+        sound = sound_same near.faulted (listeners name.listener.value) (listeners near.listener) (listeners listener) h.sound same;
         ended = λ o. absurd (cc (o, ongoing));
         offers = λ o. absurd (cc (o, ongoing));
         clock = h.clock;
@@ -169,7 +181,7 @@ module _ {C S K P L Q : Type 0} (links : K → LinkMeaning) (listeners : L → L
 
   -- the clock is read
   pub holds_clock : (name : Name P L Q Handle) (near : Near L Q Handle) (clock : Q) (ms : List (MarkOf C S K)) → Holds links listeners clocks name near ms → TellsOn (clocks near.clock) (clocks clock)
-      → Holds links listeners clocks name (record { listener = near.listener; clock = clock; handle = near.handle; over = near.over }) ms
+      → Holds links listeners clocks name (record { listener = near.listener; clock = clock; handle = near.handle; over = near.over; faulted = near.faulted }) ms
   holds_clock name near clock ms h on = record {
     wire = h.wire;
     word = h.word;
@@ -177,6 +189,7 @@ module _ {C S K P L Q : Type 0} (links : K → LinkMeaning) (listeners : L → L
     still = h.still;
     told = h.told;
     settled = h.settled;
+    sound = h.sound;
     ended = h.ended;
     offers = h.offers;
     clock = tells_on (clocks name.clock.value) (clocks near.clock) (clocks clock) h.clock on;
@@ -185,17 +198,18 @@ module _ {C S K P L Q : Type 0} (links : K → LinkMeaning) (listeners : L → L
   }
 
   -- the listener is polled, and gives nothing
-  pub holds_listener : (name : Name P L Q Handle) (near : Near L Q Handle) (listener : L) (over : Bool) (ms : List (MarkOf C S K)) → Holds links listeners clocks name near ms
-      → (listeners listener).given ≡ (listeners near.listener).given → Settled (listeners near.listener) (listeners listener)
+  pub holds_listener : (name : Name P L Q Handle) (near : Near L Q Handle) (listener : L) (over faulted : Bool) (ms : List (MarkOf C S K)) → Holds links listeners clocks name near ms
+      → (listeners listener).given ≡ (listeners near.listener).given → Settled (listeners near.listener) (listeners listener) → SoundAs faulted (listeners name.listener.value) (listeners listener)
       → (over ≡ true → ((listeners listener).ended ≡ true) × ForSome (listeners near.listener).offers (λ all. (listeners near.listener).given ≡ Some all))
-      → Holds links listeners clocks name (record { listener = listener; clock = near.clock; handle = near.handle; over = over }) ms
-  holds_listener name near listener over ms h same settled ends = record {
+      → Holds links listeners clocks name (record { listener = listener; clock = near.clock; handle = near.handle; over = over; faulted = faulted }) ms
+  holds_listener name near listener over faulted ms h same settled sound ends = record {
     wire = h.wire;
     word = h.word;
     looked = h.looked;
     still = h.still;
     told = subst (λ (given : Option (List Asked)). Told (listeners name.listener.value).given given (carries links ms)) (sym same) h.told;
-    settled = record { offers = settled.offers ∙ h.settled.offers; faults = settled.faults ∙ h.settled.faults; never_faults = settled.never_faults ∙ h.settled.never_faults };
+    settled = record { offers = settled.offers ∙ h.settled.offers; never_faults = settled.never_faults ∙ h.settled.never_faults };
+    sound = sound;
     ended = λ o. (ends o).0;
     offers = λ o all is. same ∙ (ends o).1 all (h.settled.offers ∙ is);
     clock = h.clock;
@@ -206,7 +220,7 @@ module _ {C S K P L Q : Type 0} (links : K → LinkMeaning) (listeners : L → L
   -- the handle is another one, of the same wire, that has looked no less; a word that was seen stays
   pub holds_handle : (name : Name P L Q Handle) (near : Near L Q Handle) (handle : Handle) (ms : List (MarkOf C S K)) → Holds links listeners clocks name near ms → Ordered (events ms)
       → handle.wire ≡ near.handle.wire → near.handle.looked ≤ handle.looked → (0 < near.handle.seen → handle.seen ≡ near.handle.seen)
-      → Holds links listeners clocks name (record { listener = near.listener; clock = near.clock; handle = handle; over = near.over }) ms
+      → Holds links listeners clocks name (record { listener = near.listener; clock = near.clock; handle = handle; over = near.over; faulted = near.faulted }) ms
   holds_handle name near handle ms h ordered wire looked again = record {
     wire = wire ∙ h.wire;
     word = λ t. let x : ℕ = trip_word (events ms) in let p : 0 < x = worded (events ms) ordered t in let q : near.handle.seen ≡ x = h.word t in again (omega (arith, p, q)) ∙ q;
@@ -214,6 +228,7 @@ module _ {C S K P L Q : Type 0} (links : K → LinkMeaning) (listeners : L → L
     still = λ p. let q = h.still p in (again (omega (arith, p, q.0)) ∙ q.0, q.1);
     told = h.told;
     settled = h.settled;
+    sound = h.sound;
     ended = h.ended;
     offers = h.offers;
     clock = h.clock;

@@ -15,7 +15,7 @@ use Rattle.rkt_board.proofs.Core.{any_by}
 use Rattle.rkt_board.proofs.Counting.{or_false, length_events, unclosed_yet, counts_push, counts_end, counts_admit, fresh_number, opens_some, none_open, open_none}
 use Rattle.rkt_board.proofs.Holding.{told_none, holds_push, holds_admit, holds_clock, holds_handle, holds_listener, seen_before, untripped, legal_push, carries_admit, length-carries}
 use Rattle.rkt_board.proofs.Pushes.{any_push, map_push, word_old, word_new, get_last, lift_push}
-use Rattle.rkt_board.specs.Board.{left, TimedIn, Holds, Counts, BookOf, Counted, IsBlank, SameBook, BoardAs, Keeps}
+use Rattle.rkt_board.specs.Board.{left, TimedIn, SoundAs, Holds, Counts, BookOf, Counted, IsBlank, SameBook, BoardAs, Keeps}
 use Rattle.rkt_board.specs.Events.{is_trip, is_admit, is_down, is_close, moment_of, latest, lift_calls, admits_by, admits_until, admitted, ends, trip_word, InOrder}
 use Rattle.rkt_board.specs.Marks.{events, carries, IsOwn, AsksAt, Legal}
 use Rattle.rkt_board.specs.Turns.{mark, admit_mark, IsOpen, IsGiven, IsRunOf, MayClose}
@@ -34,11 +34,11 @@ with_book s book = record { name = s.name; book = book; near = s.near }
 
 -- the board at a later moment
 abbrev pub with_clock : {C S K P L Q : Type 0} → BoardAs C S K P L Q → Q → BoardAs C S K P L Q
-with_clock s clock = record { name = s.name; book = s.book; near = record { listener = s.near.listener; clock = clock; handle = s.near.handle; over = s.near.over } }
+with_clock s clock = record { name = s.name; book = s.book; near = record { listener = s.near.listener; clock = clock; handle = s.near.handle; over = s.near.over; faulted = s.near.faulted } }
 
 -- the board with another handle
 abbrev pub with_handle : {C S K P L Q : Type 0} → BoardAs C S K P L Q → Handle → BoardAs C S K P L Q
-with_handle s handle = record { name = s.name; book = s.book; near = record { listener = s.near.listener; clock = s.near.clock; handle = handle; over = s.near.over } }
+with_handle s handle = record { name = s.name; book = s.book; near = record { listener = s.near.listener; clock = s.near.clock; handle = handle; over = s.near.over; faulted = s.near.faulted } }
 
 pub no_less : (seen old new : ℕ) → (0 < seen → new ≡ old) → (seen ≡ 0 → new ≡ old + 1) → old ≤ new
 no_less zero old new again load = omega (arith, load refl)
@@ -71,9 +71,9 @@ module _ {C S K P L Q : Type 0} (links : K → LinkMeaning) (listeners : L → L
   -- the first event
   pub keeps_lift : (s : BoardAs C S K P L Q) (b : BookOf C S K) (by : ℕ) (calls : _) → IsBlank b → s.book.history ≡ b.history → s.book.admitted ≡ b.admitted → s.book.opens ≡ b.opens
       → s.book.tripped ≡ b.tripped → s.book.down ≡ b.down → s.book.closed ≡ b.closed → s.book.marks.items ≡ mark by (Lift calls) ∷ [] → vec_capacity b.marks ≤ vec_capacity s.book.marks
-      → s.near.listener ≡ s.name.listener.value → s.near.clock ≡ s.name.clock.value → s.near.handle ≡ s.name.handle.value → s.near.over ≡ false → s.name.calls.value ≡ calls
+      → s.near.listener ≡ s.name.listener.value → s.near.clock ≡ s.name.clock.value → s.near.handle ≡ s.name.handle.value → s.near.over ≡ false → s.near.faulted ≡ false → s.name.calls.value ≡ calls
       → cause s.name.served.now (clocks s.name.clock.value).window [] (Lift calls) → Keeps links listeners clocks cause s
-  keeps_lift s b by calls blank history gave opens trip down closed items grows listener clock handle over called caused =
+  keeps_lift s b by calls blank history gave opens trip down closed items grows listener clock handle over faulted called caused =
       let ms = s.book.marks.items in
       let one : length ms ≡ 1 = ap length items in
       let es : events ms ≡ Lift calls ∷ [] = ap (λ ms. events ms) items in
@@ -89,7 +89,8 @@ module _ {C S K P L Q : Type 0} (links : K → LinkMeaning) (listeners : L → L
           looked = let x : ℕ = s.name.handle.value.looked in let y : ℕ = s.near.handle.looked in let q : y ≡ x = ap (λ h. h.looked) handle in let a : ℕ = admitted (events ms) in let z : a ≡ 0 = ap admitted es in let g : x + a ≤ y = omega (arith, q, z) in g;
           still = λ p. (ap (λ h. h.seen) handle, ap admitted es);
           told = rw (listener, items) (told_none (listeners s.name.listener.value).given);
-          settled = rw listener record { offers = refl; faults = refl; never_faults = refl };
+          settled = rw listener record { offers = refl; never_faults = refl };
+          sound = rw (faulted, listener) refl;
           ended = λ t. absurd (cc (t, over));
           offers = λ t. absurd (cc (t, over));
           clock = rw clock record { rises = omega arith; window = refl };
@@ -232,7 +233,7 @@ module _ {C S K P L Q : Type 0} (links : K → LinkMeaning) (listeners : L → L
   with_admit s v listener next = record {
     name = s.name;
     book = record { marks = v; history = s.book.history; admitted = next; opens = s.book.opens + 1; tripped = s.book.tripped; down = s.book.down; closed = s.book.closed };
-    near = record { listener = listener; clock = s.near.clock; handle = s.near.handle; over = s.near.over };
+    near = record { listener = listener; clock = s.near.clock; handle = s.near.handle; over = s.near.over; faulted = s.near.faulted };
   }
 
   at_most : (t : Bool) → cond t 0 1 ≤ 1
@@ -253,9 +254,9 @@ module _ {C S K P L Q : Type 0} (links : K → LinkMeaning) (listeners : L → L
       → s.near.handle.seen ≡ 0 → s.name.handle.value.looked + admitted (events s.book.marks.items) < s.near.handle.looked → s.book.closed ≡ false → s.near.over ≡ false
       → cause s.name.served.now (clocks s.name.clock.value).window (events s.book.marks.items) (Admit s.book.admitted moment by)
       → moment ≡ (clocks s.near.clock).last → IsWithin (clocks s.name.clock.value).window moment
-      → GivesMore (listeners s.near.listener).given (links copy.value).asked (listeners listener).given → Settled (listeners s.near.listener) (listeners listener)
+      → GivesMore (listeners s.near.listener).given (links copy.value).asked (listeners listener).given → Settled (listeners s.near.listener) (listeners listener) → (listeners listener).faults ≡ (listeners s.near.listener).faults
       → Keeps links listeners clocks cause (with_admit s v listener next)
-  keeps_admit s v listener next by moment copy k items room history_room step unseen looked unclosed ongoing caused now within gives settled =
+  keeps_admit s v listener next by moment copy k items room history_room step unseen looked unclosed ongoing caused now within gives settled same =
       let es = events s.book.marks.items in
       let e : EventOf C S K = Admit s.book.admitted moment by in
       let m : MarkOf C S K = admit_mark by s.book.admitted moment copy in
@@ -265,8 +266,8 @@ module _ {C S K P L Q : Type 0} (links : K → LinkMeaning) (listeners : L → L
       record {
         begun = let x : ℕ = length v.items in let y : x ≡ length s.book.marks.items + 1 = more in let g : 0 < x = omega (arith, y) in g;
         lifted = lifted_push s v m k items;
-        holds = subst (Holds links listeners clocks s.name (record { listener = listener; clock = s.near.clock; handle = s.near.handle; over = s.near.over })) (sym items)
-            (holds_admit links listeners clocks s.name s.near listener s.book.marks.items by s.book.admitted moment copy k.holds k.legal.ordered unseen looked ongoing late within gives settled);
+        holds = subst (Holds links listeners clocks s.name (record { listener = listener; clock = s.near.clock; handle = s.near.handle; over = s.near.over; faulted = s.near.faulted })) (sym items)
+            (holds_admit links listeners clocks s.name s.near listener s.book.marks.items by s.book.admitted moment copy k.holds k.legal.ordered unseen looked ongoing late within gives settled same);
         counted = record {
           counts = subst (λ ms. Counts ms next (s.book.opens + 1) s.book.tripped s.book.down s.book.closed) (sym items)
               (counts_admit s.book.marks.items s.book.admitted s.book.opens next s.book.tripped s.book.down s.book.closed by moment copy k.counted.counts k.legal.ordered step);
@@ -310,11 +311,11 @@ module _ {C S K P L Q : Type 0} (links : K → LinkMeaning) (listeners : L → L
       }
 
   -- the listener was polled, and gave nothing
-  pub keeps_listener : (s : BoardAs C S K P L Q) (listener : L) (over : Bool) → Keeps links listeners clocks cause s → (listeners listener).given ≡ (listeners s.near.listener).given
-      → Settled (listeners s.near.listener) (listeners listener)
+  pub keeps_listener : (s : BoardAs C S K P L Q) (listener : L) (over faulted : Bool) → Keeps links listeners clocks cause s → (listeners listener).given ≡ (listeners s.near.listener).given
+      → Settled (listeners s.near.listener) (listeners listener) → SoundAs faulted (listeners s.name.listener.value) (listeners listener)
       → (over ≡ true → ((listeners listener).ended ≡ true) × ForSome (listeners s.near.listener).offers (λ all. (listeners s.near.listener).given ≡ Some all))
-      → Keeps links listeners clocks cause (record { name = s.name; book = s.book; near = record { listener = listener; clock = s.near.clock; handle = s.near.handle; over = over } })
-  keeps_listener s listener over k same settled ends = record { begun = k.begun; lifted = k.lifted; holds = holds_listener links listeners clocks s.name s.near listener over s.book.marks.items k.holds same settled ends; counted = k.counted; legal = k.legal }
+      → Keeps links listeners clocks cause (record { name = s.name; book = s.book; near = record { listener = listener; clock = s.near.clock; handle = s.near.handle; over = over; faulted = faulted } })
+  keeps_listener s listener over faulted k same settled sound ends = record { begun = k.begun; lifted = k.lifted; holds = holds_listener links listeners clocks s.name s.near listener over faulted s.book.marks.items k.holds same settled sound ends; counted = k.counted; legal = k.legal }
 
   -- a clock and a wire are looked at
   pub keeps_look : (s : BoardAs C S K P L Q) (clock : Q) (handle : Handle) → Keeps links listeners clocks cause s → TellsOn (clocks s.near.clock) (clocks clock) → handle.wire ≡ s.near.handle.wire

@@ -6,7 +6,7 @@ use Rattle.rkt_turn.specs.Shutdown.{Handle}
 use Rattle.rkt_link.specs.Asked.{Asked}
 use Rattle.rkt_link.specs.Clock.{ClockMeaning, IsWithin, TellsOn}
 use Rattle.rkt_link.specs.Link.{LinkMeaning}
-use Rattle.rkt_link.specs.Listener.{ListenerMeaning, Settled}
+use Rattle.rkt_link.specs.Listener.{ListenerMeaning, Faulted, Settled}
 use Rattle.rkt_board.specs.Events.{is_trip, is_down, is_close, admitted, ended_below, latest, lift_calls, trip_word}
 use Rattle.rkt_board.specs.Marks.{events, carries, Legal}
 use Rattle.rkt_board.specs.declared.board.Board.{Board}
@@ -21,6 +21,11 @@ use Rattle.rkt_board.specs.declared.mark.MarkOf.{MarkOf}
 abbrev pub Told : Option (List Asked) → Option (List Asked) → List (Option Asked) → Type 0
 Told None new asks = new ≡ None
 Told (Some old) new asks = (more : List Asked) × (new ≡ Some (old ++ more)) × (map (λ asked. Some asked) more ≡ asks)
+
+-- a listener that has failed since, or whose count stands as it was
+abbrev pub SoundAs : Bool → ListenerMeaning → ListenerMeaning → Type 0
+SoundAs true old new = Faulted old new
+SoundAs false old new = new.faults ≡ old.faults
 
 -- how many events can still come, but for Admits and their Ends: the Ends of those that are open, a Trip, a Down and a Close
 abbrev pub left : ℕ → Bool → Bool → Bool → ℕ
@@ -93,6 +98,7 @@ module _ {C S K P L Q : Type 0} (links : K → LinkMeaning) (listeners : L → L
     pub still : 0 < name.handle.value.seen → (near.handle.seen ≡ name.handle.value.seen) × (admitted (events marks) ≡ 0)
     pub told : Told (listeners name.listener.value).given (listeners near.listener).given (carries links marks)
     pub settled : Settled (listeners name.listener.value) (listeners near.listener)
+    pub sound : SoundAs near.faulted (listeners name.listener.value) (listeners near.listener)
     pub ended : near.over ≡ true → (listeners near.listener).ended ≡ true
     pub offers : near.over ≡ true → ForSome (listeners name.listener.value).offers (λ all. (listeners near.listener).given ≡ Some all)
     pub clock : TellsOn (clocks name.clock.value) (clocks near.clock)

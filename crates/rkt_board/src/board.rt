@@ -39,6 +39,8 @@ pub struct Near<L, C, H> {
     pub handle: H,
     /// The listener has ended.
     pub over: bool,
+    /// The listener has failed.
+    pub faulted: bool,
 }
 
 /// The state of a launch. It is generic in its parts, so that each of them by itself says whether it crosses threads.

@@ -6,7 +6,7 @@ ghost use Rattle.rkt_turn.specs.HandsBack.{HandsBack};
 ghost use Rattle.rkt_link.specs.Clock.{TellsOn};
 ghost use Rattle.rkt_link.specs.Listener.{Settled};
 ghost use Rattle.rkt_board.specs.After.{AfterFrom};
-ghost use Rattle.rkt_board.specs.Board.{Keeps, TimedIn};
+ghost use Rattle.rkt_board.specs.Board.{Keeps, SoundAs, TimedIn};
 ghost use Rattle.rkt_board.specs.Closed.{AllAdmitted, HasEntry};
 ghost use Rattle.rkt_board.specs.Events.{is_close, admitted, lift_calls, trip_of, Ordered, IsClosed, EachEndsOnce};
 ghost use Rattle.rkt_board.specs.Marks.{events};
@@ -25,6 +25,8 @@ pub struct ClosedOf<L, C, H, R> {
     pub handle: H,
     /// The listener has ended.
     pub over: bool,
+    /// The listener has failed.
+    pub faulted: bool,
     pub history: R,
 }
 
@@ -64,7 +66,7 @@ pub fn finish<'a, A: Types, P: Served<A, L::Link>, L: Listener, C: Clock>(
     requires fresh { ForSome (L.meaning board.name.listener.value).given (λ given. given ≡ []) }
     ensures history { result.history.events ≡ events board.entry.book.marks.items }
     ensures lifted { lift_calls result.history.events ≡ board.entry.name.calls.value }
-    ensures near { (result.listener ≡ board.entry.near.listener) × (result.clock ≡ board.entry.near.clock) × (result.handle ≡ board.entry.near.handle) × (result.over ≡ board.entry.near.over) }
+    ensures near { (result.listener ≡ board.entry.near.listener) × (result.clock ≡ board.entry.near.clock) × (result.handle ≡ board.entry.near.handle) × (result.over ≡ board.entry.near.over) × (result.faulted ≡ board.entry.near.faulted) }
     ensures ordered { Ordered result.history.events }
     ensures caused { AfterFrom (P.cause board.entry.name.served.now (C.meaning board.entry.name.clock.value).window) [] result.history.events }
     ensures closed { IsClosed result.history.events }
@@ -81,6 +83,7 @@ pub fn finish<'a, A: Types, P: Served<A, L::Link>, L: Listener, C: Clock>(
     ensures still { 0 < board.entry.name.handle.value.seen → admitted result.history.events ≡ 0 }
     ensures handle { HandsBack board.entry.name.handle.value result.handle }
     ensures settled { Settled (L.meaning board.entry.name.listener.value) (L.meaning result.listener) }
+    ensures sound { SoundAs result.faulted (L.meaning board.entry.name.listener.value) (L.meaning result.listener) }
     ensures ended { result.over ≡ true → (L.meaning result.listener).ended ≡ true }
     ensures offers { result.over ≡ true → ForSome (L.meaning board.entry.name.listener.value).offers (λ all. (L.meaning result.listener).given ≡ Some all) }
 {
@@ -95,12 +98,14 @@ pub fn finish<'a, A: Types, P: Served<A, L::Link>, L: Listener, C: Clock>(
         clock,
         handle,
         over,
+        faulted,
     } = near;
     ClosedOf {
         listener,
         clock,
         handle,
         over,
+        faulted,
         history: HistoryOf {
             events: Seq::from_vec(moved::<A, L::Link>(marks, history)),
         },

@@ -27,6 +27,8 @@ pub enum Failure {
 pub enum End {
     /// The link took the whole response.
     Answered,
+    /// The link failed before it had taken the whole response.
+    Lost,
     /// The response could not be sent, or not to its end.
     Failed(Failure),
     /// There was no memory for it.

@@ -68,6 +68,7 @@ pub fn lift<'a, A: Types, P: Served<A, L::Link>, L: Listener, C: Clock>(
         clock,
         handle,
         over: false,
+        faulted: false,
     };
     Board { name, book, near }
 }

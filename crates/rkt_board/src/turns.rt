@@ -18,7 +18,7 @@ use rkt_turn::Shutdown;
 use std::snapshot::Snapshot;
 
 /// A turn of a worker that has nothing open: it reads the clock, looks at the wire, and then polls the listener. Where the
-/// wire has a word it enters the Trip, once. Nothing is admitted where that has come, or the listener has ended.
+/// wire has a word it enters the Trip, once. Nothing is admitted where that has come, or the listener has ended or failed.
 pub fn turn<'a, A: Types, P: Served<A, L::Link>, L: Listener, C: Clock>(
     board: &mut BoardOf<'a, A, P, L, C>,
     by: u64,
@@ -101,7 +101,7 @@ fn admit<'a, A: Types, P: Served<A, L::Link>, L: Listener, C: Clock>(
     ensures same { (board.new.near.clock ≡ board.old.near.clock) × (board.new.near.handle ≡ board.old.near.handle) }
     ensures keeps { Keeps L.Link.meaning L.meaning C.meaning P.cause board.new }
 {
-    if board.book.closed || board.near.over {
+    if board.book.closed || board.near.over || board.near.faulted {
         return Turned::Stop;
     }
     let Some(next) = make_room(&mut board.book) else {
@@ -111,6 +111,10 @@ fn admit<'a, A: Types, P: Served<A, L::Link>, L: Listener, C: Clock>(
         Poll::Pending => Turned::Again,
         Poll::Ready(Accepted::End) => {
             board.near.over = true;
+            Turned::Stop
+        }
+        Poll::Ready(Accepted::Fault) => {
+            board.near.faulted = true;
             Turned::Stop
         }
         Poll::Ready(Accepted::Given(link)) => {

@@ -70,12 +70,20 @@ added_alike (Some cookie) kept other alike = record {
 }
 
 -- a word that is told is no cookie
-told_alike : {C : Type 0} (word : Option ℕ) (kept other : Kept C) → AddedAlike kept other → AddedAlike (with_word word kept) (with_word word other)
-told_alike None kept other alike = alike
-told_alike (Some word) kept other alike = record { log = alike.log; floor = alike.floor; adds = alike.adds }
+word_alike : {C : Type 0} (word : Option ℕ) (kept other : Kept C) → AddedAlike kept other → AddedAlike (with_word word kept) other
+word_alike None kept other alike = alike
+word_alike (Some word) kept other alike = record { log = alike.log; floor = alike.floor; adds = alike.adds }
 
-pub left_alike : {C : Type 0} (word : ℕ) (route : SampleRoute) (kept other : Kept C) → AddedAlike kept other → AddedAlike (left_by word route kept) (left_by word route other)
-left_alike word route kept other alike = told_alike (told_by word route) (with_added (added_by route) kept) (with_added (added_by route) other) (added_alike (added_by route) kept other alike)
+told_alike : {C : Type 0} (word word' : Option ℕ) (kept other : Kept C) → AddedAlike kept other → AddedAlike (with_word word kept) (with_word word' other)
+told_alike word None kept other alike = word_alike word kept other alike
+told_alike word (Some word') kept other alike =
+    let told : AddedAlike (with_word word kept) other = word_alike word kept other alike in
+    record { log = told.log; floor = told.floor; adds = told.adds }
+
+-- whatever word `/stop` tells
+pub left_alike : {C : Type 0} (word word' : ℕ) (route : SampleRoute) (kept other : Kept C) → AddedAlike kept other → AddedAlike (left_by word route kept) (left_by word' route other)
+left_alike word word' route kept other alike =
+    told_alike (told_by word route) (told_by word' route) (with_added (added_by route) kept) (with_added (added_by route) other) (added_alike (added_by route) kept other alike)
 
 pub settled_alike : {C : Type 0} (kept other : Kept C) → AddedAlike kept other → AddedAlike (settled kept) (settled other)
 settled_alike kept other alike = record { log = alike.log; floor = ap (λ (log : List Change). length log) alike.log; adds = alike.adds }

@@ -82,6 +82,12 @@ module _ {Task : Type 0} (calling : CallingAtIgnition SampleRoute SampleCatcher 
         made.accepted,
       )
 
+  -- and keeps the table
+  same_table : (rocket : Made) → IgnitesTo (IsIgnited calling key info May (sample_built table)) rocket → rocket.table ≡ table
+  same_table rocket (parts, ignited, same, told) =
+      let end : ignited.end ≡ start = passed ignited.calls ignited.end ignited.passes in
+      told ∙ ignited.made.table ∙ ap (λ (i : Igniting SampleRoute SampleCatcher (Unit {0}) ℕ NoFairing). i.building.table) end
+
   -- and it is refused for its table alone
   pub refused_sample : (error : IgniteError) → IsRefused calling key info May (sample_built table) error → ¬ (first_bad table ≡ None)
   refused_sample (IgniteLimit calls) (now, many) accepted = waits (subst (λ (i : Igniting SampleRoute SampleCatcher (Unit {0}) ℕ NoFairing). Waits i.attached) (still _ now many.ignites) many.waits)
@@ -104,6 +110,10 @@ module _ {Task : Type 0} (calling : CallingAtIgnition SampleRoute SampleCatcher 
   pub made_so : {E : Type 0} (b : Built) (made : Result Made E) → b ≡ sample_built table → IfOk made (λ rocket. IgnitesTo (IsIgnited calling key info May b) rocket) → IfOk made (λ rocket. IsSample table rocket.tables)
   made_so b (Ok rocket) same ignites = (ignited_sample rocket (subst (λ (x : Built). IgnitesTo (IsIgnited calling key info May x) rocket) same ignites)).0
   made_so b (Err error) same ignites = tt
+
+  pub table_so : {E : Type 0} (b : Built) (made : Result Made E) → b ≡ sample_built table → IfOk made (λ rocket. IgnitesTo (IsIgnited calling key info May b) rocket) → IfOk made (λ rocket. rocket.table ≡ table)
+  table_so b (Ok rocket) same ignites = same_table rocket (subst (λ (x : Built). IgnitesTo (IsIgnited calling key info May x) rocket) same ignites)
+  table_so b (Err error) same ignites = tt
 
   pub accepted_so : {E : Type 0} (b : Built) (made : Result Made E) → b ≡ sample_built table → IfOk made (λ rocket. IgnitesTo (IsIgnited calling key info May b) rocket) → OnOk made (IsAccepted table)
   accepted_so b (Ok rocket) same ignites = (ignited_sample rocket (subst (λ (x : Built). IgnitesTo (IsIgnited calling key info May x) rocket) same ignites)).1

@@ -3,6 +3,7 @@ pub mod Choices
 pub mod Cookies
 pub mod Cuts
 pub mod Headers
+pub mod Histories
 pub mod Igniting
 pub mod Lifted
 pub mod Lines
@@ -11,12 +12,14 @@ pub mod Mounting
 pub mod Offered
 pub mod Once
 pub mod Opened
+pub mod Places
 pub mod Requests
 pub mod RoutedOnce
 pub mod Runs
 pub mod SampleCalls
 pub mod SectionsOnce
-pub mod Serving
 pub mod Shielding
+pub mod Showing
+pub mod Stops
 pub mod StreamLemmas
 pub mod WordLemmas

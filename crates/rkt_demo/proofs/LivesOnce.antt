@@ -1,4 +1,4 @@
--- An exchange of the sample makes one response of one request, whatever the moments.
+-- An exchange of the sample makes one response of one request, whatever the moments and the word of `/stop`.
 use Rattle.std.proofs.Common.{◌≡◌, ◌==◌, ◌||◌, ℕ, List, [], ◌∷◌, Bool, true, false, Option, Some, codes, if◌then◌else◌, is_some, length, take, refl, ap, ◌∙◌, sym, subst}
 use Rattle.std.proofs.lemmas.Option.{same_Some}
 use Rattle.std.specs.Prelude.{unwrap_or}
@@ -27,8 +27,6 @@ use Rattle.rkt_routing.specs.Found.{Found}
 use Rattle.rkt_routing.specs.Routed.{Finds, Routes, is_head}
 use Rattle.rkt_routing.specs.declared.run.Call.{Call}
 use Rattle.rkt_sample.specs.Bodies.{IsSteadyBody, whole}
-use Rattle.rkt_sample.specs.Catching.{catch_calling}
-use Rattle.rkt_sample.specs.Routing.{route_calling}
 use Rattle.rkt_sample.specs.declared.catcher.SampleCatcher.{SampleCatcher}
 use Rattle.rkt_sample.specs.declared.route.SampleRoute.{SampleRoute}
 use Rattle.rkt_link.specs.Asked.{GivesBody, IsUntouched}
@@ -109,22 +107,22 @@ begun_alike one other log log' floor floor' = record { log = log' ∙ sym log; f
 abbrev pub OneResponse : Response → Response → Type 0
 OneResponse response response' = (response' ≡ response) × HasNoSource response
 
-module _ (laws : Spelling) (window window' : Option (ℕ × ℕ)) (table : Table) (tables : SampleTables) (sample : IsSample table tables) where
-  abbrev Rel : Option (ℕ × ℕ) → Relations ℕ Body ℕ SourceInMemory NoFairing (Unit {0}) (Unit {0}) SampleRoute (Option Body) SampleCatcher Status
-  Rel w = callbacks_of (served_in w) tables
+module _ (laws : Spelling) (word word' : ℕ) (window window' : Option (ℕ × ℕ)) (table : Table) (tables : SampleTables) (sample : IsSample table tables) where
+  abbrev Rel : ℕ → Option (ℕ × ℕ) → Relations ℕ Body ℕ SourceInMemory NoFairing (Unit {0}) (Unit {0}) SampleRoute (Option Body) SampleCatcher Status
+  Rel v w = callbacks_of (served_in v w) tables
 
   -- what routing finds of one request
   found_once : (faults : List Bad) (request : Seen ℕ) (body body' : Body) (kept kept' : Kept ℕ) (calls calls' : List Call) (found found' : Found ℕ ℕ SourceInMemory) → BodiesAlike body body' → AddedAlike kept kept'
-      → Routes (callbacks (Rel window)) (table_of tables) faults (record { request = request; body = body; kept = kept }) calls (Finds found)
-      → Routes (callbacks (Rel window')) (table_of tables) faults (record { request = request; body = body'; kept = kept' }) calls' (Finds found') → SameFound like found found'
+      → Routes (callbacks (Rel word window)) (table_of tables) faults (record { request = request; body = body; kept = kept }) calls (Finds found)
+      → Routes (callbacks (Rel word' window')) (table_of tables) faults (record { request = request; body = body'; kept = kept' }) calls' (Finds found') → SameFound like found found'
   found_once faults request body body' kept kept' calls calls' found found' bodies kepts finds finds' =
-      routes_once like (route_calling source_meaning 0) catch_calling (gates_of window tables) (gates_of window' tables) (table_of tables)
-      (calls_once laws (gates_of window tables) (gates_of window' tables) refl refl (table_of tables)) found found' faults request body body' kept kept' calls calls' bodies kepts finds finds'
+      routes_once like (callbacks (Rel word window)) (callbacks (Rel word' window')) (table_of tables)
+      (calls_once laws word word' (gates_of window tables) (gates_of window' tables) refl refl (table_of tables)) found found' faults request body body' kept kept' calls calls' bodies kepts finds finds'
 
   -- what a request is once it has its method
-  opened_as : (w : Option (ℕ × ℕ)) (request : Seen ℕ) (source : SourceInMemory) (bytes : List ℕ) (kept : Kept ℕ) (opened : RequestAt ℕ Body ℕ) → FromSource source bytes
-      → Opens (Rel w) (record { request = request; body = body_from source; kept = kept }) opened → OpenedAs request bytes kept opened
-  opened_as w request source bytes kept opened from opens =
+  opened_as : (v : ℕ) (w : Option (ℕ × ℕ)) (request : Seen ℕ) (source : SourceInMemory) (bytes : List ℕ) (kept : Kept ℕ) (opened : RequestAt ℕ Body ℕ) → FromSource source bytes
+      → Opens (Rel v w) (record { request = request; body = body_from source; kept = kept }) opened → OpenedAs request bytes kept opened
+  opened_as v w request source bytes kept opened from opens =
       let so = opened_so (gates_of w tables) refl source bytes opens.front opened.body from.all from.steady opens.peeks in
       record {
         content_type = opens.request.content_type;
@@ -136,47 +134,47 @@ module _ (laws : Spelling) (window window' : Option (ℕ × ℕ)) (table : Table
       }
 
   -- what comes of what was found
-  finishes : (w : Option (ℕ × ℕ)) (at : RequestAt ℕ Body ℕ) (calls : List Call) (over : Over ℕ SourceInMemory) (lives : Lives (Rel w) tables at calls over)
+  finishes : (v : ℕ) (w : Option (ℕ × ℕ)) (at : RequestAt ℕ Body ℕ) (calls : List Call) (over : Over ℕ SourceInMemory) (lives : Lives (Rel v w) tables at calls over)
       → over.response ≡ finished tables.config.ident (is_head lives.opened.request.method) (pending_cookies lives.found.kept over.moment) lives.found.response
-  finishes w at calls over lives =
+  finishes v w at calls over lives =
       let asked : lives.asked ≡ lives.opened = asked_nothing (gates_of w tables) tables.config.turns tables.fairings lives.opened lives.asked lives.before sample.fairings lives.asks in
       let left = answered_shielded (gates_of w tables) tables.config.turns tables.fairings (dressed tables.config.ident over.moment lives.found) lives.left lives.behind sample.fairings lives.answers in
       let head : is_head lives.asked.request.method ≡ is_head lives.opened.request.method = ap (λ (a : RequestAt ℕ Body ℕ). is_head a.request.method) asked in
       lives.response ∙ ap (λ (h : Bool). with_body_rule h lives.left.response) head ∙ ap (with_body_rule (is_head lives.opened.request.method)) left
 
-  routed_of : (w : Option (ℕ × ℕ)) (at : RequestAt ℕ Body ℕ) (calls : List Call) (over : Over ℕ SourceInMemory) (lives : Lives (Rel w) tables at calls over)
-      → Routes (callbacks (Rel w)) (table_of tables) [] lives.opened lives.between (Finds lives.found)
-  routed_of w at calls over lives =
+  routed_of : (v : ℕ) (w : Option (ℕ × ℕ)) (at : RequestAt ℕ Body ℕ) (calls : List Call) (over : Over ℕ SourceInMemory) (lives : Lives (Rel v w) tables at calls over)
+      → Routes (callbacks (Rel v w)) (table_of tables) [] lives.opened lives.between (Finds lives.found)
+  routed_of v w at calls over lives =
       let asked : lives.asked ≡ lives.opened = asked_nothing (gates_of w tables) tables.config.turns tables.fairings lives.opened lives.asked lives.before sample.fairings lives.asks in
-      subst (λ (a : RequestAt ℕ Body ℕ). Routes (callbacks (Rel w)) (table_of tables) [] a lives.between (Finds lives.found)) asked lives.finds
+      subst (λ (a : RequestAt ℕ Body ℕ). Routes (callbacks (Rel v w)) (table_of tables) [] a lives.between (Finds lives.found)) asked lives.finds
 
   -- where two requests have their methods
-  lives_once : (calls calls' : List Call) (over over' : Over ℕ SourceInMemory) (first first' : RequestAt ℕ Body ℕ) (lives : Lives (Rel window) tables first calls over)
-      (lives' : Lives (Rel window') tables first' calls' over') → lives'.opened.request ≡ lives.opened.request → BodiesAlike lives.opened.body lives'.opened.body → AddedAlike lives.opened.kept lives'.opened.kept
+  lives_once : (calls calls' : List Call) (over over' : Over ℕ SourceInMemory) (first first' : RequestAt ℕ Body ℕ) (lives : Lives (Rel word window) tables first calls over)
+      (lives' : Lives (Rel word' window') tables first' calls' over') → lives'.opened.request ≡ lives.opened.request → BodiesAlike lives.opened.body lives'.opened.body → AddedAlike lives.opened.kept lives'.opened.kept
       → OneResponse over.response over'.response
   lives_once calls calls' over over' first first' lives lives' request bodies kepts =
-      let finds' : Routes (callbacks (Rel window')) (table_of tables) [] (record { request = lives.opened.request; body = lives'.opened.body; kept = lives'.opened.kept }) lives'.between (Finds lives'.found) =
-      subst (λ (r : Seen ℕ). Routes (callbacks (Rel window')) (table_of tables) [] (record { request = r; body = lives'.opened.body; kept = lives'.opened.kept }) lives'.between (Finds lives'.found)) request
-      (routed_of window' first' calls' over' lives') in
+      let finds' : Routes (callbacks (Rel word' window')) (table_of tables) [] (record { request = lives.opened.request; body = lives'.opened.body; kept = lives'.opened.kept }) lives'.between (Finds lives'.found) =
+      subst (λ (r : Seen ℕ). Routes (callbacks (Rel word' window')) (table_of tables) [] (record { request = r; body = lives'.opened.body; kept = lives'.opened.kept }) lives'.between (Finds lives'.found)) request
+      (routed_of word' window' first' calls' over' lives') in
       let same = found_once [] lives.opened.request lives.opened.body lives'.opened.body lives.opened.kept lives'.opened.kept lives.between lives'.between lives.found lives'.found bodies kepts
-      (routed_of window first calls over lives) finds' in
+      (routed_of word window first calls over lives) finds' in
       let ident : List ℕ = tables.config.ident in
       let head : Bool = is_head lives.opened.request.method in
       let head' : is_head lives'.opened.request.method ≡ head = ap (λ (r : Seen ℕ). is_head r.method) request in
       let cookies : pending_cookies lives'.found.kept over'.moment ≡ pending_cookies lives.found.kept over.moment = pending_alike lives.found.kept lives'.found.kept over.moment over'.moment same.kept in
-      let one = finishes window first calls over lives in
-      let other = finishes window' first' calls' over' lives' in (
+      let one = finishes word window first calls over lives in
+      let other = finishes word' window' first' calls' over' lives' in (
         other ∙ ap (λ (h : Bool). finished ident h (pending_cookies lives'.found.kept over'.moment) lives'.found.response) head'
             ∙ ap (λ (cs : List Parts). finished ident head cs lives'.found.response) cookies ∙ ap (finished ident head (pending_cookies lives.found.kept over.moment)) same.response ∙ sym one,
         subst HasNoSource (sym one) (finished_at_hand ident head (pending_cookies lives.found.kept over.moment) lives.found.response same.good),
       )
 
   ends_once : (faults : List Bad) (request : Seen ℕ) (source source' : SourceInMemory) (bytes : List ℕ) (kept kept' : Kept ℕ) (calls calls' : List Call) (over over' : Over ℕ SourceInMemory) → FromSource source bytes
-      → FromSource source' bytes → AddedAlike kept kept' → Ends (Rel window) tables faults (record { request = request; body = body_from source; kept = kept }) calls over
-      → Ends (Rel window') tables faults (record { request = request; body = body_from source'; kept = kept' }) calls' over' → OneResponse over.response over'.response
+      → FromSource source' bytes → AddedAlike kept kept' → Ends (Rel word window) tables faults (record { request = request; body = body_from source; kept = kept }) calls over
+      → Ends (Rel word' window') tables faults (record { request = request; body = body_from source'; kept = kept' }) calls' over' → OneResponse over.response over'.response
   ends_once [] request source source' bytes kept kept' calls calls' over over' from from' kepts lives lives' =
-      let one = opened_as window request source bytes kept lives.opened from lives.opens in
-      let other = opened_as window' request source' bytes kept' lives'.opened from' lives'.opens in
+      let one = opened_as word window request source bytes kept lives.opened from lives.opens in
+      let other = opened_as word' window' request source' bytes kept' lives'.opened from' lives'.opens in
       let content_type : other.content_type ≡ one.content_type = content_type_once laws request other.content_type one.content_type other.read one.read in
       let same : lives'.opened.request ≡ lives.opened.request =
       other.request_is ∙ ap (λ (t : Option Media). overridden t (take 14 bytes) request) content_type ∙ sym one.request_is in
@@ -189,22 +187,22 @@ module _ (laws : Spelling) (window window' : Option (ℕ × ℕ)) (table : Table
         subst HasNoSource (sym refuses.response) same.good,
       )
 
-  pub leads_once : (request : ScriptRequest) (run run' : RunOf ℕ) (response response' : Response) → LeadsTo window tables (asked_for request) run response → LeadsTo window' tables (asked_for request) run' response'
+  pub leads_once : (request : ScriptRequest) (run run' : RunOf ℕ) (response response' : Response) → LeadsTo word window tables (asked_for request) run response → LeadsTo word' window' tables (asked_for request) run' response'
       → OneResponse response response'
   leads_once request run run' response response' life life' =
       let came = incomes_alike laws request.head tables.config tables.managed life.request life'.request life.jar life'.jar life.faults life'.faults life.incoming life'.incoming in
       let kept : Kept ℕ = record { jar = life.jar; cache = []; shutdown = life.before } in
       let kept' : Kept ℕ = record { jar = life'.jar; cache = []; shutdown = life'.before } in
       let kepts = begun_alike kept kept' came.log came.log' came.floor came.floor' in
-      let leads' : Ends (Rel window') tables life.faults (record { request = life.request; body = body_from life'.source; kept = kept' }) run'.calls (over_as run' response' life'.after) =
-      subst (λ (r : Seen ℕ). Ends (Rel window') tables life.faults (record { request = r; body = body_from life'.source; kept = kept' }) run'.calls (over_as run' response' life'.after)) came.request_is
-      (subst (λ (fs : List Bad). Ends (Rel window') tables fs (record { request = life'.request; body = body_from life'.source; kept = kept' }) run'.calls (over_as run' response' life'.after)) came.faults_are life'.leads) in
+      let leads' : Ends (Rel word' window') tables life.faults (record { request = life.request; body = body_from life'.source; kept = kept' }) run'.calls (over_as run' response' life'.after) =
+      subst (λ (r : Seen ℕ). Ends (Rel word' window') tables life.faults (record { request = r; body = body_from life'.source; kept = kept' }) run'.calls (over_as run' response' life'.after)) came.request_is
+      (subst (λ (fs : List Bad). Ends (Rel word' window') tables fs (record { request = life'.request; body = body_from life'.source; kept = kept' }) run'.calls (over_as run' response' life'.after)) came.faults_are life'.leads) in
       ends_once life.faults life.request life.source life'.source request.body kept kept' run.calls run'.calls (over_as run response life.after) (over_as run' response' life'.after)
       (from_source life.source request life.untouched life.gives) (from_source life'.source request life'.untouched life'.gives) kepts life.leads leads'
 
--- so an exchange makes one response
-pub made_once : (laws : Spelling) (table : Table) (window window' : Option (ℕ × ℕ)) (request : ScriptRequest) (response response' : Response) → IsMade table window request response → IsMade table window' request response' → OneResponse response response'
-made_once laws table window window' request response response' made made' =
+-- so an exchange makes one response, whatever word `/stop` tells
+pub made_once : (laws : Spelling) (table : Table) (word word' : ℕ) (window window' : Option (ℕ × ℕ)) (request : ScriptRequest) (response response' : Response) → IsMade table word window request response → IsMade table word' window' request response' → OneResponse response response'
+made_once laws table word word' window window' request response response' made made' =
     let tables = tables_once table made.tables made'.tables made.sample made'.sample in
-    leads_once laws window window' table made.tables made.sample request made.run made'.run response response' made.lifecycle
-    (subst (λ (t : SampleTables). LeadsTo window' t (asked_for request) made'.run response') tables made'.lifecycle)
+    leads_once laws word word' window window' table made.tables made.sample request made.run made'.run response response' made.lifecycle
+    (subst (λ (t : SampleTables). LeadsTo word' window' t (asked_for request) made'.run response') tables made'.lifecycle)

@@ -1,5 +1,5 @@
 -- What the lines of a script offer, line by line.
-use Rattle.std.proofs.Common.{suc, ◌≡◌, ◌+◌, ◌∙◌, ◌⊎◌, inl, inr, ℕ, List, [], ◌∷◌, Bool, true, false, Option, Some, None, codes, take, refl, ap, arith, sym}
+use Rattle.std.proofs.Common.{suc, ◌≡◌, ◌∙◌, ◌⊎◌, inl, inr, ℕ, List, [], ◌∷◌, Bool, true, false, Option, Some, None, codes, take, refl, ap, arith, sym}
 use Rattle.std.specs.Prelude.{fold}
 use Rattle.std.specs.List.{before_first, position_or_len}
 use Rattle.std.specs.Option.{is_some, option_map}

@@ -1,11 +1,11 @@
 -- What the program knows of its script from the bytes that it has read.
-use Rattle.std.proofs.Common.{suc, ◌≡◌, ◌+◌, ◌-◌, ℕ, inl, inr, List, [], ◌∷◌, Bool, Option, take, drop, length, add-one, ap, ◌∙◌, sym, subst}
+use Rattle.std.proofs.Common.{suc, ◌≡◌, ◌+◌, ◌-◌, ℕ, inl, inr, List, [], ◌∷◌, Option, take, drop, length, add-one, ap, ◌∙◌, sym, subst}
 use Rattle.std.specs.Option.{ForSome}
 use Rattle.rkt_source.specs.Source.{Meaning}
 use Rattle.rkt_demo.proofs.Cuts.{bad_front, good_front}
 use Rattle.rkt_demo.specs.Program.{IsScript, IsGoodScript}
 use Rattle.rkt_demo.specs.Script.{lines_of, content_of, add_line, AreGood, IsFirstBad, requests_of}
-use Rattle.rkt_demo.specs.Shown.{Shown, ShownFrom}
+use Rattle.rkt_demo.specs.Shown.{ShowsRequests}
 use Rattle.rkt_demo.specs.Words.{Table}
 use Rattle.rkt_demo.specs.declared.script.ScriptRequest.{ScriptRequest}
 use Rattle.rkt_demo.specs.declared.script.TheConstants.{SCRIPT_LIMIT}
@@ -30,13 +30,13 @@ pub good_script : (whole : Option (List ℕ)) (taken room : ℕ) (bytes : List �
     → ForSome whole (λ w. AreGood room [] (lines_of (drop taken w)))
 good_script whole taken room bytes read good w is = subst (λ (t : List ℕ). AreGood room [] (lines_of t)) (good_read whole taken room bytes read good w is) good
 
--- a text that shows what was read shows all requests of the script
-pub shown_script : (whole : Option (List ℕ)) (taken room : ℕ) (bytes : List ℕ) (table : Table) (window : Option (ℕ × ℕ)) (starved : ℕ → Bool) (requests : List ScriptRequest) (text : List ℕ) → IsRead whole taken room bytes
-    → AreGood room [] (lines_of bytes) → requests ≡ requests_of (lines_of bytes) → ShownFrom table window starved 0 requests text
-    → ForSome whole (λ w. Shown table window starved (drop taken w) text)
-shown_script whole taken room bytes table window starved requests text read good requests_are shown w is =
+-- a text that shows what was read shows as many requests of the script as may be served
+pub shown_script : (whole : Option (List ℕ)) (taken room : ℕ) (bytes : List ℕ) (table : Table) (window : Option (ℕ × ℕ)) (requests : List ScriptRequest) (text : List ℕ) → IsRead whole taken room bytes
+    → AreGood room [] (lines_of bytes) → requests ≡ requests_of (lines_of bytes) → ShowsRequests table window requests text
+    → ForSome whole (λ w. ShowsRequests table window (requests_of (lines_of (drop taken w))) text)
+shown_script whole taken room bytes table window requests text read good requests_are shown w is =
     let same : requests ≡ requests_of (lines_of (drop taken w)) = requests_are ∙ ap (λ (t : List ℕ). requests_of (lines_of t)) (good_read whole taken room bytes read good w is) in
-    subst (λ (rs : List ScriptRequest). ShownFrom table window starved 0 rs text) same shown
+    subst (λ (rs : List ScriptRequest). ShowsRequests table window rs text) same shown
 
 -- no line is bad of lines that are good
 good_not_bad : (from room number : ℕ) (requests : List ScriptRequest) (lines : List (List ℕ)) → AreGood room requests lines → IsFirstBad from room requests lines number → ⊥

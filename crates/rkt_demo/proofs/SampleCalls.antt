@@ -1,4 +1,4 @@
--- Two whole calls of a route or of a catcher of the sample, of what is alike, come to one thing.
+-- Two whole calls of a route or of a catcher of the sample, of what is alike, come to one thing, whatever words `/stop` tells.
 use Rattle.std.proofs.Common.{◌≡◌, ℕ, List, Bool, true, false, Option, Some, None, Result, refl, sym, subst}
 use Rattle.rkt_http.specs.declared.status.Status.{Status}
 use Rattle.rkt_message.specs.Response.{ResponseOf}
@@ -10,6 +10,7 @@ use Rattle.rkt_router.specs.Callbacks.{Handed, Refused, Reply}
 use Rattle.rkt_router.specs.Calls.{GateRule, Made}
 use Rattle.rkt_router.specs.Page.{page_of}
 use Rattle.rkt_router.specs.declared.turn.Final.{Final}
+use Rattle.rkt_routing.specs.Relations.{relations}
 use Rattle.rkt_routing.specs.Routed.{turns_of}
 use Rattle.rkt_routing.specs.Table.{SeenTable}
 use Rattle.rkt_routing.specs.MakingLaws.{some_turns}
@@ -91,23 +92,23 @@ page_at_hand : (json : Bool) (code : ℕ) → HasNoSource (page_of json code)
 page_at_hand true code = tt
 page_at_hand false code = tt
 
-module _ (laws : Spelling) (rule rule' : GateRule) (untripped : rule.may_trip ≡ false) (untripped' : rule'.may_trip ≡ false) (table : SeenTable SampleRoute SampleCatcher (Unit {0})) where
+module _ (laws : Spelling) (word word' : ℕ) (rule rule' : GateRule) (untripped : rule.may_trip ≡ false) (untripped' : rule'.may_trip ≡ false) (table : SeenTable SampleRoute SampleCatcher (Unit {0})) where
   abbrev Reply' : Type 0
   Reply' = Reply SourceInMemory Body
 
   handled_once : (handler : SampleRoute) (request : Seen ℕ) (body body' : Body) (before before' after after' : Kept ℕ) (reply reply' : Final Reply') → BodiesAlike body body' → AddedAlike before before'
-      → Made (route_calling source_meaning 0) rule (turns_of table) handler (record { request = request; body = body }) before reply after
-      → Made (route_calling source_meaning 0) rule' (turns_of table) handler (record { request = request; body = body' }) before' reply' after' → CallsAlike like (SameReply like) reply reply' after after'
+      → Made (route_calling source_meaning word) rule (turns_of table) handler (record { request = request; body = body }) before reply after
+      → Made (route_calling source_meaning word') rule' (turns_of table) handler (record { request = request; body = body' }) before' reply' after' → CallsAlike like (SameReply like) reply reply' after after'
   handled_once handler request body body' before before' after after' reply reply' bodies kepts made made' =
-      let one = route_made rule (turns_of table) (some_turns table.turns) SourceInMemory before after source_meaning 0 handler (record { request = request; body = body }) reply untripped bodies.steady made in
-      let other = route_made rule' (turns_of table) (some_turns table.turns) SourceInMemory before' after' source_meaning 0 handler (record { request = request; body = body' }) reply' untripped' bodies.steady_too made' in
+      let one = route_made rule (turns_of table) (some_turns table.turns) SourceInMemory before after source_meaning word handler (record { request = request; body = body }) reply untripped bodies.steady made in
+      let other = route_made rule' (turns_of table) (some_turns table.turns) SourceInMemory before' after' source_meaning word' handler (record { request = request; body = body' }) reply' untripped' bodies.steady_too made' in
       record {
         answer = reply_of source_meaning handler (record { request = request; body = body });
         other = reply_of source_meaning handler (record { request = request; body = body' });
         is = one.0;
         other_is = other.0;
         same = replies_alike request body body' bodies handler;
-        kept = rw (one.1, other.1) (left_alike 0 handler before before' kepts);
+        kept = rw (one.1, other.1) (left_alike word word' handler before before' kepts);
       }
 
   caught_once : (catcher : SampleCatcher) (refused : Refused ℕ) (before before' after after' : Kept ℕ) (answer answer' : Final (Result Response Status)) → AddedAlike before before'
@@ -124,7 +125,7 @@ module _ (laws : Spelling) (rule rule' : GateRule) (untripped : rule.may_trip �
         kept = rw (one.1, other.1) (added_alike (catching.added_by catcher) before before' kepts);
       }
 
-  pub calls_once : CallsOnce {V = ℕ} like (route_calling source_meaning 0) catch_calling rule rule' table
+  pub calls_once : CallsOnce {V = ℕ} like (relations (route_calling source_meaning word) catch_calling rule) (relations (route_calling source_meaning word') catch_calling rule') table
   calls_once = record {
     handled = handled_once;
     caught = caught_once;

@@ -1,5 +1,5 @@
--- A script is shown as one text.
-use Rattle.std.proofs.Common.{◌≡◌, ◌++◌, ◌+◌, ℕ, List, [], ◌∷◌, Bool, true, false, Option, Some, map, flat_map, refl, ap, ◌∙◌, sym, subst, append-nil}
+-- So many requests of a script are shown as one text.
+use Rattle.std.proofs.Common.{◌≡◌, ◌++◌, ◌+◌, ℕ, List, [], ◌∷◌, Bool, true, false, Option, Some, map, flat_map, take, refl, ap, ◌∙◌, sym, subst, append-nil}
 use Rattle.std.specs.Prelude.{MatchBool}
 use Rattle.std.specs.List.{concat}
 use Rattle.rkt_message.specs.Body.{left_of}
@@ -55,24 +55,25 @@ told_once : (t : Bool) (k : ℕ) (response : Response) (section section' : List 
 told_once true k response section section' here told told' = answered_once k response section section' here told told'
 told_once false k response section section' here told told' = told' ∙ sym told
 
-served_once : (laws : Spelling) (table : Table) (window window' : Option (ℕ × ℕ)) (k : ℕ) (request : ScriptRequest) (section section' : List ℕ) → IsServed table window k request section → IsServed table window' k request section' → section' ≡ section
-served_once laws table window window' k request section section' served served' =
-    let one = made_once laws table window window' request served.response served'.response served.made served'.made in
+served_once : (laws : Spelling) (table : Table) (word word' : ℕ) (window window' : Option (ℕ × ℕ)) (k : ℕ) (request : ScriptRequest) (section section' : List ℕ) → IsServed table word window k request section
+    → IsServed table word' window' k request section' → section' ≡ section
+served_once laws table word word' window window' k request section section' served served' =
+    let one = made_once laws table word word' window window' request served.response served'.response served.made served'.made in
     told_once (has_head served.response) k served.response section section' one.1 served.told
     (subst (λ (r : Response). MatchBool (has_head r) (IsAnswered k r section') (section' ≡ failed_section k)) one.0 served'.told)
 
-section_once : (laws : Spelling) (table : Table) (window window' : Option (ℕ × ℕ)) (starved : Bool) (k : ℕ) (request : ScriptRequest) (section section' : List ℕ) → IsSection starved table window k request section
-    → IsSection starved table window' k request section' → section' ≡ section
-section_once laws table window window' true k request section section' is is' = is' ∙ sym is
-section_once laws table window window' false k request section section' is is' = served_once laws table window window' k request section section' is is'
+section_once : (laws : Spelling) (table : Table) (word word' : ℕ) (window window' : Option (ℕ × ℕ)) (starved : Bool) (k : ℕ) (request : ScriptRequest) (section section' : List ℕ) → IsSection starved table word window k request section
+    → IsSection starved table word' window' k request section' → section' ≡ section
+section_once laws table word word' window window' true k request section section' is is' = is' ∙ sym is
+section_once laws table word word' window window' false k request section section' is is' = served_once laws table word word' window window' k request section section' is is'
 
-from_once : (laws : Spelling) (table : Table) (window window' : Option (ℕ × ℕ)) (starved : ℕ → Bool) (k : ℕ) (requests : List ScriptRequest) (text text' : List ℕ) → ShownFrom table window starved k requests text
-    → ShownFrom table window' starved k requests text' → text' ≡ text
-from_once laws table window window' starved k [] text text' is is' = is' ∙ sym is
-from_once laws table window window' starved k (request ∷ requests) text text' is is' =
-    let first : is'.0 ≡ is.0 = section_once laws table window window' (starved k) k request is.0 is'.0 is.2 is'.2 in
-    let rest : is'.1 ≡ is.1 = from_once laws table window window' starved (k + 1) requests is.1 is'.1 is.3 is'.3 in
-    is'.4 ∙ rw (first, rest) (sym is.4)
+from_once : (laws : Spelling) (table : Table) (word word' : ℕ) (window window' : Option (ℕ × ℕ)) (starved : ℕ → Bool) (k : ℕ) (requests : List ScriptRequest) (text text' : List ℕ) → ShownFrom table window starved word k requests text
+    → ShownFrom table window' starved word' k requests text' → text' ≡ text
+from_once laws table word word' window window' starved k [] text text' is is' = is' ∙ sym is
+from_once laws table word word' window window' starved k (request ∷ requests) text text' is is' =
+    let first : is'.0 ≡ is.0 = section_once laws table is.2 is'.2 window window' (starved k) k request is.0 is'.0 is.4 is'.4 in
+    let rest : is'.1 ≡ is.1 = from_once laws table is.2 is'.2 window window' starved (k + 1) requests is.1 is'.1 is.5 is'.5 in
+    is'.6 ∙ rw (first, rest) (sym is.6)
 
 pub one_text : Spelling → ShownOnce
-one_text laws table window window' starved script text text' is is' = from_once laws table window window' starved 0 (requests_of (lines_of script)) text text' is is'
+one_text laws table window window' starved n script text text' is is' = from_once laws table 0 0 window window' starved 0 (take n (requests_of (lines_of script))) text text' is is'

@@ -1,8 +1,10 @@
 pub mod Entries
+pub mod Launched
 pub mod Output
 pub mod Program
 pub mod Sample
 pub mod Script
 pub mod Shown
+pub mod Stopping
 pub mod Streams
 pub mod Words

@@ -36,6 +36,10 @@ sent_section k pieces = answered_section k (flat_map head_text pieces) (flat_map
 abbrev pub failed_section : ℕ → List ℕ
 failed_section k = label k ++ codes "Failed\n"
 
+-- the section of a request whose link failed before it had the whole response
+abbrev pub lost_section : ℕ → List ℕ
+lost_section k = label k ++ codes "Lost\n"
+
 -- the section of a request for which there was no memory
 abbrev pub starved_section : ℕ → List ℕ
 starved_section k = label k ++ codes "Starved\n"

@@ -7,6 +7,7 @@ use Rattle.rkt_source.specs.Source.{Meaning}
 use Rattle.rkt_demo.specs.declared.script.TheConstants.{SCRIPT_LIMIT}
 use Rattle.rkt_demo.specs.Script.{lines_of, AreGood, IsFirstBad}
 use Rattle.rkt_demo.specs.Shown.{Shown}
+use Rattle.rkt_demo.specs.Stopping.{IsCount}
 use Rattle.rkt_demo.specs.Streams.{IsReadTo}
 use Rattle.rkt_demo.specs.Words.{Commands, Table}
 
@@ -43,11 +44,11 @@ abbrev pub config_refusal : List ℕ
 config_refusal = codes "error 18 aborting due to invalid configuration\n"
 
 -- What a script is answered with, by what the words set: the first line that is not of the grammar; or that a setting does not
--- take its text; or a text that shows its requests.
+-- take its text; or a text that shows as many of its requests as may be served.
 abbrev pub IsText : Table → Option (ℕ × ℕ) → List ℕ → List ℕ → Type 0
 IsText table window script text = ((number : ℕ) × IsFirstBadLine script number × (text ≡ refusal number))
     ⊎ (IsGoodScript script × ¬ IsAccepted table × (text ≡ config_refusal))
-    ⊎ (IsGoodScript script × IsAccepted table × ((starved : ℕ → Bool) × Shown table window starved script text))
+    ⊎ (IsGoodScript script × IsAccepted table × ((n : ℕ) × (starved : ℕ → Bool) × IsCount script n × Shown table window starved n script text))
 
 -- all of the source was read, or so many bytes that a line leaves the grammar
 abbrev pub IsAllRead : Meaning → Meaning → Type 0

@@ -4,7 +4,8 @@ ghost use Rattle.rkt_demo.specs.Words.{SetsOnce};
 
 use rkt_http::{says_what_it_spells, spells_one_host, spells_one_media_type};
 
-/// A law of texts: a script is shown as one text, whatever the moments are, but for the requests that had no memory.
+/// A law of texts: so many requests of a script are shown as one text, whatever the moments are, but for those that had no
+/// memory.
 pub fn shown_once()
     ensures { ShownOnce }
 {

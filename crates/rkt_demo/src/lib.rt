@@ -6,11 +6,13 @@ mod output;
 mod program;
 mod sample;
 mod script;
+mod serving;
+mod stopping;
 mod stream;
 mod words;
 
 pub use laws::{sets_once, shown_once};
 pub use program::{CONFIG_REFUSAL, run};
-pub use sample::{Quiet, Sample};
+pub use sample::{Handler, Quiet, Sample};
 pub use script::SCRIPT_LIMIT;
 pub use words::USAGE;

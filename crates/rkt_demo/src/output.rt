@@ -3,12 +3,12 @@ ghost use Rattle.std.specs.Prelude.{◌≡◌, ◌++◌, ◌∷◌, [], IfOk, On
 ghost use Rattle.std.specs.Fmt.{decimal};
 ghost use Rattle.std.specs.Option.{option_copied};
 ghost use Rattle.rkt_demo.specs.Entries.{ended_section, entries_text, AreEntries};
-ghost use Rattle.rkt_demo.specs.Output.{header_line, head_text, body_bytes, label, sent_section, failed_section, starved_section, last_line};
+ghost use Rattle.rkt_demo.specs.Output.{header_line, head_text, body_bytes, label, sent_section, lost_section, failed_section, starved_section, last_line};
 
-use crate::sample::Sample;
+use crate::sample::{SampleEntry, SampleHistory};
 use rkt_base::{NoMemory, Text};
 use rkt_message::Piece;
-use rkt_serve::{End, Entry, History, MemoryLink};
+use rkt_serve::End;
 use std::alloc::Global;
 
 fn push_text(out: &mut Vec<u8>, text: &str) -> Result<(), NoMemory>
@@ -110,6 +110,13 @@ fn push_answered(
     push_text(out, "\n")
 }
 
+fn push_lost(alloc: Global, out: &mut Vec<u8>, number: usize) -> Result<(), NoMemory>
+    ensures { OnOk result (out.new.items ≡ out.old.items ++ lost_section number) }
+{
+    push_label(alloc, out, number)?;
+    push_text(out, "Lost\n")
+}
+
 fn push_failed(alloc: Global, out: &mut Vec<u8>, number: usize) -> Result<(), NoMemory>
     ensures { OnOk result (out.new.items ≡ out.old.items ++ failed_section number) }
 {
@@ -136,21 +143,19 @@ fn push_section(
     alloc: Global,
     out: &mut Vec<u8>,
     number: usize,
-    entry: &Entry<Sample, MemoryLink>,
+    entry: &SampleEntry,
 ) -> Result<(), NoMemory>
     ensures { OnOk result (out.new.items ≡ out.old.items ++ ended_section number entry.now.end entry.now.link.held) }
 {
     match entry.end {
         End::Answered => push_answered(alloc, out, number, entry.link.held()),
+        End::Lost => push_lost(alloc, out, number),
         End::Failed(_) => push_failed(alloc, out, number),
         End::Starved => push_starved(alloc, out, number),
     }
 }
 
-fn print_entries(
-    alloc: Global,
-    entries: &[Option<&Entry<Sample, MemoryLink>>],
-) -> Result<Vec<u8>, NoMemory>
+fn print_entries(alloc: Global, entries: &[Option<&SampleEntry>]) -> Result<Vec<u8>, NoMemory>
     ensures { IfOk result (λ text. text.items ≡ entries_text 0 (map (λ entry. option_copied entry) entries.now)) }
 {
     let mut out = Vec::new(alloc);
@@ -164,13 +169,25 @@ fn print_entries(
 }
 
 /// The text of a history, by the numbers of its entries.
-pub fn print_history(
-    alloc: Global,
-    history: &History<Sample, MemoryLink>,
-) -> Result<Vec<u8>, NoMemory>
+pub fn print_history(alloc: Global, history: &SampleHistory) -> Result<Vec<u8>, NoMemory>
     ensures { IfOk result (λ text. (entries : _) × AreEntries history.now.events entries × (text.items ≡ entries_text 0 entries)) }
 {
     let entries = history.entries(alloc)?;
+    let text = print_entries(alloc, entries.as_slice())?;
+    Ok(text)
+}
+
+/// The text of two histories, of which the second is numbered on from the first.
+pub fn print_histories(
+    alloc: Global,
+    first: &SampleHistory,
+    second: &SampleHistory,
+) -> Result<Vec<u8>, NoMemory>
+    ensures { IfOk result (λ text. (entries : _) × (others : _) × AreEntries first.now.events entries × AreEntries second.now.events others × (text.items ≡ entries_text 0 (entries ++ others))) }
+{
+    let mut entries = first.entries(alloc)?;
+    let mut others = second.entries(alloc)?;
+    entries.append(&mut others)?;
     let text = print_entries(alloc, entries.as_slice())?;
     Ok(text)
 }

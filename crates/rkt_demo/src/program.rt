@@ -1,91 +1,26 @@
 //! The program: reads the words and the script, serves, and writes.
-ghost use Rattle.std.specs.Prelude.{◌≡◌, ◌⊎◌, ◌≤◌, ◌+◌, List, ℕ, Bool, false, IfOk, OnOk, map, string_bytes};
-ghost use Rattle.std.specs.List.{AllByRecursion};
+ghost use Rattle.std.specs.Prelude.{◌≡◌, ◌⊎◌, ◌≤◌, ◌+◌, List, ℕ, Bool, false, map, string_bytes};
 ghost use Rattle.rkt_base.specs.Counts.{Rose};
-ghost use Rattle.rkt_base.specs.Want.{IfRefused};
 ghost use Rattle.rkt_source.specs.Sink.{Gains};
-ghost use Rattle.rkt_link.specs.Memory.{IsUnused, asked_of};
 ghost use Rattle.rkt_demo.specs.Program.{OfCommand, IsAccepted, OfScript, IsScript, IsGoodScript, IsFirstBadLine, IsText, IsAllRead, refusal};
-ghost use Rattle.rkt_demo.specs.Sample.{IsSample};
-ghost use Rattle.rkt_demo.specs.Shown.{Shown, ShownFrom, asked_for};
+ghost use Rattle.rkt_demo.specs.Shown.{Shown};
+ghost use Rattle.rkt_demo.specs.Stopping.{IsCount};
 ghost use Rattle.rkt_demo.specs.Streams.{GainsFront, GainsUnlessRefused};
 ghost use Rattle.rkt_demo.specs.Words.{Commands, IsCommand, IsStatus, Table};
 
-use crate::output::print_history;
-use crate::sample::Sample;
-use crate::script::{SCRIPT_LIMIT, ScriptRequest, parse_script};
+use crate::script::{SCRIPT_LIMIT, parse_script};
+use crate::serving::serve_with;
 use crate::stream::{StreamError, read_all, write_all};
 use crate::words::{USAGE, read_command};
-use rkt_base::{NoMemory, Want};
+use rkt_base::Want;
 use rkt_data::{Sink, Source};
-use rkt_http::{says_what_it_spells, spells_one_host, spells_one_media_type};
-use rkt_life::{Ignite, IgniteError, Rocket};
-use rkt_request::ConfigTable;
-use rkt_serve::{Clock, Launch, ListListener, MemoryLink};
-use std::alloc::{AllocError, Global};
+use rkt_serve::Clock;
+use std::alloc::Global;
 use std::sync::Wait;
 use std::thread::Threads;
 
 /// What to write where a setting does not take its text.
 pub const CONFIG_REFUSAL: &str = "error 18 aborting due to invalid configuration\n";
-
-// A link for each request.
-fn links_for(alloc: Global, requests: Vec<ScriptRequest>) -> Result<Vec<MemoryLink>, NoMemory>
-    ensures asked { IfOk result (λ links. map asked_of links.items ≡ map asked_for requests.items) }
-    ensures unused { IfOk result (λ links. AllByRecursion IsUnused links.items) }
-{
-    let mut links = Vec::with_capacity(alloc, requests.len())?;
-    for request in requests {
-        let ScriptRequest { head, body } = request;
-        links.push(MemoryLink::new(alloc, head, body.into_vec())?)?;
-    }
-    Ok(links)
-}
-
-// Serves requests by a rocket, and tells how they ended.
-fn serve_requests<R: Wait + Threads, C: Clock>(
-    rt: &R,
-    alloc: Global,
-    rocket: Rocket<Ignite, Sample>,
-    requests: Vec<ScriptRequest>,
-    clock: C,
-) -> Result<Vec<u8>, NoMemory>
-    ensures { (table : Table) → IsSample table rocket.tables → IfOk result (λ text. (starved : ℕ → Bool) × ShownFrom table (C.meaning clock).window starved 0 requests.items text.items) }
-{
-    // So two readings of one text are one.
-    says_what_it_spells();
-    spells_one_host();
-    spells_one_media_type();
-    let links = links_for(alloc, requests)?;
-    let listener = ListListener::new(alloc, links, Vec::new(alloc))?;
-    match rocket.launch(rt, alloc, listener, clock, 0) {
-        Ok(launched) => {
-            let text = print_history(alloc, &launched.history);
-            drop(launched);
-            text
-        }
-        Err(error) => {
-            drop(error.kind());
-            Err(AllocError)
-        }
-    }
-}
-
-// Serves requests with what a table sets.
-fn serve_with<R: Wait + Threads, C: Clock>(
-    rt: &R,
-    alloc: Global,
-    table: ConfigTable,
-    requests: Vec<ScriptRequest>,
-    clock: C,
-) -> Result<Vec<u8>, Want<IgniteError>>
-    ensures served { IfOk result (λ text. (starved : ℕ → Bool) × ShownFrom table (C.meaning clock).window starved 0 requests.items text.items) }
-    ensures accepted { OnOk result (IsAccepted table) }
-    ensures refused { IfRefused result (λ _. ¬ IsAccepted table) }
-{
-    let rocket = Sample::rocket(alloc, table)?;
-    Ok(serve_requests(rt, alloc, rocket, requests, clock)?)
-}
 
 // Says how the program is called.
 fn refuse_words<R: Wait, K: Sink>(rt: &R, sink: &mut K) -> u8
@@ -177,7 +112,7 @@ pub fn run<R: Wait + Threads, S: Source, K: Sink, C: Clock>(
     // 5: the sink refused, and has taken a front of the text.
     ensures write { result ≡ 5 → Rose (K.meaning sink.old).faults (K.meaning sink.new).faults }
     ensures write_text { result ≡ 5 → OfCommand (map string_bytes words.now) (λ table. IsAccepted table × OfScript (S.meaning source.old) (λ script.
-        (starved : ℕ → Bool) × (text : List ℕ) × Shown table (C.meaning clock).window starved script text × GainsFront (K.meaning sink.old) (K.meaning sink.new) text)) }
+        (n : ℕ) × (starved : ℕ → Bool) × (text : List ℕ) × IsCount script n × Shown table (C.meaning clock).window starved n script text × GainsFront (K.meaning sink.old) (K.meaning sink.new) text)) }
 
     // 6: there was no memory, and the sink has taken nothing, or a front of what was to be written.
     ensures memory_usage { result ≡ 6 → ¬ IsCommand (map string_bytes words.now) → GainsFront (K.meaning sink.old) (K.meaning sink.new) USAGE.now }
@@ -185,9 +120,10 @@ pub fn run<R: Wait + Threads, S: Source, K: Sink, C: Clock>(
         ⊎ OfCommand (map string_bytes words.now) (λ table. OfScript (S.meaning source.old) (λ script.
         (text : List ℕ) × IsText table (C.meaning clock).window script text × GainsFront (K.meaning sink.old) (K.meaning sink.new) text)) }
 
-    // 0: the text shows every request of the script. There is one such text but for the starved, as a law of texts says.
+    // 0: the text shows as many requests of the script as may be served: all of them where none is for `/stop`. There is one such
+    // text for that number but for the starved, as a law of texts says.
     ensures text { result ≡ 0 → OfCommand (map string_bytes words.now) (λ table. IsAccepted table × OfScript (S.meaning source.old) (λ script.
-        (starved : ℕ → Bool) × (text : List ℕ) × Shown table (C.meaning clock).window starved script text × Gains (K.meaning sink.old) (K.meaning sink.new) text)) }
+        (n : ℕ) × (starved : ℕ → Bool) × (text : List ℕ) × IsCount script n × Shown table (C.meaning clock).window starved n script text × Gains (K.meaning sink.old) (K.meaning sink.new) text)) }
 
     // Words and script of the grammar, settings that take their texts, and no fault of a stream: nothing but want of memory is
     // in the way. One command sets one table, as a law says.

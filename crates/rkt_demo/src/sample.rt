@@ -11,11 +11,19 @@ use rkt_http::says_what_it_spells;
 use rkt_life::{App, Build, Handed, Ignite, IgniteError, NoFairing, Parts, Rocket};
 use rkt_request::{ConfigTable, Types};
 use rkt_sample::{SampleCatcher, SampleRoute, StopReason, catchers, routes};
+use rkt_serve::{EntryOf, HistoryOf, MemoryLink};
 use rkt_turn::Reason;
 use std::alloc::{AllocError, Global};
+use std::marker::PhantomData;
 
-/// The sample's routes and catchers as an application.
-pub struct Sample;
+/// The sample's routes and catchers as an application, with the reason Q that `/stop` tells.
+pub struct Sample<Q>(PhantomData<Q>);
+
+/// An entry of a launch of the sample over links in memory, whatever its reason is.
+pub type SampleEntry = EntryOf<u64, MemorySource, MemoryLink>;
+
+/// The history of such a launch.
+pub type SampleHistory = HistoryOf<u64, MemorySource, MemoryLink>;
 
 /// The reason of an application that nothing shuts down. It has no word, and no word is allowed.
 #[derive(Clone, Copy, Debug, PartialEq, Eq)]
@@ -45,7 +53,35 @@ impl StopReason for Quiet {
     ghost alone = { λ word allowed. absurd allowed };
 }
 
-impl Types for Sample {
+/// The reason of an application that a handler shuts down. Its word alone is allowed.
+#[derive(Clone, Copy, Debug, PartialEq, Eq)]
+pub struct Handler;
+
+impl Reason for Handler {
+    ghost use Rattle.std.specs.Prelude.{◌≡◌, ⊤};
+
+    ghost allowed = { λ word. word ≡ 2 };
+
+    ghost says = { λ reason word. word ≡ 2 };
+
+    ghost stops = { λ reason. ⊤ };
+
+    fn word(self) -> u64 {
+        2
+    }
+}
+
+impl StopReason for Handler {
+    ghost stop_word = { 2 };
+
+    fn stop() -> Handler {
+        Handler
+    }
+
+    ghost alone = { λ word allowed. allowed };
+}
+
+impl<Q: StopReason> Types for Sample<Q> {
     type Source = MemorySource;
 
     type Stream = MemorySource;
@@ -54,10 +90,10 @@ impl Types for Sample {
 
     type Value = u64;
 
-    type Reason = Quiet;
+    type Reason = Q;
 }
 
-impl Parts for Sample {
+impl<Q: StopReason> Parts for Sample<Q> {
     type Handler = SampleRoute;
 
     type Catch = SampleCatcher;
@@ -65,15 +101,15 @@ impl Parts for Sample {
     type Sentinel = ();
 }
 
-impl App for Sample {
+impl<Q: StopReason> App for Sample<Q> {
     type Fairing = NoFairing;
 }
 
 // The rocket with the sample's routes behind the others.
-fn with_routes(
+fn with_routes<Q: StopReason>(
     alloc: Global,
-    rocket: Rocket<Build, Sample>,
-) -> Result<Rocket<Build, Sample>, NoMemory>
+    rocket: Rocket<Build, Sample<Q>>,
+) -> Result<Rocket<Build, Sample<Q>>, NoMemory>
     ensures { IfOk result (λ mounted. mounted ≡ record rocket { routes = rocket.routes ++ sample_routes }) }
 {
     // So the routes' bases are origins.
@@ -89,10 +125,10 @@ fn with_routes(
 }
 
 // The rocket with the sample's catchers behind the others.
-fn with_catchers(
+fn with_catchers<Q: StopReason>(
     alloc: Global,
-    rocket: Rocket<Build, Sample>,
-) -> Result<Rocket<Build, Sample>, NoMemory>
+    rocket: Rocket<Build, Sample<Q>>,
+) -> Result<Rocket<Build, Sample<Q>>, NoMemory>
     ensures { IfOk result (λ registered. registered ≡ record rocket { catchers = rocket.catchers ++ sample_catchers }) }
 {
     // So the catchers' bases are origins.
@@ -107,18 +143,19 @@ fn with_catchers(
     }
 }
 
-impl Sample {
+impl<Q: StopReason> Sample<Q> {
     /// The application with the shield, configured by a table and ready to be launched.
     pub fn rocket(
         alloc: Global,
         table: ConfigTable,
-    ) -> Result<Rocket<Ignite, Sample>, Want<IgniteError>>
+    ) -> Result<Rocket<Ignite, Sample<Q>>, Want<IgniteError>>
         ensures made { IfOk result (λ rocket. IsSample table rocket.tables) }
+        ensures table { IfOk result (λ rocket. rocket.table ≡ table) }
         ensures accepted { OnOk result (IsAccepted table) }
         // Nothing of it is refused but its table.
         ensures refused { IfRefused result (λ _. ¬ IsAccepted table) }
     {
-        let rocket = Rocket::<Build, Sample>::custom(alloc, table)?;
+        let rocket = Rocket::<Build, Sample<Q>>::custom(alloc, table)?;
         let rocket = with_routes(alloc, rocket)?;
         let rocket = with_catchers(alloc, rocket)?;
         rocket.ignite(alloc)

@@ -1,5 +1,6 @@
 //! Fairings of one kind, each over a change that the caller made.
 ghost use Rattle.std.specs.Prelude.{◌≡◌, ⊤};
+ghost use Rattle.rkt_request.specs.Lent.{MayGrow};
 ghost use Rattle.rkt_router.specs.Answers.{StepsTo};
 
 use crate::{AtOnce, Attach, ChangesRequest, ChangesResponse, Fairing, Info, Kind, Parts, Quiet};
@@ -98,6 +99,10 @@ impl<C> OnRequest<C> {
     where
         C: ChangesRequest<A>,
         ensures changes { StepsTo result (λ _. C.may self.now.change (record { request = request.old; body = body.old; kept = ctx.old.kept }) (record { request = request.new; body = body.new; kept = ctx.new.kept })) ⊤ }
+        // For want of memory too the request lends what it lent, and what the context leaves has grown.
+        ensures config { request.new.config ≡ request.old.config }
+        ensures managed { request.new.managed ≡ request.old.managed }
+        ensures grows { MayGrow ctx.old ctx.new }
     {
         match self.change.on_request(alloc, request, body, ctx) {
             Ok(()) => Step::Done(()),
@@ -171,6 +176,7 @@ impl<C> OnResponse<C> {
     where
         C: ChangesResponse<A>,
         ensures changes { StepsTo result (λ _. C.may self.now.change request.now (record { response = response.old; kept = ctx.old.kept }) (record { response = response.new; kept = ctx.new.kept })) ⊤ }
+        ensures grows { MayGrow ctx.old ctx.new }
     {
         match self.change.on_response(alloc, request, response, ctx) {
             Ok(()) => Step::Done(()),

@@ -11,8 +11,19 @@ pub struct Ignite;
 /// The phase of a rocket that serves.
 pub struct Orbit;
 
-/// A phase of an application's rocket.
-pub trait Phase<A: App> {
+// Keeps other types from being phases.
+mod sealed {
+    pub trait Sealed {}
+}
+
+impl sealed::Sealed for Build {}
+
+impl sealed::Sealed for Ignite {}
+
+impl sealed::Sealed for Orbit {}
+
+/// A phase of an application's rocket. There are no others.
+pub trait Phase<A: App>: sealed::Sealed {
     /// What a rocket of this phase is made of.
     type State: Stateful<A>;
 }

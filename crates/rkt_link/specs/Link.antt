@@ -1,12 +1,15 @@
 -- What a link means, and what its calls do.
 use Rattle.std.specs.Prelude.{◌≡◌, ◌++◌, ℕ, List, [], ◌∷◌, Bool, true, false, Option, Result, Ok, Err, option_map}
 use Rattle.std.specs.Option.{ForSome}
+use Rattle.rkt_base.specs.Counts.{Rose}
 use Rattle.rkt_base.specs.declared.poll.Poll.{Poll}
 use Rattle.rkt_base.specs.declared.poll.Poll.TheVariants.{Ready, Pending}
 use Rattle.rkt_message.specs.declared.piece.Piece.{Piece}
 use Rattle.rkt_link.specs.Asked.{Asked}
 use Rattle.rkt_link.specs.declared.link.Handed.{Handed}
 use Rattle.rkt_link.specs.declared.link.Handed.TheVariants.{Taken, Back, Refused}
+use Rattle.rkt_link.specs.declared.link.SendError.{SendError}
+use Rattle.rkt_link.specs.declared.link.SendError.TheVariants.{Fault, NoMemory}
 
 pub record LinkMeaning : Type 0 where
   -- what it asks, where it tells that
@@ -28,17 +31,28 @@ with_source_taken link = record link { source_taken = true }
 abbrev pub with_taken : LinkMeaning → List Piece → LinkMeaning
 with_taken link pieces = record link { held = option_map (λ held. held ++ pieces) link.held }
 
--- a link after a send: a piece that was taken is held, and any other answer changes nothing
-abbrev pub after_send : {E : Type 0} → Poll (Result (Unit {0}) E) → LinkMeaning → Piece → LinkMeaning
-after_send (Ready (Ok taken)) link piece = with_taken link (piece ∷ [])
-after_send (Ready (Err e)) link piece = link
-after_send Pending link piece = link
+-- a fault is counted, and changes nothing else; a link that says that it never fails has none
+pub record Faults (old new : LinkMeaning) : Type 0 where
+  pub only : new ≡ record old { faults = new.faults }
+  pub rose : Rose old.faults new.faults
+  pub may : old.never_faults ≡ false
+
+-- what a piece that was not taken changes
+abbrev pub AfterError : SendError → LinkMeaning → LinkMeaning → Type 0
+AfterError Fault old new = Faults old new
+AfterError NoMemory old new = new ≡ old
+
+-- a link after a send: a piece that was taken is held, a fault is counted, and any other answer changes nothing
+abbrev pub AfterSend : Poll (Result (Unit {0}) SendError) → LinkMeaning → Piece → LinkMeaning → Type 0
+AfterSend (Ready (Ok taken)) old piece new = new ≡ with_taken old (piece ∷ [])
+AfterSend (Ready (Err e)) old piece new = AfterError e old new
+AfterSend Pending old piece new = new ≡ old
 
 -- the same after a piece was handed over
-abbrev pub after_hand : Handed → LinkMeaning → Piece → LinkMeaning
-after_hand Taken link piece = with_taken link (piece ∷ [])
-after_hand (Back other) link piece = link
-after_hand (Refused e) link piece = link
+abbrev pub AfterHand : Handed → LinkMeaning → Piece → LinkMeaning → Type 0
+AfterHand Taken old piece new = new ≡ with_taken old (piece ∷ [])
+AfterHand (Back other) old piece new = new ≡ old
+AfterHand (Refused e) old piece new = AfterError e old new
 
 -- what comes back is that piece
 abbrev pub ComesBack : Handed → Piece → Type 0

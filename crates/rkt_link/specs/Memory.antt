@@ -1,5 +1,5 @@
 -- What the objects in memory keep, and what they mean.
-use Rattle.std.specs.Prelude.{◌≡◌, ◌≤◌, ℕ, max, List, [], ◌∷◌, Bool, true, false, IfSome, Option, Some, length, map, take, drop}
+use Rattle.std.specs.Prelude.{◌≡◌, ◌≤◌, ℕ, max, List, [], ◌∷◌, Bool, true, false, IfSome, Option, Some, length, map, nat_eq, take, drop}
 use Rattle.std.proofs.Common.{ap, sym}
 use Rattle.std.specs.List.{AllByRecursion}
 use Rattle.std.specs.Option.{option_map_or}
@@ -18,20 +18,30 @@ pub record LinkInMemory : Type 0 where
   pub source_taken : Bool
   -- the pieces that it has taken
   pub held : List Piece
+  -- the numbers of the sends that fail
+  pub fails : List ℕ
+  pub sends : ℕ
+  pub faults : ℕ
+
+-- where none is to fail, none does
+abbrev pub never_fails : List ℕ → Bool
+never_fails fails = nat_eq (length fails) 0
 
 abbrev pub asked_of : LinkInMemory → Asked
-asked_of link = record { head = link.head; body = Some link.body; body_never_faults = true; never_faults = true }
+asked_of link = record { head = link.head; body = Some link.body; body_never_faults = true; never_faults = never_fails link.fails }
 
--- a link in memory tells all, and never fails
+-- a link in memory tells all
 abbrev pub link_meaning : LinkInMemory → LinkMeaning
-link_meaning link = record { asked = Some (asked_of link); source_taken = link.source_taken; held = Some link.held; faults = 0; never_faults = true }
+link_meaning link = record { asked = Some (asked_of link); source_taken = link.source_taken; held = Some link.held; faults = link.faults; never_faults = never_fails link.fails }
 
 pub says_so : (link : LinkInMemory) (asked : Asked) → (link_meaning link).asked ≡ Some asked → asked.never_faults ≡ (link_meaning link).never_faults
 says_so link asked told = ap (λ (o : Option Asked). option_map_or (λ a. a.never_faults) o true) (sym told)
 
 -- nothing was taken from it and sent to it
-abbrev pub IsUnused : LinkInMemory → Type 0
-IsUnused link = (link.source_taken ≡ false) × (link.held ≡ [])
+pub record IsUnused (link : LinkInMemory) : Type 0 where
+  pub source_there : link.source_taken ≡ false
+  pub none_held : link.held ≡ []
+  pub no_fault : link.faults ≡ 0
 
 -- a source of the whole body, which gives all that it is asked for
 abbrev pub whole_source : List ℕ → SourceInMemory
@@ -49,11 +59,14 @@ pub record ListenerInMemory : Type 0 where
   pub ended : Bool
   -- the numbers of the polls that are Pending
   pub pends : List ℕ
+  -- the numbers of the polls that fail
+  pub fails : List ℕ
   pub polls : ℕ
+  pub faults : ℕ
 
--- a listener in memory tells all, and never fails
+-- a listener in memory tells all
 abbrev pub listener_meaning : ListenerInMemory → ListenerMeaning
-listener_meaning l = record { given = Some (map asked_of (take l.given l.offered)); offers = Some (map asked_of l.offered); ended = l.ended; faults = 0; never_faults = true }
+listener_meaning l = record { given = Some (map asked_of (take l.given l.offered)); offers = Some (map asked_of l.offered); ended = l.ended; faults = l.faults; never_faults = never_fails l.fails }
 
 -- the links that are left are those not yet given
 pub record IsListenerInMemory (left offered : List LinkInMemory) (given : ℕ) (ended : Bool) : Type 0 where

@@ -3,7 +3,7 @@ ghost use Rattle.std.specs.Prelude.{◌≡◌, ◌↔◌, false, IfSome, IsSome}
 ghost use Rattle.std.specs.Option.{ForSome};
 ghost use Rattle.rkt_base.specs.declared.poll.Poll.{Poll};
 ghost use Rattle.rkt_link.specs.Asked.{GivesBody, IsUntouched};
-ghost use Rattle.rkt_link.specs.Link.{LinkMeaning, with_source_taken, after_send, after_hand, ComesBack};
+ghost use Rattle.rkt_link.specs.Link.{LinkMeaning, with_source_taken, AfterSend, AfterHand, ComesBack};
 
 use rkt_base::Poll;
 use rkt_data::{Shut, Source};
@@ -13,6 +13,9 @@ use rkt_request::Head;
 /// Why a piece was not taken.
 #[derive(Clone, Copy, Debug, PartialEq, Eq)]
 pub enum SendError {
+    /// The link has failed, and has counted it.
+    Fault,
+    /// There was no memory for it.
     NoMemory,
 }
 
@@ -48,11 +51,11 @@ pub trait Link: Shut {
 
     /// Takes a piece of the response.
     fn poll_send(&mut self, piece: &Piece) -> Poll<Result<(), SendError>>
-        ensures { meaning self.new ≡ after_send result (meaning self.old) piece.now };
+        ensures { AfterSend result (meaning self.old) piece.now (meaning self.new) };
 
     /// Takes a piece that nobody else needs: `poll_send`, for a link that would copy it.
     fn poll_hand(&mut self, piece: Piece) -> Handed
-        ensures link { meaning self.new ≡ after_hand result (meaning self.old) piece }
+        ensures link { AfterHand result (meaning self.old) piece (meaning self.new) }
         ensures back { ComesBack result piece }
     {
         match self.poll_send(&piece) {

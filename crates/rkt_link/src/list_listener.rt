@@ -12,7 +12,7 @@ use std::marker::Model;
 use std::snapshot::Snapshot;
 
 /// A listener that gives its links one after another, and then ends. The polls whose numbers, from 0, stand in `pends`
-/// are Pending, until it has ended; each poll looks through that list.
+/// are Pending, and those in `fails` are faults, until it has ended; each poll looks through these lists.
 #[derive(Drop)]
 pub struct ListListener {
     links: VecDeque<MemoryLink>,
@@ -20,7 +20,9 @@ pub struct ListListener {
     given: usize,
     ended: bool,
     pends: Vec<u64>,
+    fails: Vec<u64>,
     polls: u64,
+    faults: u64,
 }
 
 impl Model for ListListener {
@@ -28,7 +30,7 @@ impl Model for ListListener {
 
     ghost Value = { ListenerInMemory };
 
-    ghost view = { λ l. record { offered = l.offered.value.items; given = l.given; ended = l.ended; pends = l.pends.items; polls = l.polls } };
+    ghost view = { λ l. record { offered = l.offered.value.items; given = l.given; ended = l.ended; pends = l.pends.items; fails = l.fails.items; polls = l.polls; faults = l.faults } };
 
     ghost invariant = { λ l. IsListenerInMemory l.links.items l.offered.value.items l.given l.ended };
 }
@@ -39,10 +41,11 @@ impl ListListener {
         _alloc: Global,
         links: Vec<MemoryLink>,
         pends: Vec<u64>,
+        fails: Vec<u64>,
     ) -> Result<ListListener, NoMemory>
         requires fresh { AllByRecursion IsUnused links.items }
         ensures fresh { IfOk result (λ l. IsFresh (listener_meaning l)) }
-        ensures made { IfOk result (λ l. l ≡ record { offered = links.items; given = 0; ended = false; pends = pends.items; polls = 0 }) }
+        ensures made { IfOk result (λ l. l ≡ record { offered = links.items; given = 0; ended = false; pends = pends.items; fails = fails.items; polls = 0; faults = 0 }) }
     {
         let offered = Snapshot::of(&links);
         Ok(ListListener {
@@ -51,7 +54,9 @@ impl ListListener {
             given: 0,
             ended: false,
             pends,
+            fails,
             polls: 0,
+            faults: 0,
         })
     }
 }
@@ -71,6 +76,10 @@ impl Listener for ListListener {
         self.polls = poll.saturating_add(1);
         if self.pends.contains(&poll) {
             return Poll::Pending;
+        }
+        if self.fails.contains(&poll) {
+            self.faults = self.faults.saturating_add(1);
+            return Poll::Ready(Accepted::Fault);
         }
         match self.links.pop_front() {
             Some(link) => {

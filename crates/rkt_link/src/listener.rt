@@ -1,7 +1,7 @@
 //! Where links come from.
 ghost use Rattle.std.specs.Prelude.{◌≡◌, true};
 ghost use Rattle.std.specs.Option.{ForSome};
-ghost use Rattle.rkt_link.specs.Listener.{ListenerMeaning, Gives, GivesFresh, EndsAs, EndsAt, Settled};
+ghost use Rattle.rkt_link.specs.Listener.{ListenerMeaning, Gives, GivesFresh, EndsAs, EndsAt, FaultsAs, Settled};
 
 use crate::Link;
 use rkt_base::Poll;
@@ -13,6 +13,8 @@ pub enum Accepted<K> {
     Given(K),
     /// There is no further link, now and from now on.
     End,
+    /// The listener has failed, and has counted it.
+    Fault,
 }
 
 /// A source of links.
@@ -28,5 +30,6 @@ pub trait Listener: Drop {
         ensures fresh { GivesFresh Self.Link.meaning result }
         ensures ended { EndsAs (meaning self.old).ended result (meaning self.new).ended }
         ensures offers { EndsAt (meaning self.old) result }
+        ensures faults { FaultsAs (meaning self.old) result (meaning self.new) }
         ensures settled { Settled (meaning self.old) (meaning self.new) };
 }

@@ -1,5 +1,8 @@
 //! A link in memory.
-ghost use Rattle.std.specs.Prelude.{◌≡◌, ◌++◌, ◌∷◌, [], false, List, IfOk, OnOk, OnErr};
+ghost use Rattle.std.specs.Prelude.{◌≡◌, ◌++◌, ◌∷◌, [], false, List, IfOk, IsTrue, OnOk, OnErr};
+ghost use Rattle.rkt_base.specs.Counts.{Rose};
+ghost use Rattle.rkt_source.specs.Memory.{counted, is_listed};
+ghost use Rattle.rkt_link.specs.Memory.{never_fails};
 
 use crate::{Handed, Link, SendError};
 use rkt_base::{NoMemory, Poll};
@@ -9,8 +12,9 @@ use rkt_request::Head;
 use std::alloc::Global;
 use std::marker::Model;
 
-/// A link that keeps what it asks, and the pieces that it takes. It keeps the bytes of the body beside their source. It is
-/// moved from hand to hand, so all this is on the heap.
+/// A link that keeps what it asks, and the pieces that it takes. It keeps the bytes of the body beside their source. The sends
+/// whose numbers, from 0, stand in `fails` are faults; each send looks through that list. It is moved from hand to hand, so all
+/// this is on the heap.
 #[derive(Debug, Drop)]
 pub struct MemoryLink {
     kept: Box<Kept>,
@@ -23,6 +27,9 @@ struct Kept {
     body: Vec<u8>,
     source: Option<MemorySource>,
     held: Vec<Piece>,
+    fails: Vec<u64>,
+    sends: u64,
+    faults: u64,
 }
 
 impl Model for MemoryLink {
@@ -31,7 +38,7 @@ impl Model for MemoryLink {
 
     ghost Value = { LinkInMemory };
 
-    ghost view = { λ k. record { head = k.kept.value.head; body = k.kept.value.body.items; source_taken = is_none k.kept.value.source; held = k.kept.value.held.items } };
+    ghost view = { λ k. record { head = k.kept.value.head; body = k.kept.value.body.items; source_taken = is_none k.kept.value.source; held = k.kept.value.held.items; fails = k.kept.value.fails.items; sends = k.kept.value.sends; faults = k.kept.value.faults } };
 
     ghost invariant = { λ k. StandsBy k.kept.value.source k.kept.value.body.items };
 }
@@ -53,8 +60,13 @@ fn hold(held: &mut Vec<Piece>, piece: Piece) -> Result<(), NoMemory>
 
 impl MemoryLink {
     /// A link that asks this, with these bytes as the body, and has taken nothing.
-    pub fn new(alloc: Global, head: Head, bytes: Vec<u8>) -> Result<MemoryLink, NoMemory>
-        ensures { IfOk result (λ link. link ≡ record { head = head; body = bytes.items; source_taken = false; held = [] }) }
+    pub fn new(
+        alloc: Global,
+        head: Head,
+        bytes: Vec<u8>,
+        fails: Vec<u64>,
+    ) -> Result<MemoryLink, NoMemory>
+        ensures { IfOk result (λ link. link ≡ record { head = head; body = bytes.items; source_taken = false; held = []; fails = fails.items; sends = 0; faults = 0 }) }
     {
         let source = MemorySource::new(bytes.clone()?, bytes.len(), Vec::new(alloc));
         let kept = Box::new(
@@ -64,6 +76,9 @@ impl MemoryLink {
                 body: bytes,
                 source: Some(source),
                 held: Vec::new(alloc),
+                fails,
+                sends: 0,
+                faults: 0,
             },
         )?;
         Ok(MemoryLink { kept, alloc })
@@ -81,6 +96,28 @@ impl MemoryLink {
         ensures { result.now ≡ self.now.held }
     {
         self.kept.held.as_slice()
+    }
+
+    /// How often it has failed.
+    pub fn faults(&self) -> u64
+        ensures { result ≡ self.now.faults }
+    {
+        self.kept.faults
+    }
+
+    // Counts one send more, and whether it fails.
+    fn count_send(&mut self) -> bool
+        ensures sends { self.new ≡ record self.old { sends = counted self.old.sends; faults = self.new.faults } }
+        ensures fails { IsTrue result → Rose self.old.faults self.new.faults × (never_fails self.old.fails ≡ false) }
+        ensures passes { result ≡ false → self.new.faults ≡ self.old.faults }
+        ensures listed { result ≡ is_listed self.old.fails self.old.sends }
+    {
+        let fails = self.kept.fails.contains(&self.kept.sends);
+        self.kept.sends = self.kept.sends.saturating_add(1);
+        if fails {
+            self.kept.faults = self.kept.faults.saturating_add(1);
+        }
+        fails
     }
 }
 
@@ -111,6 +148,9 @@ impl Link for MemoryLink {
     }
 
     fn poll_send(&mut self, piece: &Piece) -> Poll<Result<(), SendError>> {
+        if self.count_send() {
+            return Poll::Ready(Err(SendError::Fault));
+        }
         let Ok(copy) = piece.try_clone(self.alloc) else {
             return Poll::Ready(Err(SendError::NoMemory));
         };
@@ -121,6 +161,9 @@ impl Link for MemoryLink {
     }
 
     fn poll_hand(&mut self, piece: Piece) -> Handed {
+        if self.count_send() {
+            return Handed::Refused(SendError::Fault);
+        }
         match hold(&mut self.kept.held, piece) {
             Ok(()) => Handed::Taken,
             Err(_) => Handed::Refused(SendError::NoMemory),

@@ -1,5 +1,5 @@
 -- What is launched, as a closed board leaves it.
-use Rattle.std.proofs.Common.{inl, inr, ◌≡◌, ◌<◌, ◌⊎◌, ◌∙◌, ℕ, List, Option, None, Some, Result, Ok, Err, true, false, sym, ap, subst}
+use Rattle.std.proofs.Common.{inl, inr, ◌≡◌, ◌<◌, ◌⊎◌, ◌∙◌, ℕ, Bool, List, [], ◌∷◌, Option, None, Some, Result, Ok, Err, true, false, refl, sym, ap, subst, arith}
 use Rattle.std.specs.Prelude.{IfOk, IfSome}
 use Rattle.std.specs.List.{AllByRecursion, list_any}
 use Rattle.std.specs.Option.{ForSome}
@@ -11,18 +11,20 @@ use Rattle.rkt_link.specs.Listener.{ListenerMeaning, Settled}
 use Rattle.rkt_orbit.specs.Calls.{CallingAtShutdown}
 use Rattle.rkt_turn.specs.HandsBack.{HandsBack}
 use Rattle.rkt_turn.specs.Shutdown.{Handle}
+use Rattle.rkt_board.specs.Board.{SoundAs}
 use Rattle.rkt_board.specs.Closed.{AllAdmitted, HasEntry as Entered}
 use Rattle.rkt_board.specs.Events.{is_trip, admitted, trip_of, Ordered, IsClosed, EachEndsOnce}
 use Rattle.rkt_board.specs.declared.closing.ClosedOf.{ClosedOf}
 use Rattle.rkt_board.specs.declared.history.EventOf.{EventOf}
+use Rattle.rkt_board.specs.declared.history.EventOf.TheVariants.{Lift, Trip, Admit, End, Down, Close}
 use Rattle.rkt_board.specs.declared.history.HistoryOf.{HistoryOf}
 use Rattle.rkt_serve.proofs.Handles.{hands_back_more}
 use Rattle.rkt_serve.specs.Causes.{AllCaused, CauseAt}
 use Rattle.rkt_serve.specs.Headline.{AllTimed, HasEntry, IsCallers, IsLegal, IsOver}
 use Rattle.rkt_ignition.specs.declared.error.IgniteError.{IgniteError}
-use Rattle.rkt_serve.specs.Kept.{GivesBack, IfUnlit, IsWant}
+use Rattle.rkt_serve.specs.Kept.{GivesBack, IfUnlit, IsLit}
 use Rattle.rkt_serve.specs.declared.error.ErrorKindOf.{ErrorKindOf}
-use Rattle.rkt_serve.specs.declared.error.ErrorKindOf.TheVariants.{Ignition, NoMemory}
+use Rattle.rkt_serve.specs.declared.error.ErrorKindOf.TheVariants.{Ignition, Shutdown, NoMemory}
 use Rattle.rkt_serve.specs.Left.{IsLeft}
 use Rattle.rkt_serve.specs.Serving.{Serving}
 use Rattle.rkt_serve.specs.declared.error.LaunchedOf.{LaunchedOf}
@@ -38,7 +40,7 @@ module _ {V S C R F FTask GTask STask H HTask K KTask L N X Q : Type 0} (allowed
 
 -- the same, of a board whose handle had not come back
 pub left_back : {F H K N V X Q R : Type 0} (tables : SeenTables F H K N V) (table : List (List ℕ × List ℕ)) (closed : ClosedOf X Q Handle R) (handle : Handle) (launched : LaunchedOf (SeenRocket F H K N V) X Q R) → HandsBack closed.handle handle
-    → IsLeft tables table (record { listener = closed.listener; clock = closed.clock; handle = handle; over = closed.over; history = closed.history }) launched → IsLeft tables table closed launched
+    → IsLeft tables table (record { listener = closed.listener; clock = closed.clock; handle = handle; over = closed.over; faulted = closed.faulted; history = closed.history }) launched → IsLeft tables table closed launched
 left_back tables table closed handle launched back is = record {
   tables_are = is.tables_are;
   table_is = is.table_is;
@@ -69,8 +71,17 @@ module _ {F H K N V X Q C R L : Type 0} (tables : SeenTables F H K N V) (table :
   left_offers listeners offers all (inl over) none = rw is.listener (all over)
   left_offers listeners offers all (inr trip) none = absurd (cc (trip, rw is.history at none))
 
-  pub left_sound : (listeners : X → ListenerMeaning) (old : ListenerMeaning) → Settled old (listeners closed.listener) → old.faults ≡ 0 → (listeners launched.listener).faults ≡ 0
-  left_sound listeners old settled none = rw is.listener (settled.faults ∙ none)
+  pub left_sound : (listeners : X → ListenerMeaning) (old : ListenerMeaning) → SoundAs closed.faulted old (listeners closed.listener) → closed.faulted ≡ false → old.faults ≡ 0 → (listeners launched.listener).faults ≡ 0
+  left_sound listeners old sound goes none = rw is.listener (subst (λ (b : Bool). SoundAs b old (listeners closed.listener)) goes sound ∙ none)
+
+  -- one that has failed has counted it
+  pub left_failed : (listeners : X → ListenerMeaning) (old : ListenerMeaning) → SoundAs closed.faulted old (listeners closed.listener) → closed.faulted ≡ true → 0 < (listeners launched.listener).faults
+  left_failed listeners old sound failed =
+      let fault = subst (λ (b : Bool). SoundAs b old (listeners closed.listener)) failed sound in
+      rw is.listener (omega (arith, fault.0))
+
+  pub left_settled : (listeners : X → ListenerMeaning) (old : ListenerMeaning) → Settled old (listeners closed.listener) → Settled old (listeners launched.listener)
+  left_settled listeners old settled = rw is.listener settled
 
   pub left_window : (clocks : Q → ClockMeaning) (old : ClockMeaning) → TellsOn old (clocks closed.clock) → (clocks launched.clock).window ≡ old.window
   left_window clocks old tells = rw is.clock tells.window
@@ -94,6 +105,21 @@ module _ {V S C R F FTask GTask STask H HTask K KTask L N : Type 0} (allowed : �
     callers = subst (AllByRecursion IsCallers) (sym is) callers;
   }
 
+-- where no Trip is found, there is none
+pub none_found : {C R L : Type 0} (es : List (EventOf C R L)) → trip_of es ≡ None → list_any is_trip es ≡ false
+none_found [] none = refl
+none_found (Trip w m ∷ es) none = absurd (cc none)
+none_found (Lift calls ∷ es) none = none_found es none
+none_found (Admit n m b ∷ es) none = none_found es none
+none_found (End n x m b ∷ es) none = none_found es none
+none_found (Down calls ∷ es) none = none_found es none
+none_found (Close m ∷ es) none = none_found es none
+
+-- a listener that says that it never fails has not
+pub never_failed : (faulted : Bool) (old new : ListenerMeaning) → SoundAs faulted old new → old.never_faults ≡ true → faulted ≡ false
+never_failed false old new sound never = refl
+never_failed true old new sound never = absurd (cc (sound.1, never))
+
 -- a handle that liftoff had, that was looked at more, and then taken back
 pub back_to : (first lent left closed after : Handle) → lent ≡ first → HandsBack lent left → HandsBack left closed → HandsBack closed after → HandsBack first after
 back_to first lent left closed after same lifted one two = subst (λ (h : Handle). HandsBack h after) same (hands_back_more lent left after lifted (hands_back_more left closed after one two))
@@ -108,11 +134,13 @@ pub if_both : {X E : Type 0} (answer : Result X E) (P Q T : X → Type 0) → ((
 if_both (Ok x) P Q T so one two = so x one two
 if_both (Err error) P Q T so one two = tt
 
--- want of memory is no refusal
-pub unlit_want : {M X Q : Type 0} (P : IgniteError → Type 0) (error : ErrorKindOf M X Q) → IsWant error → IfUnlit error P
-unlit_want P (NoMemory kept) want = tt
-unlit_want P (Ignition fault listener clock) want = absurd want
+-- what has ignited is not refused
+pub unlit_lit : {M X Q : Type 0} (P : IgniteError → Type 0) (error : ErrorKindOf M X Q) → IsLit error → IfUnlit error P
+unlit_lit P (NoMemory kept) lit = tt
+unlit_lit P (Shutdown launched) lit = tt
+unlit_lit P (Ignition fault listener clock) lit = absurd lit
 
-pub gives_want : {M X Q : Type 0} (listener : X) (clock : Q) (error : ErrorKindOf M X Q) → IsWant error → GivesBack listener clock error
-gives_want listener clock (NoMemory kept) want = tt
-gives_want listener clock (Ignition fault l c) want = absurd want
+pub gives_lit : {M X Q : Type 0} (listener : X) (clock : Q) (error : ErrorKindOf M X Q) → IsLit error → GivesBack listener clock error
+gives_lit listener clock (NoMemory kept) lit = tt
+gives_lit listener clock (Shutdown launched) lit = tt
+gives_lit listener clock (Ignition fault l c) lit = absurd lit

@@ -1,11 +1,30 @@
 -- What an error of a launch keeps.
-use Rattle.std.proofs.Common.{Some, None}
-use Rattle.rkt_serve.specs.Kept.{IfKept}
+use Rattle.std.proofs.Common.{Some, None, Result, Ok, Err}
+use Rattle.std.specs.Prelude.{IfErr}
+use Rattle.rkt_serve.specs.Kept.{IfKept, IfShutdown, IfWanting}
 use Rattle.rkt_serve.specs.declared.error.ErrorKindOf.{ErrorKindOf}
-use Rattle.rkt_serve.specs.declared.error.ErrorKindOf.TheVariants.{Ignition, NoMemory}
+use Rattle.rkt_serve.specs.declared.error.ErrorKindOf.TheVariants.{Ignition, Shutdown, NoMemory}
 
 -- a fact of what an error keeps, by another one
 pub if_kept : {M L C : Type 0} (P Q : M → Type 0) → ((launched : M) → P launched → Q launched) → (error : ErrorKindOf M L C) → IfKept error P → IfKept error Q
 if_kept P Q so (NoMemory None) known = tt
 if_kept P Q so (NoMemory (Some launched)) known = so launched known
+if_kept P Q so (Shutdown launched) known = so launched known
 if_kept P Q so (Ignition fault listener clock) known = tt
+
+-- and with what is known where there was no memory
+pub if_wanting : {M L C T : Type 0} (P Q : M → Type 0) (N : Type 0) → ((launched : M) → P launched → N → Q launched) → (answer : Result T (ErrorKindOf M L C)) → IfErr answer (λ e. IfKept e P) → IfErr answer (λ e. IfWanting e (λ launched. N))
+    → IfErr answer (λ e. IfWanting e Q)
+if_wanting P Q N so (Ok t) kept known = tt
+if_wanting P Q N so (Err (NoMemory None)) kept known = tt
+if_wanting P Q N so (Err (NoMemory (Some launched))) kept known = so launched kept known
+if_wanting P Q N so (Err (Shutdown launched)) kept known = tt
+if_wanting P Q N so (Err (Ignition fault listener clock)) kept known = tt
+
+-- and with what is known where the listener failed
+pub if_shutdown : {M L C T : Type 0} (P Q : M → Type 0) (N : Type 0) → ((launched : M) → P launched → N → Q launched) → (answer : Result T (ErrorKindOf M L C)) → IfErr answer (λ e. IfKept e P) → IfErr answer (λ e. IfShutdown e (λ launched. N))
+    → IfErr answer (λ e. IfShutdown e Q)
+if_shutdown P Q N so (Ok t) kept known = tt
+if_shutdown P Q N so (Err (NoMemory kept)) kept' known = tt
+if_shutdown P Q N so (Err (Shutdown launched)) kept known = so launched kept known
+if_shutdown P Q N so (Err (Ignition fault listener clock)) kept known = tt

@@ -10,13 +10,13 @@ use Rattle.rkt_message.specs.Response.{ResponseOf}
 use Rattle.rkt_message.specs.Sending.{ReadOn}
 use Rattle.rkt_message.specs.declared.piece.Piece.{Piece}
 use Rattle.rkt_routing.specs.Routed.{turns_of}
-use Rattle.rkt_serve.specs.Causes.{CausedAs, Caused}
+use Rattle.rkt_serve.specs.Causes.{CausedAs, Caused, HasFailed, Ran}
 use Rattle.rkt_serve.specs.Lifecycle.{Lifecycle}
 use Rattle.rkt_link.specs.Link.{LinkMeaning, with_taken}
-use Rattle.rkt_serve.specs.Sent.{IsSentAs}
+use Rattle.rkt_serve.specs.Sent.{IsSentAs, LeftBy}
 use Rattle.rkt_serve.specs.Serving.{Serving, callbacks_of}
 use Rattle.rkt_board.specs.declared.history.End.{End as Ending}
-use Rattle.rkt_board.specs.declared.history.End.TheVariants.{Answered, Failed, Starved}
+use Rattle.rkt_board.specs.declared.history.End.TheVariants.{Answered, Lost, Failed, Starved}
 use Rattle.rkt_board.specs.declared.history.EntryOf.{EntryOf}
 
 taken_none : (h : Option (List Piece)) → option_map (λ held. held ++ []) h ≡ h
@@ -38,45 +38,55 @@ held_only : (h : Option (List Piece)) (pieces held : List Piece) → ForSome h (
 held_only None pieces held fresh is = absurd (cc is)
 held_only (Some old) pieces held fresh is = let empty : old ≡ [] = fresh old refl in grind (arith, common_steps, empty, is)
 
--- a run whose response was sent on a fresh link
-pub caused_sent : {V S C R F FTask GTask H HTask K KTask L N : Type 0} (served : Serving V S C R F FTask GTask H HTask K KTask L) (tables : SeenTables F H K N V) (entry : EntryOf C R L) (old : LinkMeaning) (run : RunOf C)
-    (first response : ResponseOf R) (ended : Ending) (taken : List Piece) → entry ≡ record { link = entry.link; run = Some run; response = Some response; end = ended }
-    → ForSome old.asked (λ asked. Lifecycle (callbacks_of served tables) tables served.sources asked run first) → ForSome old.held (λ held. held ≡ []) → ReadOn served.streams first response
-    → ReadsOn served.streams None first.body.content response.body.content → IsSentAs served.streams (turns_of (table_of tables)) first response ended taken → served.links entry.link ≡ with_taken old taken → Caused served tables entry
-caused_sent served tables entry old run first response Starved taken is lifecycle fresh on untripped sent linked = absurd sent
-caused_sent served tables entry old run first response Answered taken is lifecycle fresh on untripped sent linked =
-    subst (CausedAs served tables entry) (sym (ap (λ (e : EntryOf _ _ _). e.end) is)) (record {
-      run = run;
-      run_kept = ap (λ (e : EntryOf _ _ _). e.run) is;
-      first = first;
-      lifecycle = λ asked told. lifecycle asked (sym (ap (λ (m : LinkMeaning). m.asked) linked) ∙ told);
-      response = response;
-      response_kept = ap (λ (e : EntryOf _ _ _). e.response) is;
-      read_on = on;
-      untripped = untripped;
-      pieces = taken;
-      sent = sent;
-      held = λ held told. held_only old.held taken held fresh (sym (ap (λ (m : LinkMeaning). m.held) linked) ∙ told);
-    })
-caused_sent served tables entry old run first response (Failed failure) taken is lifecycle fresh on untripped sent linked =
-    subst (CausedAs served tables entry) (sym (ap (λ (e : EntryOf _ _ _). e.end) is)) (record {
-      run = run;
-      run_kept = ap (λ (e : EntryOf _ _ _). e.run) is;
-      first = first;
-      lifecycle = λ asked told. lifecycle asked (sym (ap (λ (m : LinkMeaning). m.asked) linked) ∙ told);
-      response = response;
-      response_kept = ap (λ (e : EntryOf _ _ _). e.response) is;
-      read_on = on;
-      untripped = untripped;
-      pieces = taken;
-      sent = sent;
-      held = λ held told. held_only old.held taken held fresh (sym (ap (λ (m : LinkMeaning). m.held) linked) ∙ told);
-    })
+-- what a link asks and holds that took these pieces, however that ended
+left_asked : (ended : Ending) (old new : LinkMeaning) (taken : List Piece) → LeftBy ended old taken new → new.asked ≡ old.asked
+left_asked Answered old new taken left = ap (λ (m : LinkMeaning). m.asked) left
+left_asked Lost old new taken left = ap (λ (m : LinkMeaning). m.asked) left.only
+left_asked (Failed failure) old new taken left = ap (λ (m : LinkMeaning). m.asked) left
+left_asked Starved old new taken left = ap (λ (m : LinkMeaning). m.asked) left
+
+left_held : (ended : Ending) (old new : LinkMeaning) (taken : List Piece) → LeftBy ended old taken new → new.held ≡ (with_taken old taken).held
+left_held Answered old new taken left = ap (λ (m : LinkMeaning). m.held) left
+left_held Lost old new taken left = ap (λ (m : LinkMeaning). m.held) left.only
+left_held (Failed failure) old new taken left = ap (λ (m : LinkMeaning). m.held) left
+left_held Starved old new taken left = ap (λ (m : LinkMeaning). m.held) left
+
+-- a link that was lost has failed
+lost_failed : (old new : LinkMeaning) (taken : List Piece) → LeftBy Lost old taken new → HasFailed new
+lost_failed old new taken left = record { counted = omega (arith, left.rose); may = ap (λ (m : LinkMeaning). m.never_faults) left.only ∙ left.may }
+
+module _ {V S C R F FTask GTask H HTask K KTask L N : Type 0} (served : Serving V S C R F FTask GTask H HTask K KTask L) (tables : SeenTables F H K N V) (entry : EntryOf C R L) (old : LinkMeaning) (run : RunOf C) (first response : ResponseOf R) where
+  -- a run whose response was sent on a fresh link, and that is kept
+  ran_sent : (ended : Ending) (taken : List Piece) → entry ≡ record { link = entry.link; run = Some run; response = Some response; end = ended }
+      → ForSome old.asked (λ asked. Lifecycle (callbacks_of served tables) tables served.sources asked run first) → ForSome old.held (λ held. held ≡ []) → ReadOn served.streams first response
+      → ReadsOn served.streams None first.body.content response.body.content → IsSentAs served.streams (turns_of (table_of tables)) first response ended taken → LeftBy ended old taken (served.links entry.link) → Ran served tables entry ended
+  ran_sent ended taken is lifecycle fresh on untripped sent left = record {
+    run = run;
+    run_kept = ap (λ (e : EntryOf _ _ _). e.run) is;
+    first = first;
+    lifecycle = λ asked told. lifecycle asked (sym (left_asked ended old (served.links entry.link) taken left) ∙ told);
+    response = response;
+    response_kept = ap (λ (e : EntryOf _ _ _). e.response) is;
+    read_on = on;
+    untripped = untripped;
+    pieces = taken;
+    sent = sent;
+    held = λ held told. held_only old.held taken held fresh (sym (left_held ended old (served.links entry.link) taken left) ∙ told);
+  }
+
+  -- so its end has its cause
+  pub caused_sent : (ended : Ending) (taken : List Piece) → entry ≡ record { link = entry.link; run = Some run; response = Some response; end = ended }
+      → ForSome old.asked (λ asked. Lifecycle (callbacks_of served tables) tables served.sources asked run first) → ForSome old.held (λ held. held ≡ []) → ReadOn served.streams first response
+      → ReadsOn served.streams None first.body.content response.body.content → IsSentAs served.streams (turns_of (table_of tables)) first response ended taken → LeftBy ended old taken (served.links entry.link) → Caused served tables entry
+  caused_sent Starved taken is lifecycle fresh on untripped sent left = absurd sent
+  caused_sent Answered taken is lifecycle fresh on untripped sent left = subst (CausedAs served tables entry) (sym (ap (λ (e : EntryOf _ _ _). e.end) is)) (ran_sent Answered taken is lifecycle fresh on untripped sent left)
+  caused_sent Lost taken is lifecycle fresh on untripped sent left = subst (CausedAs served tables entry) (sym (ap (λ (e : EntryOf _ _ _). e.end) is)) (ran_sent Lost taken is lifecycle fresh on untripped sent left, lost_failed old (served.links entry.link) taken left)
+  caused_sent (Failed failure) taken is lifecycle fresh on untripped sent left = subst (CausedAs served tables entry) (sym (ap (λ (e : EntryOf _ _ _). e.end) is)) (ran_sent (Failed failure) taken is lifecycle fresh on untripped sent left)
 
 -- how a sending ended, said of equal values
 pub ended_as : {S E : Type 0} (stream : S → Meaning) (answer : Result Ending E) (turns n : ℕ) (begun first last left : ResponseOf S) (old new : LinkMeaning) → turns ≡ n → begun ≡ first → last ≡ left
-    → IfOk answer (λ ended. (taken : List Piece) × IsSentAs stream turns begun last ended taken × (new ≡ with_taken old taken))
-    → IfOk answer (λ ended. (taken : List Piece) × IsSentAs stream n first left ended taken × (new ≡ with_taken old taken))
+    → IfOk answer (λ ended. (taken : List Piece) × IsSentAs stream turns begun last ended taken × LeftBy ended old taken new)
+    → IfOk answer (λ ended. (taken : List Piece) × IsSentAs stream n first left ended taken × LeftBy ended old taken new)
 ended_as stream (Err e) turns n begun first last left old new same_turns same_first same_left ended = tt
 ended_as stream (Ok e) turns n begun first last left old new same_turns same_first same_left ended = (
   ended.0,

@@ -18,7 +18,7 @@ use Rattle.rkt_message.specs.declared.piece.PieceError.{PieceError}
 use Rattle.rkt_message.specs.declared.stage.Stage.{Stage}
 use Rattle.rkt_message.specs.declared.stage.Stage.TheVariants as stage
 use Rattle.rkt_serve.specs.Progress.{Advances, PartlySent}
-use Rattle.rkt_serve.specs.Sent.{BodyFails}
+use Rattle.rkt_serve.specs.Sent.{BodyFails, IsProperFront}
 
 rose_before : (a b c : ℕ) → a ≤ b → Rose b c → Rose a c
 rose_before a b c less rose = omega (arith, less, rose)
@@ -157,6 +157,12 @@ module _ {S : Type 0} (stream : S → Meaning) where
             (rest.0, some_left left.0 rest.0 left.3, owes rest.0 rest.1);
         head_sent = λ body. some_behind taken piece;
       }
+
+  -- a piece that goes on was made, and nothing more is sent
+  pub sent_front : (first now next : Sending S) (taken : List Piece) (piece : Piece) → PartlySent stream first now taken → Advances stream now piece next → IsProperFront (Sent stream first.begun) taken
+  sent_front first now next taken piece partly advances =
+      let rest = advances.goes_on in
+      (piece ∷ rest.0, λ none. absurd (cc none), partly.owes (piece ∷ rest.0) (advances.and_then rest.0 rest.1))
 
   -- the last piece was sent
   pub sent_all : (first now next : Sending S) (taken : List Piece) (piece : Piece) → PartlySent stream first now taken → Advances stream now piece next → piece ≡ End → Sent stream first.begun (taken ++ piece ∷ [])

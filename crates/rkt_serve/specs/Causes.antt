@@ -1,5 +1,5 @@
 -- What stands behind each event.
-use Rattle.std.specs.Prelude.{◌≡◌, ◌<◌, ℕ, List, [], Some, None}
+use Rattle.std.specs.Prelude.{◌≡◌, ◌<◌, ℕ, false, List, [], Some, None}
 use Rattle.std.specs.List.{All}
 use Rattle.std.specs.Option.{ForSome}
 use Rattle.rkt_lifecycle.specs.Tables.{SeenTables, table_of}
@@ -10,6 +10,7 @@ use Rattle.rkt_message.specs.Sending.{ReadOn}
 use Rattle.rkt_message.specs.declared.piece.Piece.{Piece}
 use Rattle.rkt_routing.specs.Routed.{turns_of}
 use Rattle.rkt_routing.specs.declared.run.Call.{Call}
+use Rattle.rkt_link.specs.Link.{LinkMeaning}
 use Rattle.rkt_board.specs.After.{AfterFrom}
 use Rattle.rkt_board.specs.Turns.{ShowsTrip}
 use Rattle.rkt_orbit.specs.Calls.{CallingAtShutdown}
@@ -19,10 +20,15 @@ use Rattle.rkt_serve.specs.Lifted.{view_of}
 use Rattle.rkt_serve.specs.Sent.{IsSentAs}
 use Rattle.rkt_serve.specs.Serving.{Serving, callbacks_of}
 use Rattle.rkt_board.specs.declared.history.End.{End as Ending}
-use Rattle.rkt_board.specs.declared.history.End.TheVariants.{Answered, Failed, Starved}
+use Rattle.rkt_board.specs.declared.history.End.TheVariants.{Answered, Lost, Failed, Starved}
 use Rattle.rkt_board.specs.declared.history.EntryOf.{EntryOf}
 use Rattle.rkt_board.specs.declared.history.EventOf.{EventOf}
 use Rattle.rkt_board.specs.declared.history.EventOf.TheVariants.{Lift, Trip, Admit, End, Down, Close}
+
+-- a link has failed, and does not say that it never does
+pub record HasFailed (link : LinkMeaning) : Type 0 where
+  pub counted : 0 < link.faults
+  pub may : link.never_faults ≡ false
 
 module _ {V S C R F FTask GTask H HTask K KTask L N : Type 0} (served : Serving V S C R F FTask GTask H HTask K KTask L) (tables : SeenTables F H K N V) where
   -- a run and a response are kept, and the response was sent with this end
@@ -44,9 +50,10 @@ module _ {V S C R F FTask GTask H HTask K KTask L N : Type 0} (served : Serving 
     pub sent : IsSentAs served.streams (turns_of (table_of tables)) first response ended pieces
     pub held : ForSome (served.links entry.link).held (λ held. held ≡ pieces)
 
-  -- Answered and Failed: with a run and a response. Starved: nothing is kept
+  -- Answered, Lost and Failed: with a run and a response; Lost only where the link has failed. Starved: nothing is kept
   abbrev pub CausedAs : EntryOf C R L → Ending → Type 0
   CausedAs entry Answered = Ran entry Answered
+  CausedAs entry Lost = Ran entry Lost × HasFailed (served.links entry.link)
   CausedAs entry (Failed failure) = Ran entry (Failed failure)
   CausedAs entry Starved = (entry.run ≡ None) × (entry.response ≡ None)
 

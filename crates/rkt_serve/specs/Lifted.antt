@@ -8,6 +8,7 @@ use Rattle.rkt_lifecycle.specs.Tables.{SeenTables}
 use Rattle.rkt_orbit.specs.Calls.{CallingAtLiftoff}
 use Rattle.rkt_orbit.specs.Lifts.{Lifts}
 use Rattle.rkt_orbit.specs.declared.called.Called.{Called}
+use Rattle.rkt_turn.specs.HandsBack.{HandsBack}
 use Rattle.rkt_turn.specs.Shutdown.{Handle}
 
 -- F is the type of fairings, H that of handlers, K that of catchers' handlers, N that of what sentries ask, V that of managed
@@ -29,6 +30,8 @@ pub record IsLifted {F H K N V C R L : Type 0} (lifts : List Called → Handle �
   -- the handle of the wire, as the callbacks of liftoff left it
   pub left : Handle
   pub lifts_off : lifts (lift_calls events) left rocket
+  -- and that is the one that comes back
+  pub back : HandsBack left rocket.handle
   -- from then on the wire was looked at once for each link at least
   pub looked : left.looked + admitted events ≤ rocket.handle.looked
   -- where the handle had seen a word by then, nothing was admitted

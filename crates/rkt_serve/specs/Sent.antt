@@ -1,5 +1,6 @@
 -- How the sending of a response ended.
 use Rattle.std.specs.Prelude.{◌≡◌, ◌≢◌, ◌⊎◌, ◌++◌, ℕ, false, List, []}
+use Rattle.rkt_link.specs.Link.{LinkMeaning, Faults, with_taken}
 use Rattle.rkt_source.specs.Source.{Meaning}
 use Rattle.rkt_source.specs.declared.source.SourceError.{SourceError}
 use Rattle.rkt_message.specs.Reading.{StreamErrs}
@@ -8,7 +9,7 @@ use Rattle.rkt_message.specs.Sending.{MayWait}
 use Rattle.rkt_message.specs.Sent.{Sent, has_head}
 use Rattle.rkt_message.specs.declared.piece.Piece.{Piece}
 use Rattle.rkt_board.specs.declared.history.End.{End as Ending}
-use Rattle.rkt_board.specs.declared.history.End.TheVariants.{Answered, Failed, Starved}
+use Rattle.rkt_board.specs.declared.history.End.TheVariants.{Answered, Lost, Failed, Starved}
 use Rattle.rkt_board.specs.declared.history.Failure.TheVariants.{BadHead, BodyFault}
 
 -- the pieces are such ones without the last or more of them
@@ -22,6 +23,14 @@ BodyFails stream turns first last = ((e : SourceError) × StreamErrs stream e fi
 -- a response that was `first` and is `last` now was sent as these pieces, and that ended so; a body fails only once the head was sent
 abbrev pub IsSentAs : {S : Type 0} → (S → Meaning) → ℕ → ResponseOf S → ResponseOf S → Ending → List Piece → Type 0
 IsSentAs stream turns first last Answered pieces = Sent stream first pieces
+IsSentAs stream turns first last Lost pieces = IsProperFront (Sent stream first) pieces
 IsSentAs stream turns first last (Failed BadHead) pieces = (has_head first ≡ false) × (pieces ≡ [])
 IsSentAs stream turns first last (Failed BodyFault) pieces = BodyFails stream turns first last × IsProperFront (Sent stream first) pieces × (pieces ≢ [])
 IsSentAs stream turns first last Starved pieces = ⊥
+
+-- how a link is left that took these pieces: where the response was lost, it has failed behind them
+abbrev pub LeftBy : Ending → LinkMeaning → List Piece → LinkMeaning → Type 0
+LeftBy Answered old pieces new = new ≡ with_taken old pieces
+LeftBy Lost old pieces new = Faults (with_taken old pieces) new
+LeftBy (Failed failure) old pieces new = new ≡ with_taken old pieces
+LeftBy Starved old pieces new = new ≡ with_taken old pieces

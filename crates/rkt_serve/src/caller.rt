@@ -5,7 +5,7 @@ ghost use Rattle.std.specs.Option.{ForSome};
 ghost use Rattle.rkt_turn.specs.HandsBack.{HandsBack};
 ghost use Rattle.rkt_link.specs.Clock.{TellsOn};
 ghost use Rattle.rkt_link.specs.Listener.{IsFresh, Settled};
-ghost use Rattle.rkt_board.specs.Board.{IsBlank, Keeps};
+ghost use Rattle.rkt_board.specs.Board.{IsBlank, Keeps, SoundAs};
 ghost use Rattle.rkt_board.specs.Events.{is_close, admitted, lift_calls, trip_of};
 ghost use Rattle.rkt_board.specs.Marks.{events};
 ghost use Rattle.rkt_board.specs.Turns.{mark, AddsOne, IsGiven, MayClose, ShowsTrip, StaysOpen, TripsAs};
@@ -197,6 +197,7 @@ where
     ensures handle { HandsBack handle result.0.handle }
     ensures lent { IfSome result.1 (HandsBack shutdown) }
     ensures settled { Settled (L.meaning listener) (L.meaning result.0.listener) }
+    ensures sound { SoundAs result.0.faulted (L.meaning listener) (L.meaning result.0.listener) }
     ensures ended { result.0.over ≡ true → (L.meaning result.0.listener).ended ≡ true }
     ensures offers { result.0.over ≡ true → ForSome (L.meaning listener).offers (λ all. (L.meaning result.0.listener).given ≡ Some all) }
 {

@@ -28,6 +28,8 @@ pub enum ErrorKindOf<M, L, C> {
         listener: L,
         clock: C,
     },
+    /// The listener failed. What was begun is closed and handed back.
+    Shutdown(M),
     /// There was no memory. What was begun is closed and handed back; it is lost only where nothing was begun.
     NoMemory {
         kept: Option<M>,
@@ -72,6 +74,7 @@ impl<M, L, C> fmt::Display for ErrorKindOf<M, L, C> {
     fn fmt<W: fmt::Write>(&self, f: &mut fmt::Formatter<W>) -> fmt::Result {
         match self {
             ErrorKindOf::Ignition { fault, .. } => f.write_str(said_by(fault)),
+            ErrorKindOf::Shutdown(_) => f.write_str("shutdown failed"),
             ErrorKindOf::NoMemory { .. } => f.write_str("want of memory"),
         }
     }
@@ -113,9 +116,12 @@ impl<A: App, L: Listener, C: Clock> Error<A, L, C> {
         ensures { result.now ≡ aborting self }
     {
         let Error { kind } = self;
-        match &kind {
+        let text = match &kind {
             ErrorKindOf::Ignition { fault, .. } => aborting_by(fault),
+            ErrorKindOf::Shutdown(_) => "aborting due to failed shutdown",
             ErrorKindOf::NoMemory { .. } => "aborting due to want of memory",
-        }
+        };
+        drop(kind);
+        text
     }
 }

@@ -13,11 +13,11 @@ ghost use Rattle.rkt_serve.specs.Causes.{AllCaused};
 ghost use Rattle.rkt_board.specs.Closed.{AllAdmitted};
 ghost use Rattle.rkt_board.specs.Events.{is_trip, admitted, trip_of, Ordered, IsClosed, EachEndsOnce};
 ghost use Rattle.rkt_serve.specs.Headline.{HasEntry, AllTimed, IsCallers, IsLegal, IsOver};
-ghost use Rattle.rkt_serve.specs.Kept.{GivesBack, IfKept, IfUnlit, IsWant};
+ghost use Rattle.rkt_serve.specs.Kept.{GivesBack, IfKept, IfShutdown, IfUnlit, IfWanting, IsLit, IsWant};
 ghost use Rattle.rkt_serve.specs.Left.{IsLeft};
 ghost use Rattle.rkt_serve.specs.Lifted.{IsLifted, LiftsOff};
 ghost use Rattle.rkt_orbit.specs.declared.called.Called.{Called};
-ghost use Rattle.rkt_link.specs.Listener.{IsFresh};
+ghost use Rattle.rkt_link.specs.Listener.{IsFresh, Settled};
 ghost use Rattle.rkt_serve.specs.Serving.{serving};
 
 use crate::caller::serve_to_close;
@@ -74,6 +74,8 @@ pub trait Launch<A: App>: Sized {
         ensures ended { IfOk result (λ l. IsOver (L.meaning l.listener) l.history.events) }
         ensures sound { IfOk result (λ l. (L.meaning l.listener).faults ≡ 0) }
         ensures requests { IfOk result (λ l. AllAdmitted (L.meaning l.listener).given l.history.events) }
+        // What the listener says of itself is as it was.
+        ensures settled { IfOk result (λ l. Settled (L.meaning listener) (L.meaning l.listener)) }
         ensures offers { IfOk result (λ l. list_any is_trip l.history.events ≡ false → ForSome (L.meaning listener).offers (λ all. (L.meaning l.listener).given ≡ Some all)) }
         // The rocket's handle has seen the word of the Trip, and one that had seen a word before admits nothing.
         ensures word { IfOk result (λ l. ForSome (trip_of l.history.events) (λ trip. l.rocket.handle.seen ≡ trip.0)) }
@@ -84,19 +86,23 @@ pub trait Launch<A: App>: Sized {
         ensures moments { IfOk result (λ l. AllTimed (C.meaning clock).window l.history.events) }
         ensures callers { IfOk result (λ l. AllByRecursion IsCallers l.history.events) }
         ensures window { IfOk result (λ l. (C.meaning l.clock).window ≡ (C.meaning clock).window) }
-        // What is kept for want of memory is legal and closed too, and only need not have come to the listener's end or a Trip.
+        // What an error keeps is legal and closed too, and only need not have come to the listener's end or a Trip.
         ensures kept_tables { IfErr result (λ e. IfKept e (λ l. IsLifted (lifts self) l.history.events l.rocket)) }
         ensures kept_handle { IfErr result (λ e. IfKept e (λ l. hands_back self l.rocket.handle)) }
         ensures kept_legal { IfErr result (λ e. IfKept e (λ l.
             IsLegal A.Reason.allowed A.Fairing.Shuts.calling (serving A.Fairing.Requests.calling A.Fairing.Responses.calling A.Handler.calling A.Catch.calling A.Source.meaning A.Stream.meaning L.Link.meaning (C.meaning clock).window) l.rocket.tables (L.meaning l.listener).given l.history.events)) }
-        ensures kept_sound { IfErr result (λ e. IfKept e (λ l. (L.meaning l.listener).faults ≡ 0)) }
+        ensures kept_sound { IfErr result (λ e. IfWanting e (λ l. (L.meaning l.listener).faults ≡ 0)) }
+        ensures kept_settled { IfErr result (λ e. IfKept e (λ l. Settled (L.meaning listener) (L.meaning l.listener))) }
+        // What is kept for want of memory has no Trip.
+        ensures kept_goes_on { IfErr result (λ e. IfWanting e (λ l. list_any is_trip l.history.events ≡ false)) }
         ensures kept_word { IfErr result (λ e. IfKept e (λ l. ForSome (trip_of l.history.events) (λ trip. l.rocket.handle.seen ≡ trip.0))) }
         ensures kept_still { IfErr result (λ e. IfKept e (λ l. 0 < seen self → admitted l.history.events ≡ 0)) }
         ensures kept_window { IfErr result (λ e. IfKept e (λ l. (C.meaning l.clock).window ≡ (C.meaning clock).window)) }
-        // It fails only where it does not ignite, or for want of memory.
+        // It fails only where it does not ignite, where its listener has failed, or for want of memory.
         ensures refused { IfErr result (λ e. IfUnlit e (λ fault. refuses self fault)) }
+        ensures shutdown { IfErr result (λ e. IfShutdown e (λ l. 0 < (L.meaning l.listener).faults)) }
         ensures outside { IfErr result (λ e. GivesBack listener clock e) }
-        ensures complete { valid self → IfErr result (λ e. IsWant e) };
+        ensures complete { valid self → (L.meaning listener).never_faults ≡ true → IfErr result (λ e. IsWant e) };
 }
 
 // A handle that takes another one of its wire back.
@@ -112,9 +118,10 @@ fn with_back<W: Reason>(mut handle: Shutdown<W>, back: Option<Shutdown<W>>) -> S
 }
 
 // The listener has ended, or there is a Trip.
-#[tactic(auto, using(rkt_board::proofs::Core::found_trip))]
+#[tactic(auto, using(rkt_board::proofs::Core::found_trip, crate::proofs::Launching::none_found))]
 fn is_over<C, S, K>(over: bool, history: &HistoryOf<C, S, K>) -> bool
-    ensures { IsTrue result → (over ≡ true) ⊎ (list_any is_trip history.now.events ≡ true) }
+    ensures found { IsTrue result → (over ≡ true) ⊎ (list_any is_trip history.now.events ≡ true) }
+    ensures trip { result ≡ false → list_any is_trip history.now.events ≡ false }
 {
     over || history.trip().is_some()
 }
@@ -127,14 +134,20 @@ fn answered<A: App, L: Listener, C: Clock>(
 ) -> Result<Launched<A, L, C>, Error<A, L, C>>
     ensures ok { IfOk result (IsLeft tables table closed) }
     ensures over { IfOk result (λ l. (closed.over ≡ true) ⊎ (list_any is_trip closed.history.events ≡ true)) }
+    ensures sound { IfOk result (λ l. closed.faulted ≡ false) }
     ensures kept { IfErr result (λ e. IfKept e (IsLeft tables table closed)) }
-    ensures want { IfErr result (λ e. IsWant e) }
+    ensures kept_sound { IfErr result (λ e. IfWanting e (λ l. closed.faulted ≡ false)) }
+    ensures kept_goes_on { IfErr result (λ e. IfWanting e (λ l. list_any is_trip l.history.events ≡ false)) }
+    ensures shutdown { IfErr result (λ e. IfShutdown e (λ l. closed.faulted ≡ true)) }
+    ensures lit { IfErr result (λ e. IsLit e) }
+    ensures want { closed.faulted ≡ false → IfErr result (λ e. IsWant e) }
 {
     let ClosedOf {
         listener,
         clock,
         handle,
         over,
+        faulted,
         history,
     } = closed;
     let over = is_over(over, &history);
@@ -144,6 +157,9 @@ fn answered<A: App, L: Listener, C: Clock>(
         clock,
         history,
     };
+    if faulted {
+        return Err(Error::new(ErrorKindOf::Shutdown(launched)));
+    }
     if over {
         return Ok(launched);
     }
@@ -195,6 +211,7 @@ impl<A: App> Launch<A> for Rocket<Ignite, A> {
             clock,
             handle,
             over,
+            faulted,
             history,
         } = closed;
         let handle = with_back(handle, back);
@@ -203,6 +220,7 @@ impl<A: App> Launch<A> for Rocket<Ignite, A> {
             clock,
             handle,
             over,
+            faulted,
             history,
         };
         answered::<A, L, C>(tables, table, closed)

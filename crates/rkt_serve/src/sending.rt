@@ -1,14 +1,14 @@
 //! How a response is sent.
-ghost use Rattle.std.specs.Prelude.{◌≡◌, ◌≢◌, ◌↔◌, ◌∷◌, [], Err, List, IfOk, OnOk, IsTrue, false, max};
+ghost use Rattle.std.specs.Prelude.{◌≡◌, ◌≢◌, ◌↔◌, ◌∷◌, [], Err, List, IfErr, IfOk, OnOk, IsTrue, false, max};
 ghost use Rattle.rkt_message.specs.Reading.{ReadsOn};
 ghost use Rattle.rkt_message.specs.Sending.{ReadOn};
 ghost use Rattle.rkt_message.specs.Sent.{has_head};
 ghost use Rattle.rkt_message.specs.declared.piece.Piece.{Piece};
 ghost use Rattle.rkt_message.specs.declared.piece.PieceError.{PieceError};
 ghost use Rattle.rkt_message.specs.declared.stage.Stage.{Stage};
-ghost use Rattle.rkt_link.specs.Link.{with_taken};
+ghost use Rattle.rkt_link.specs.Link.{AfterError, with_taken};
 ghost use Rattle.rkt_serve.specs.Progress.{Advances};
-ghost use Rattle.rkt_serve.specs.Sent.{BodyFails, IsSentAs};
+ghost use Rattle.rkt_serve.specs.Sent.{BodyFails, IsSentAs, LeftBy};
 
 use crate::{End, Failure, Handed, Link, SendError};
 use rkt_base::{NoMemory, Poll};
@@ -18,14 +18,14 @@ use std::alloc::{AllocError, Global};
 use std::sync::Wait;
 
 // Hands one piece over, and waits until it is taken.
-fn put<R: Wait, K: Link>(rt: &R, link: &mut K, mut piece: Piece) -> Result<(), NoMemory>
+fn put<R: Wait, K: Link>(rt: &R, link: &mut K, mut piece: Piece) -> Result<(), SendError>
     ensures ok { OnOk result (K.meaning link.new ≡ with_taken (K.meaning link.old) (piece ∷ [])) }
-    ensures asked { (K.meaning link.new).asked ≡ (K.meaning link.old).asked }
+    ensures err { IfErr result (λ e. AfterError e (K.meaning link.old) (K.meaning link.new)) }
 {
     for _ in rt.forever() {
         match link.poll_hand(piece) {
             Handed::Taken => return Ok(()),
-            Handed::Refused(SendError::NoMemory) => return Err(AllocError),
+            Handed::Refused(e) => return Err(e),
             Handed::Back(back) => piece = back,
         }
     }
@@ -76,7 +76,7 @@ fn put_all<R: Wait, K: Link, S: Source>(
     requires first { pieces.old.response ≡ pieces.old.begun }
     ensures begun { pieces.new.begun ≡ pieces.old.begun }
     ensures reads { ReadsOn S.meaning gate.tripped pieces.old.response.body.content pieces.new.response.body.content }
-    ensures ended { IfOk result (λ ended. (taken : List Piece) × IsSentAs S.meaning pieces.old.turns pieces.old.begun pieces.new.response ended taken × (K.meaning link.new ≡ with_taken (K.meaning link.old) taken)) }
+    ensures ended { IfOk result (λ ended. (taken : List Piece) × IsSentAs S.meaning pieces.old.turns pieces.old.begun pieces.new.response ended taken × LeftBy ended (K.meaning link.old) taken (K.meaning link.new)) }
     ensures asked { (K.meaning link.new).asked ≡ (K.meaning link.old).asked }
 {
     for _ in rt.forever() {
@@ -87,7 +87,11 @@ fn put_all<R: Wait, K: Link, S: Source>(
             Err(PieceError::NoMemory) => return Err(AllocError),
         };
         let last = is_end(&piece);
-        put(rt, link, piece)?;
+        match put(rt, link, piece) {
+            Ok(()) => {}
+            Err(SendError::Fault) => return Ok(End::Lost),
+            Err(SendError::NoMemory) => return Err(AllocError),
+        }
         if last {
             return Ok(End::Answered);
         }
@@ -107,7 +111,7 @@ pub fn send<R: Wait, K: Link, S: Source>(
 ) -> (Response<S>, Result<End, NoMemory>)
     ensures read_on { ReadOn S.meaning response result.0 }
     ensures reads { ReadsOn S.meaning gate.tripped response.body.content result.0.body.content }
-    ensures ended { IfOk result.1 (λ ended. (taken : List Piece) × IsSentAs S.meaning (max turns 1) response result.0 ended taken × (K.meaning link.new ≡ with_taken (K.meaning link.old) taken)) }
+    ensures ended { IfOk result.1 (λ ended. (taken : List Piece) × IsSentAs S.meaning (max turns 1) response result.0 ended taken × LeftBy ended (K.meaning link.old) taken (K.meaning link.new)) }
     ensures asked { (K.meaning link.new).asked ≡ (K.meaning link.old).asked }
 {
     let mut pieces = Pieces::new(response, turns);

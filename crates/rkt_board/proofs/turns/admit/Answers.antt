@@ -20,3 +20,4 @@ returns-in-Ready-Given-clause-keeps g c =
     keeps_admit _ _ _ _ (with_book c.args.board.now c.make_room.new.book) c.push_reserved.new.self c.poll_accept.new.self c.in-Some.next c.args.by c.args.moment c.of.result after
     c.push_reserved.ensures.items (search rules) (search rules) (search rules) c.requires.unseen (search rules) (search rules) (search rules)
     (g.met.P.Served.free.admits _ _ _ _ _ _) c.requires.moment.0 c.requires.moment.1 (rw c.of.ensures gives) c.poll_accept.ensures.settled
+    (rw c.in-Ready-Given.field-0-is at c.in-Ready-Given.ensures.faults)

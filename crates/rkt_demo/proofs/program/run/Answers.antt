@@ -78,9 +78,8 @@ returns-in-Ok-serve_with-clause-text g c served = (
         let read = subst (IsRead before.whole before.taken SCRIPT_LIMIT) (sym c.as_slice.ensures.value) c.in-Ok-read_all.ensures.bytes in
         let window = (g.C.Clock.meaning c.args.clock).window in
         let text = c.in-Ok-serve_with.text.items in
-        let told = c.in-Ok-serve_with.ensures.served in
-        let shown = shown_script before.whole before.taken SCRIPT_LIMIT c.as_slice.result.now c.in-Ok.table window told.0 c.in-Ok-parse_script.requests.items text read c.in-Ok-parse_script.ensures.good c.in-Ok-parse_script.ensures.requests told.1 in
-        (told.0, text, shown w is, rw c.as_slice-in-Ok-serve_with.ensures.value at (c.write_text.ensures.whole served)),
+        let shown = shown_script before.whole before.taken SCRIPT_LIMIT c.as_slice.result.now c.in-Ok.table window c.in-Ok-parse_script.requests.items text read c.in-Ok-parse_script.ensures.good c.in-Ok-parse_script.ensures.requests c.in-Ok-serve_with.ensures.served w is in
+        (shown.0, shown.1, text, shown.2, shown.3, rw c.as_slice-in-Ok-serve_with.ensures.value at (c.write_text.ensures.whole served)),
   ),
 )
 
@@ -95,9 +94,8 @@ returns-in-Ok-serve_with-clause-write_text g c refused = (
         let read = subst (IsRead before.whole before.taken SCRIPT_LIMIT) (sym c.as_slice.ensures.value) c.in-Ok-read_all.ensures.bytes in
         let window = (g.C.Clock.meaning c.args.clock).window in
         let text = c.in-Ok-serve_with.text.items in
-        let told = c.in-Ok-serve_with.ensures.served in
-        let shown = shown_script before.whole before.taken SCRIPT_LIMIT c.as_slice.result.now c.in-Ok.table window told.0 c.in-Ok-parse_script.requests.items text read c.in-Ok-parse_script.ensures.good c.in-Ok-parse_script.ensures.requests told.1 in
-        (told.0, text, shown w is, rw c.as_slice-in-Ok-serve_with.ensures.value at c.write_text.ensures.front),
+        let shown = shown_script before.whole before.taken SCRIPT_LIMIT c.as_slice.result.now c.in-Ok.table window c.in-Ok-parse_script.requests.items text read c.in-Ok-parse_script.ensures.good c.in-Ok-parse_script.ensures.requests c.in-Ok-serve_with.ensures.served w is in
+        (shown.0, shown.1, text, shown.2, shown.3, rw c.as_slice-in-Ok-serve_with.ensures.value at c.write_text.ensures.front),
   ),
 )
 
@@ -110,8 +108,7 @@ returns-in-Ok-serve_with-clause-memory_text g c refused command = inr (
       let read = subst (IsRead before.whole before.taken SCRIPT_LIMIT) (sym c.as_slice.ensures.value) c.in-Ok-read_all.ensures.bytes in
       let window = (g.C.Clock.meaning c.args.clock).window in
       let text = c.in-Ok-serve_with.text.items in
-      let told = c.in-Ok-serve_with.ensures.served in
-      let shown = shown_script before.whole before.taken SCRIPT_LIMIT c.as_slice.result.now c.in-Ok.table window told.0 c.in-Ok-parse_script.requests.items text read c.in-Ok-parse_script.ensures.good c.in-Ok-parse_script.ensures.requests told.1 in
+      let shown = shown_script before.whole before.taken SCRIPT_LIMIT c.as_slice.result.now c.in-Ok.table window c.in-Ok-parse_script.requests.items text read c.in-Ok-parse_script.ensures.good c.in-Ok-parse_script.ensures.requests c.in-Ok-serve_with.ensures.served w is in
       let good = good_script before.whole before.taken SCRIPT_LIMIT c.as_slice.result.now read c.in-Ok-parse_script.ensures.good w is in
-      (text, inr (inr (good, c.in-Ok-serve_with.ensures.accepted, (told.0, shown w is))), rw c.as_slice-in-Ok-serve_with.ensures.value at c.write_text.ensures.front),
+      (text, inr (inr (good, c.in-Ok-serve_with.ensures.accepted, shown)), rw c.as_slice-in-Ok-serve_with.ensures.value at c.write_text.ensures.front),
 )

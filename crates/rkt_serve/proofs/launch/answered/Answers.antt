@@ -14,3 +14,6 @@ returns-then-over-clause-ok g c =
       clock = refl;
       history = refl;
     }
+
+pub returns-then-over-clause-over : goal.returns-then-over-clause-over
+returns-then-over-clause-over g c = c.is_over-over.ensures.found c.if-over.true

@@ -11,7 +11,7 @@ pub returns-in-Ok-clause-kept_tables : goal.returns-in-Ok-clause-kept_tables
 returns-in-Ok-clause-kept_tables g c = IfErr-weaker c.launch.result _ _ (if_kept _ _ (λ l. lifted_as _ _ l.history.events l.rocket (λ calls left lifts. (c.in-Ok.rocket, c.in-Ok.ensures.ignited, lifts)))) c.launch.ensures.kept_tables
 
 pub returns-in-Err-Refused-clause-complete : goal.returns-in-Err-Refused-clause-complete
-returns-in-Err-Refused-clause-complete g c = λ valid.
+returns-in-Err-Refused-clause-complete g c = λ valid never_faults.
     let never = c.ignite.ensures.complete valid in
     absurd (rw (c.in-Err-Refused.is, c.in-Err-Refused.field-0-is) at never)
 

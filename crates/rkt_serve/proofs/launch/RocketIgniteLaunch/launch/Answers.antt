@@ -4,8 +4,8 @@ use Rattle.rkt_board.proofs.Core.{tripped_word}
 use Rattle.rkt_board.specs.Events.{trip_of}
 use Rattle.rkt_serve.specs.Serving.{serving}
 use Rattle.rkt_serve.proofs.Lifting.{lifted_off}
-use Rattle.rkt_serve.proofs.Launching.{back_to, if_both, left_back, left_legal, left_offers, left_over, left_sound, left_still, left_window, left_word, same_wire, unlit_want, gives_want}
-use Rattle.rkt_serve.proofs.Lighting.{if_kept}
+use Rattle.rkt_serve.proofs.Launching.{back_to, if_both, left_back, left_legal, left_offers, left_over, left_failed, left_settled, left_sound, left_still, left_window, left_word, never_failed, same_wire, unlit_lit, gives_lit}
+use Rattle.rkt_serve.proofs.Lighting.{if_kept, if_shutdown, if_wanting}
 use Rattle.rkt_serve.proofs.launch.RocketIgniteLaunch.launch.Goals as goal
 
 pub with_back-handle-requires : goal.with_back-handle-requires
@@ -27,7 +27,7 @@ returns g c =
     let first = ap (λ r. r.tables) c.into_orbit.ensures in
     let given = c.into_parts-tables.ensures.tables ∙ first in
     let told = c.into_parts-tables.ensures.table ∙ ap (λ r. r.table) c.into_orbit.ensures in
-    let lifted = lifted_off g.A.Fairing.Lifts.LiftoffCallback.calling rocket tables table closed c.in-Ok-lift_tables.calls c.lift_tables.new.handle (rw (sym given, sym same) c.in-Ok-lift_tables.ensures.lifts) (rw (sym given) c.lift_tables.ensures.tables) told known.lifted known.looked known.still in
+    let lifted = lifted_off g.A.Fairing.Lifts.LiftoffCallback.calling rocket tables table closed c.in-Ok-lift_tables.calls c.lift_tables.new.handle (rw (sym given, sym same) c.in-Ok-lift_tables.ensures.lifts) (rw (sym given) c.lift_tables.ensures.tables) told known.lifted known.handle known.looked known.still in
     let ok = IfOk-weaker c.answered.result _ _ (λ l is. left_back tables table closed c.with_back-handle.result l c.with_back-handle.ensures is) c.answered.ensures.ok in
     let kept = IfErr-weaker c.answered.result _ _ (if_kept _ _ (λ l is. left_back tables table closed c.with_back-handle.result l c.with_back-handle.ensures is)) c.answered.ensures.kept in
     record {
@@ -35,11 +35,15 @@ returns g c =
       kept_tables = IfErr-weaker c.answered.result _ _ (if_kept _ _ lifted) kept;
       handle = IfOk-weaker c.answered.result _ _ (λ l is. back_to c.args.self.handle c.split.new.self c.lift_tables.new.handle closed.handle l.rocket.handle same c.lift_tables.ensures.handle known.handle is.handle) ok;
       kept_handle = IfErr-weaker c.answered.result _ _ (if_kept _ _ (λ l is. back_to c.args.self.handle c.split.new.self c.lift_tables.new.handle closed.handle l.rocket.handle same c.lift_tables.ensures.handle known.handle is.handle)) kept;
-      sound = IfOk-weaker c.answered.result _ _ (λ l is. left_sound tables table closed l is g.L.Listener.meaning (g.L.Listener.meaning c.args.listener) known.settled c.requires.fresh.no_fault) ok;
-      kept_sound = IfErr-weaker c.answered.result _ _ (if_kept _ _ (λ l is. left_sound tables table closed l is g.L.Listener.meaning (g.L.Listener.meaning c.args.listener) known.settled c.requires.fresh.no_fault)) kept;
+      sound = if_both c.answered.result _ _ _ (λ l is none. left_sound tables table closed l is g.L.Listener.meaning (g.L.Listener.meaning c.args.listener) known.sound none c.requires.fresh.no_fault) ok c.answered.ensures.sound;
+      kept_sound = if_wanting _ _ _ (λ l is none. left_sound tables table closed l is g.L.Listener.meaning (g.L.Listener.meaning c.args.listener) known.sound none c.requires.fresh.no_fault) c.answered.result kept c.answered.ensures.kept_sound;
+      shutdown = if_shutdown _ _ _ (λ l is failed. left_failed tables table closed l is g.L.Listener.meaning (g.L.Listener.meaning c.args.listener) known.sound failed) c.answered.result kept c.answered.ensures.shutdown;
+      settled = IfOk-weaker c.answered.result _ _ (λ l is. left_settled tables table closed l is g.L.Listener.meaning (g.L.Listener.meaning c.args.listener) known.settled) ok;
+      kept_settled = IfErr-weaker c.answered.result _ _ (if_kept _ _ (λ l is. left_settled tables table closed l is g.L.Listener.meaning (g.L.Listener.meaning c.args.listener) known.settled)) kept;
       window = IfOk-weaker c.answered.result _ _ (λ l is. left_window tables table closed l is g.C.Clock.meaning (g.C.Clock.meaning c.args.clock) known.clock) ok;
       kept_window = IfErr-weaker c.answered.result _ _ (if_kept _ _ (λ l is. left_window tables table closed l is g.C.Clock.meaning (g.C.Clock.meaning c.args.clock) known.clock)) kept;
       word = IfOk-weaker c.answered.result _ _ (λ l is. left_word tables table closed l is above known.word) ok;
+      kept_goes_on = c.answered.ensures.kept_goes_on;
       kept_word = IfErr-weaker c.answered.result _ _ (if_kept _ _ (λ l is. left_word tables table closed l is above known.word)) kept;
       still = IfOk-weaker c.answered.result _ _ (λ l is. left_still tables table closed l is still) ok;
       kept_still = IfErr-weaker c.answered.result _ _ (if_kept _ _ (λ l is. left_still tables table closed l is still)) kept;
@@ -54,7 +58,7 @@ returns g c =
       kept_legal = IfErr-weaker c.answered.result _ _ (if_kept _ _ (λ l is. left_legal g.A.Reason.Reason.allowed g.A.Fairing.Shuts.ShutdownCallback.calling (serving g.A-Fairing-Requests-RequestCallback.calling g.A.Fairing.Responses.ResponseCallback.calling g.A-Handler-Handler.calling g.A.Catch.CatchHandler.calling g.A.Source.Source.meaning g.A.Stream.Source.meaning g.L.Link.Link.meaning (g.C.Clock.meaning c.args.clock).window) g.L.Listener.meaning tables table closed l is known.legal)) kept;
       ended = if_both c.answered.result _ _ _ (λ l is over. left_over tables table closed l is g.L.Listener.meaning known.ended over) ok c.answered.ensures.over;
       offers = if_both c.answered.result _ _ _ (λ l is over. left_offers tables table closed l is g.L.Listener.meaning (g.L.Listener.meaning c.args.listener).offers known.offers over) ok c.answered.ensures.over;
-      refused = IfErr-weaker c.answered.result _ _ (λ e want. unlit_want _ e want) c.answered.ensures.want;
-      outside = IfErr-weaker c.answered.result _ _ (λ e want. gives_want c.args.listener c.args.clock e want) c.answered.ensures.want;
-      complete = λ valid. c.answered.ensures.want;
+      refused = IfErr-weaker c.answered.result _ _ (λ e lit. unlit_lit _ e lit) c.answered.ensures.lit;
+      outside = IfErr-weaker c.answered.result _ _ (λ e lit. gives_lit c.args.listener c.args.clock e lit) c.answered.ensures.lit;
+      complete = λ valid never. c.answered.ensures.want (never_failed closed.faulted (g.L.Listener.meaning c.args.listener) (g.L.Listener.meaning closed.listener) known.sound never);
     }

@@ -1,4 +1,4 @@
-use Rattle.cases_exchange.proofs.page.replied.Goals as goal
+use Rattle.cases_exchange.proofs.page.acted.Goals as goal
 
 pub returns-in-Echoes-clause-ends : goal.returns-in-Echoes-clause-ends
 returns-in-Echoes-clause-ends c = c.spent.ensures c.args.body

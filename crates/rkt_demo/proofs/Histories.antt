@@ -1,0 +1,160 @@
+-- The entries of a launch over the sample tell of the requests that its links ask.
+use Rattle.std.proofs.Common.{◌≡◌, ◌<◌, ◌++◌, ◌⊎◌, inl, inr, ℕ, List, [], ◌∷◌, Bool, true, false, ◌==◌, Option, Some, if◌then◌else◌, length, map, min, slice_get, take, refl, ap, ◌∙◌, sym, subst, arith}
+use Rattle.std.specs.Option.{ForSome, option_map}
+use Rattle.std.proofs.lemmas.List.{length-map, length-take}
+use Rattle.std.proofs.lemmas.Option.{none-some, same_Some, slice_get-map}
+use Rattle.rkt_source.specs.Memory.{SourceInMemory, source_meaning}
+use Rattle.rkt_link.specs.Asked.{Asked}
+use Rattle.rkt_serve.specs.Causes.{AllCaused, CauseAt, Caused, CausedAs, Ran}
+use Rattle.rkt_link.specs.Clock.{IsWithin}
+use Rattle.std.specs.List.{list_any}
+use Rattle.rkt_board.specs.After.{AfterFrom}
+use Rattle.rkt_board.specs.Closed.{AllAdmitted}
+use Rattle.rkt_board.specs.Events.{is_trip, admitted, end_of}
+use Rattle.rkt_serve.specs.Headline.{AllTimed, HasEntry}
+use Rattle.rkt_link.specs.Listener.{Settled}
+use Rattle.rkt_link.specs.Memory.{LinkInMemory, ListenerInMemory, asked_of, listener_meaning}
+use Rattle.rkt_board.specs.declared.history.End.{End as Ending}
+use Rattle.rkt_board.specs.declared.history.End.TheVariants.{Answered, Lost, Failed, Starved}
+use Rattle.rkt_board.specs.declared.history.Failure.TheVariants.{BadHead, BodyFault}
+use Rattle.rkt_board.specs.declared.history.EntryOf.{EntryOf}
+use Rattle.rkt_board.specs.declared.history.EventOf.{EventOf}
+use Rattle.rkt_board.specs.declared.history.EventOf.TheVariants.{Lift, Trip, Admit, End, Down, Close}
+use Rattle.rkt_life.specs.declared.no_fairing.NoFairing.{NoFairing}
+use Rattle.rkt_orbit.specs.Calls.{CallingAtShutdown}
+use Rattle.rkt_sample.specs.declared.catcher.SampleCatcher.{SampleCatcher}
+use Rattle.rkt_sample.specs.declared.route.SampleRoute.{SampleRoute}
+use Rattle.rkt_message.specs.Reading.{StreamErrs}
+use Rattle.rkt_message.specs.Sending.{MayWait}
+use Rattle.rkt_message.specs.Sent.{Sent}
+use Rattle.rkt_message.specs.declared.content.Content.{Content}
+use Rattle.rkt_message.specs.declared.content.Content.TheVariants as content
+use Rattle.rkt_source.specs.declared.source.SourceError.{SourceError}
+use Rattle.rkt_demo.proofs.LivesOnce.{made_once}
+use Rattle.rkt_demo.proofs.Once.{Spelling}
+use Rattle.rkt_demo.proofs.Places.{front_at, map_front}
+use Rattle.rkt_demo.proofs.SampleCalls.{IsAtHand}
+use Rattle.rkt_demo.specs.Entries.{ended_section}
+use Rattle.rkt_demo.specs.Launched.{ServesFront, is_starved}
+use Rattle.rkt_demo.specs.Sample.{IsSample, SampleTables}
+use Rattle.rkt_demo.specs.Shown.{IsMade, IsSection, LeadsTo, asked_for, served_in}
+use Rattle.rkt_demo.specs.Words.{Table}
+use Rattle.rkt_demo.specs.declared.script.ScriptRequest.{ScriptRequest}
+
+abbrev Kept : Type 0
+Kept = EntryOf ℕ SourceInMemory LinkInMemory
+
+-- the run of an entry is timed as its End
+timed_end : (window : Option (ℕ × ℕ)) (k : ℕ) (events : List (EventOf ℕ SourceInMemory LinkInMemory)) (entry : Kept) → AllTimed window events → end_of k events ≡ Some entry
+    → ForSome entry.run (λ run. IsWithin window run.moment)
+timed_end window k [] entry timed found = absurd (none-some entry found)
+timed_end window k (Lift calls ∷ es) entry timed found = timed_end window k es entry timed.1 found
+timed_end window k (Trip w t ∷ es) entry timed found = timed_end window k es entry timed.1 found
+timed_end window k (Down calls ∷ es) entry timed found = timed_end window k es entry timed.1 found
+timed_end window k (Admit n m b ∷ es) entry timed found = timed_end window k es entry timed.1 found
+timed_end window k (Close m ∷ es) entry timed found = timed_end window k es entry timed.1 found
+timed_end window k (End n other m b ∷ es) entry timed found = by_number (n == k) found (timed_end window k es entry timed.1)
+  where
+    by_number : (t : Bool) → (if t then Some other else end_of k es) ≡ Some entry → (end_of k es ≡ Some entry → ForSome entry.run (λ run. IsWithin window run.moment)) → ForSome entry.run (λ run. IsWithin window run.moment)
+    by_number true here later = subst (λ (e : Kept). ForSome e.run (λ run. IsWithin window run.moment)) (same_Some other entry here) timed.0.1
+    by_number false here later = later here
+
+-- where no word is allowed there is no Trip
+pub none_trips : {Task : Type 0} (allowed : ℕ → Type 0) → ((word : ℕ) → ¬ allowed word) → (shuts : CallingAtShutdown SampleRoute SampleCatcher (Unit {0}) ℕ NoFairing Task) (word : ℕ) (window : Option (ℕ × ℕ)) (tables : SampleTables)
+    (before es : List (EventOf ℕ SourceInMemory LinkInMemory)) → AfterFrom (CauseAt allowed shuts (served_in word window) tables) before es → list_any is_trip es ≡ false
+none_trips allowed none shuts word window tables before [] caused = refl
+none_trips allowed none shuts word window tables before (Trip w m ∷ es) caused = absurd (none w caused.0)
+none_trips allowed none shuts word window tables before (Lift calls ∷ es) caused = none_trips allowed none shuts word window tables (before ++ Lift calls ∷ []) es caused.1
+none_trips allowed none shuts word window tables before (Admit n m b ∷ es) caused = none_trips allowed none shuts word window tables (before ++ Admit n m b ∷ []) es caused.1
+none_trips allowed none shuts word window tables before (End n x m b ∷ es) caused = none_trips allowed none shuts word window tables (before ++ End n x m b ∷ []) es caused.1
+none_trips allowed none shuts word window tables before (Down calls ∷ es) caused = none_trips allowed none shuts word window tables (before ++ Down calls ∷ []) es caused.1
+none_trips allowed none shuts word window tables before (Close m ∷ es) caused = none_trips allowed none shuts word window tables (before ++ Close m ∷ []) es caused.1
+
+-- an entry of a request
+record ServedFor (word : ℕ) (window : Option (ℕ × ℕ)) (tables : SampleTables) (request : ScriptRequest) (entry : Kept) : Type 0 where
+  pub caused : Caused (served_in word window) tables entry
+  pub asks : asked_of entry.link ≡ asked_for request
+  pub timed : ForSome entry.run (λ run. IsWithin window run.moment)
+
+-- no body without a source fails
+never_fails : (turns : ℕ) (c d : Content SourceInMemory) → IsAtHand c → (((e : SourceError) × StreamErrs source_meaning e c d) ⊎ MayWait source_meaning turns c) → ⊥
+never_fails turns (content.Streamed stream) d at_hand fails = at_hand
+never_fails turns content.None d at_hand (inl errs) = errs.1
+never_fails turns content.None d at_hand (inr may) = may
+never_fails turns content.UnsizedNone d at_hand (inl errs) = errs.1
+never_fails turns content.UnsizedNone d at_hand (inr may) = may
+never_fails turns (content.Sized rest size) d at_hand (inl errs) = errs.1
+never_fails turns (content.Sized rest size) d at_hand (inr may) = may
+never_fails turns (content.Phantom length size) d at_hand (inl errs) = errs.1
+never_fails turns (content.Phantom length size) d at_hand (inr may) = may
+
+module _ (laws : Spelling) (word : ℕ) (window : Option (ℕ × ℕ)) (table : Table) (tables : SampleTables) (sample : IsSample table tables) where
+  -- the response of an entry was made of its request
+  made_of : (request : ScriptRequest) (entry : Kept) (ended : Ending) (ran : Ran (served_in word window) tables entry ended) → ServedFor word window tables request entry → IsMade table word window request ran.first
+  made_of request entry ended ran served = record {
+    tables = tables;
+    sample = sample;
+    run = ran.run;
+    timed = served.timed ran.run ran.run_kept;
+    lifecycle = subst (λ (a : Asked). LeadsTo word window tables a ran.run ran.first) served.asks (ran.lifecycle (asked_of entry.link) refl);
+  }
+
+  section_of_cause : (k : ℕ) (request : ScriptRequest) (entry : Kept) (ended : Ending) → CausedAs (served_in word window) tables entry ended → ServedFor word window tables request entry
+      → IsSection (is_starved ended) table word window k request (ended_section k ended entry.link.held)
+  section_of_cause k request entry Starved caused served = refl
+  section_of_cause k request entry Answered caused served = record {
+    response = caused.first;
+    made = made_of request entry Answered caused served;
+    told = rw caused.sent.1 (record { pieces = entry.link.held; sent = subst (Sent source_meaning caused.first) (sym (caused.held entry.link.held refl)) caused.sent; text = refl });
+  }
+  section_of_cause k request entry Lost caused served = absurd (cc (ap (λ (a : Asked). a.never_faults) served.asks, caused.1.may))
+  section_of_cause k request entry (Failed BadHead) caused served = record {
+    response = caused.first;
+    made = made_of request entry (Failed BadHead) caused served;
+    told = rw caused.sent.0 refl;
+  }
+  section_of_cause k request entry (Failed BodyFault) caused served =
+      let made = made_of request entry (Failed BodyFault) caused served in
+      let one = made_once laws table word word window window request caused.first caused.first made made in
+      absurd (never_fails _ caused.first.body.content caused.response.body.content one.1 caused.sent.0)
+
+  -- a launch serves a front of what its listener offers
+  pub launched_serves : (given : Option (List Asked)) (count : ℕ) (events : List (EventOf ℕ SourceInMemory LinkInMemory)) (requests : List ScriptRequest) → given ≡ Some (take count (map asked_for requests)) → AllAdmitted given events
+      → AllTimed window events → ((k : ℕ) → k < admitted events → HasEntry (served_in word window) tables given events k) → ServesFront table word window requests events
+  launched_serves given count events requests given_is all timed has =
+      let asks : List Asked = map asked_for requests in
+      let many : admitted events ≡ length (take count asks) = all (take count asks) given_is in
+      let front : length (take count asks) ≡ min count (length asks) = length-take count asks in
+      let same : length asks ≡ length requests = length-map requests asked_for in
+      record {
+        within = omega (arith, many, front, same);
+        each = λ k request within there.
+            let entry = has k within in
+            let place : slice_get (take count asks) k ≡ slice_get asks k = front_at asks count k (omega (arith, within, many, front)) in
+            let asked : Some (asked_of entry.entry.link) ≡ Some (asked_for request) =
+            entry.asks (take count asks) given_is ∙ place ∙ slice_get-map asked_for requests k ∙ ap (option_map asked_for) there in (
+              entry.entry,
+              entry.found,
+              λ n. section_of_cause n request entry.entry entry.entry.end entry.caused (record {
+                caused = entry.caused;
+                asks = same_Some _ _ asked;
+                timed = timed_end window k events entry.entry timed entry.found;
+              }),
+            );
+      }
+
+-- what a listener has given that has stayed as it was is a front of what it offered
+pub given_front : (before after : ListenerInMemory) (asks : List Asked) → Settled (listener_meaning before) (listener_meaning after) → map asked_of before.offered ≡ asks
+    → (listener_meaning after).given ≡ Some (take after.given asks)
+given_front before after asks settled offers =
+    let same : map asked_of after.offered ≡ asks = same_Some (map asked_of after.offered) (map asked_of before.offered) settled.offers ∙ offers in
+    ap Some (map_front asked_of after.given after.offered ∙ ap (take after.given) same)
+
+-- where no word is allowed, a launch admits all that its listener offers
+pub all_served : {Task : Type 0} (allowed : ℕ → Type 0) → ((word : ℕ) → ¬ allowed word) → (shuts : CallingAtShutdown SampleRoute SampleCatcher (Unit {0}) ℕ NoFairing Task) (word : ℕ) (window : Option (ℕ × ℕ)) (tables : SampleTables)
+    (before after : ListenerInMemory) (events : List (EventOf ℕ SourceInMemory LinkInMemory)) (requests : List ScriptRequest) → AllCaused allowed shuts (served_in word window) tables events
+    → (list_any is_trip events ≡ false → ForSome (listener_meaning before).offers (λ all. (listener_meaning after).given ≡ Some all)) → AllAdmitted (listener_meaning after).given events → map asked_of before.offered ≡ map asked_for requests
+    → admitted events ≡ length requests
+all_served allowed none shuts word window tables before after events requests caused offers all offered =
+    let given : (listener_meaning after).given ≡ Some (map asked_of before.offered) = offers (none_trips allowed none shuts word window tables [] events caused) (map asked_of before.offered) refl in
+    all (map asked_of before.offered) given ∙ ap (λ (asks : List Asked). length asks) offered ∙ length-map requests asked_for
