@@ -1,4 +1,5 @@
 use crate::error::CaseError;
+use crate::events::events;
 use crate::running::{Run, outcome, sink, summary};
 use crate::words::{first_word, numbers, script, words};
 use rkt_data::MemorySource;
@@ -66,6 +67,7 @@ pub fn answer<R: Wait + Threads>(rt: &R, alloc: Global, line: &str) -> Result<St
     let (command, rest) = first_word(line);
     match (command, rest.parse::<u32>()) {
         ("run", _) => run_case(rt, alloc, rest),
+        ("events", _) => events(rt, alloc, rest),
         ("long", Ok(count)) => long_case(rt, alloc, count as usize),
         _ => Err(CaseError::Line),
     }

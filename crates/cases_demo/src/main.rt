@@ -6,6 +6,8 @@
 //!                                     the text (from 0) fail: the status, how many bytes were written, and the bytes
 //!     long COUNT                      the script is one request line of so many bytes, with no line feed: the status,
 //!                                     and how many bytes were written
+//!     events SCRIPT                   the sample is launched once, over the reason of a handler, with the requests of
+//!                                     the script: the events, with how the callbacks of liftoff and shutdown ended
 //!
 //! WORDS are parted by commas, READS and WRITES are numbers parted by commas, each or `-` for none. In a script, `\n` is
 //! a line feed and `\r` a carriage return. A read gives four bytes at most, and a write takes seven at most.
@@ -13,6 +15,7 @@
 
 mod answer;
 mod error;
+mod events;
 mod running;
 mod trickle;
 mod words;

@@ -131,6 +131,7 @@ module _ {C S K P L Q : Type 0} (links : K → LinkMeaning) (listeners : L → L
         settled = h.settled;
         sound = h.sound;
         ended = h.ended;
+        goes_on = h.goes_on;
         offers = h.offers;
         clock = h.clock;
         timed = subst (AllByRecursion (TimedIn (clocks name.clock.value).window)) (sym now) (all_push (TimedIn (clocks name.clock.value).window) es e h.timed timed);
@@ -155,8 +156,9 @@ module _ {C S K P L Q : Type 0} (links : K → LinkMeaning) (listeners : L → L
       → near.handle.seen ≡ 0 → name.handle.value.looked + admitted (events ms) < near.handle.looked → near.over ≡ false
       → moment ≤ (clocks near.clock).last → IsWithin (clocks name.clock.value).window moment
       → GivesMore (listeners near.listener).given (links copy.value).asked (listeners listener).given → Settled (listeners near.listener) (listeners listener) → (listeners listener).faults ≡ (listeners near.listener).faults
+      → (listeners listener).ended ≡ (listeners near.listener).ended
       → Holds links listeners clocks name (record { listener = listener; clock = near.clock; handle = near.handle; over = near.over; faulted = near.faulted }) (ms ++ admit_mark by number moment copy ∷ [])
-  holds_admit name near listener ms by number moment copy h ordered unseen looked ongoing late within gives settled same =
+  holds_admit name near listener ms by number moment copy h ordered unseen looked ongoing late within gives settled same goes_on =
       let es = events ms in
       let e : EventOf C S K = Admit number moment by in
       let m : MarkOf C S K = admit_mark by number moment copy in
@@ -173,6 +175,7 @@ module _ {C S K P L Q : Type 0} (links : K → LinkMeaning) (listeners : L → L
         settled = record { offers = settled.offers ∙ h.settled.offers; never_faults = settled.never_faults ∙ h.settled.never_faults };
         sound = sound_same near.faulted (listeners name.listener.value) (listeners near.listener) (listeners listener) h.sound same;
         ended = λ o. absurd (cc (o, ongoing));
+        goes_on = λ o. goes_on ∙ h.goes_on o;
         offers = λ o. absurd (cc (o, ongoing));
         clock = h.clock;
         timed = subst (AllByRecursion (TimedIn (clocks name.clock.value).window)) (sym now) (all_push (TimedIn (clocks name.clock.value).window) es e h.timed within);
@@ -191,6 +194,7 @@ module _ {C S K P L Q : Type 0} (links : K → LinkMeaning) (listeners : L → L
     settled = h.settled;
     sound = h.sound;
     ended = h.ended;
+    goes_on = h.goes_on;
     offers = h.offers;
     clock = tells_on (clocks name.clock.value) (clocks near.clock) (clocks clock) h.clock on;
     timed = h.timed;
@@ -201,8 +205,9 @@ module _ {C S K P L Q : Type 0} (links : K → LinkMeaning) (listeners : L → L
   pub holds_listener : (name : Name P L Q Handle) (near : Near L Q Handle) (listener : L) (over faulted : Bool) (ms : List (MarkOf C S K)) → Holds links listeners clocks name near ms
       → (listeners listener).given ≡ (listeners near.listener).given → Settled (listeners near.listener) (listeners listener) → SoundAs faulted (listeners name.listener.value) (listeners listener)
       → (over ≡ true → ((listeners listener).ended ≡ true) × ForSome (listeners near.listener).offers (λ all. (listeners near.listener).given ≡ Some all))
+      → (over ≡ false → (listeners listener).ended ≡ (listeners name.listener.value).ended)
       → Holds links listeners clocks name (record { listener = listener; clock = near.clock; handle = near.handle; over = over; faulted = faulted }) ms
-  holds_listener name near listener over faulted ms h same settled sound ends = record {
+  holds_listener name near listener over faulted ms h same settled sound ends goes_on = record {
     wire = h.wire;
     word = h.word;
     looked = h.looked;
@@ -211,6 +216,7 @@ module _ {C S K P L Q : Type 0} (links : K → LinkMeaning) (listeners : L → L
     settled = record { offers = settled.offers ∙ h.settled.offers; never_faults = settled.never_faults ∙ h.settled.never_faults };
     sound = sound;
     ended = λ o. (ends o).0;
+    goes_on = goes_on;
     offers = λ o all is. same ∙ (ends o).1 all (h.settled.offers ∙ is);
     clock = h.clock;
     timed = h.timed;
@@ -230,6 +236,7 @@ module _ {C S K P L Q : Type 0} (links : K → LinkMeaning) (listeners : L → L
     settled = h.settled;
     sound = h.sound;
     ended = h.ended;
+    goes_on = h.goes_on;
     offers = h.offers;
     clock = h.clock;
     timed = h.timed;

@@ -92,6 +92,7 @@ module _ {C S K P L Q : Type 0} (links : K → LinkMeaning) (listeners : L → L
           settled = rw listener record { offers = refl; never_faults = refl };
           sound = rw (faulted, listener) refl;
           ended = λ t. absurd (cc (t, over));
+          goes_on = λ t. ap (λ l. (listeners l).ended) listener;
           offers = λ t. absurd (cc (t, over));
           clock = rw clock record { rises = omega arith; window = refl };
           timed = rw items (tt, tt);
@@ -255,8 +256,9 @@ module _ {C S K P L Q : Type 0} (links : K → LinkMeaning) (listeners : L → L
       → cause s.name.served.now (clocks s.name.clock.value).window (events s.book.marks.items) (Admit s.book.admitted moment by)
       → moment ≡ (clocks s.near.clock).last → IsWithin (clocks s.name.clock.value).window moment
       → GivesMore (listeners s.near.listener).given (links copy.value).asked (listeners listener).given → Settled (listeners s.near.listener) (listeners listener) → (listeners listener).faults ≡ (listeners s.near.listener).faults
+      → (listeners listener).ended ≡ (listeners s.near.listener).ended
       → Keeps links listeners clocks cause (with_admit s v listener next)
-  keeps_admit s v listener next by moment copy k items room history_room step unseen looked unclosed ongoing caused now within gives settled same =
+  keeps_admit s v listener next by moment copy k items room history_room step unseen looked unclosed ongoing caused now within gives settled same goes_on =
       let es = events s.book.marks.items in
       let e : EventOf C S K = Admit s.book.admitted moment by in
       let m : MarkOf C S K = admit_mark by s.book.admitted moment copy in
@@ -267,7 +269,7 @@ module _ {C S K P L Q : Type 0} (links : K → LinkMeaning) (listeners : L → L
         begun = let x : ℕ = length v.items in let y : x ≡ length s.book.marks.items + 1 = more in let g : 0 < x = omega (arith, y) in g;
         lifted = lifted_push s v m k items;
         holds = subst (Holds links listeners clocks s.name (record { listener = listener; clock = s.near.clock; handle = s.near.handle; over = s.near.over; faulted = s.near.faulted })) (sym items)
-            (holds_admit links listeners clocks s.name s.near listener s.book.marks.items by s.book.admitted moment copy k.holds k.legal.ordered unseen looked ongoing late within gives settled same);
+            (holds_admit links listeners clocks s.name s.near listener s.book.marks.items by s.book.admitted moment copy k.holds k.legal.ordered unseen looked ongoing late within gives settled same goes_on);
         counted = record {
           counts = subst (λ ms. Counts ms next (s.book.opens + 1) s.book.tripped s.book.down s.book.closed) (sym items)
               (counts_admit s.book.marks.items s.book.admitted s.book.opens next s.book.tripped s.book.down s.book.closed by moment copy k.counted.counts k.legal.ordered step);
@@ -314,8 +316,9 @@ module _ {C S K P L Q : Type 0} (links : K → LinkMeaning) (listeners : L → L
   pub keeps_listener : (s : BoardAs C S K P L Q) (listener : L) (over faulted : Bool) → Keeps links listeners clocks cause s → (listeners listener).given ≡ (listeners s.near.listener).given
       → Settled (listeners s.near.listener) (listeners listener) → SoundAs faulted (listeners s.name.listener.value) (listeners listener)
       → (over ≡ true → ((listeners listener).ended ≡ true) × ForSome (listeners s.near.listener).offers (λ all. (listeners s.near.listener).given ≡ Some all))
+      → (over ≡ false → (listeners listener).ended ≡ (listeners s.name.listener.value).ended)
       → Keeps links listeners clocks cause (record { name = s.name; book = s.book; near = record { listener = listener; clock = s.near.clock; handle = s.near.handle; over = over; faulted = faulted } })
-  keeps_listener s listener over faulted k same settled sound ends = record { begun = k.begun; lifted = k.lifted; holds = holds_listener links listeners clocks s.name s.near listener over faulted s.book.marks.items k.holds same settled sound ends; counted = k.counted; legal = k.legal }
+  keeps_listener s listener over faulted k same settled sound ends goes_on = record { begun = k.begun; lifted = k.lifted; holds = holds_listener links listeners clocks s.name s.near listener over faulted s.book.marks.items k.holds same settled sound ends goes_on; counted = k.counted; legal = k.legal }
 
   -- a clock and a wire are looked at
   pub keeps_look : (s : BoardAs C S K P L Q) (clock : Q) (handle : Handle) → Keeps links listeners clocks cause s → TellsOn (clocks s.near.clock) (clocks clock) → handle.wire ≡ s.near.handle.wire

@@ -100,6 +100,7 @@ module _ {C S K P L Q : Type 0} (links : K → LinkMeaning) (listeners : L → L
     pub settled : Settled (listeners name.listener.value) (listeners near.listener)
     pub sound : SoundAs near.faulted (listeners name.listener.value) (listeners near.listener)
     pub ended : near.over ≡ true → (listeners near.listener).ended ≡ true
+    pub goes_on : near.over ≡ false → (listeners near.listener).ended ≡ (listeners name.listener.value).ended
     pub offers : near.over ≡ true → ForSome (listeners name.listener.value).offers (λ all. (listeners near.listener).given ≡ Some all)
     pub clock : TellsOn (clocks name.clock.value) (clocks near.clock)
     pub timed : AllByRecursion (TimedIn (clocks name.clock.value).window) (events marks)

@@ -85,6 +85,7 @@ pub fn finish<'a, A: Types, P: Served<A, L::Link>, L: Listener, C: Clock>(
     ensures settled { Settled (L.meaning board.entry.name.listener.value) (L.meaning result.listener) }
     ensures sound { SoundAs result.faulted (L.meaning board.entry.name.listener.value) (L.meaning result.listener) }
     ensures ended { result.over ≡ true → (L.meaning result.listener).ended ≡ true }
+    ensures goes_on { result.over ≡ false → (L.meaning result.listener).ended ≡ (L.meaning board.entry.name.listener.value).ended }
     ensures offers { result.over ≡ true → ForSome (L.meaning board.entry.name.listener.value).offers (λ all. (L.meaning result.listener).given ≡ Some all) }
 {
     let Board {

@@ -13,6 +13,7 @@ mod words;
 
 pub use laws::{sets_once, shown_once};
 pub use program::{CONFIG_REFUSAL, run};
-pub use sample::{Handler, Quiet, Sample};
-pub use script::SCRIPT_LIMIT;
+pub use sample::{Handler, Quiet, Sample, SampleHistory};
+pub use script::{BadLine, SCRIPT_LIMIT, ScriptRequest, parse_script};
+pub use serving::launch_sample;
 pub use words::USAGE;

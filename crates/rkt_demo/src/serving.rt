@@ -127,6 +127,30 @@ fn serve_over<Q: StopReason, R: Wait + Threads, C: Clock>(
     Ok(serve_launch(rt, alloc, rocket, requests, clock)?)
 }
 
+/// Launches the sample over this reason, with what a table sets, offers it requests, and gives the history of that.
+pub fn launch_sample<Q: StopReason, R: Wait + Threads, C: Clock>(
+    rt: &R,
+    alloc: Global,
+    table: ConfigTable,
+    requests: Vec<ScriptRequest>,
+    clock: C,
+) -> Result<SampleHistory, Want<IgniteError>>
+    ensures serves { IfOk result (λ history. ServesFront table Q.stop_word (C.meaning clock).window requests.items history.events) }
+    ensures all { ((word : ℕ) → ¬ Q.allowed word) → IfOk result (λ history. admitted history.events ≡ length requests.items) }
+    ensures accepted { OnOk result (IsAccepted table) }
+    ensures refused { IfRefused result (λ _. ¬ IsAccepted table) }
+{
+    let served = serve_over::<Q, R, C>(rt, alloc, table, requests, clock)?;
+    let Served {
+        history,
+        clock,
+        table,
+    } = served;
+    drop(clock);
+    drop(table);
+    Ok(history)
+}
+
 // Serves requests of which none is for `/stop`, in one launch, and tells how they ended.
 fn serve_alone<R: Wait + Threads, C: Clock>(
     rt: &R,

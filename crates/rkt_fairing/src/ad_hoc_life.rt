@@ -122,6 +122,8 @@ impl<C> OnIgnite<C> {
         C: ChangesBuilding<A, G> + Drop,
         ensures name { self.new.name.now ≡ self.old.name.now }
         ensures key { self.new.key ≡ self.old.key }
+        // For want of memory too it is not made again.
+        ensures taken { self.new.change ≡ None }
         ensures changes { StepsTo result (λ answer. once C.may self.old.change building.old self.new.change building.new × (answer ≡ Ok tt)) ⊤ }
     {
         match change_once(alloc, &mut self.change, building) {
@@ -137,7 +139,8 @@ fn change_once<A: Parts, G, C: ChangesBuilding<A, G> + Drop>(
     change: &mut Option<C>,
     building: &mut Building<A, G>,
 ) -> Result<(), NoMemory>
-    ensures { OnOk result (once C.may change.old building.old change.new building.new) }
+    ensures taken { change.new ≡ None }
+    ensures changes { OnOk result (once C.may change.old building.old change.new building.new) }
 {
     match change.take() {
         Some(mut change) => change.on_ignite(alloc, building),
@@ -210,6 +213,8 @@ impl<C> TryOnIgnite<C> {
         C: TriesBuilding<A, G> + Drop,
         ensures name { self.new.name.now ≡ self.old.name.now }
         ensures key { self.new.key ≡ self.old.key }
+        // For want of memory too it is not made again.
+        ensures taken { self.new.change ≡ None }
         ensures changes { StepsTo result (λ answer. tried_once C.may self.old.change building.old answer self.new.change building.new) ⊤ }
     {
         match try_once(alloc, &mut self.change, building) {
@@ -225,7 +230,8 @@ fn try_once<A: Parts, G, C: TriesBuilding<A, G> + Drop>(
     change: &mut Option<C>,
     building: &mut Building<A, G>,
 ) -> Result<Result<(), ()>, NoMemory>
-    ensures { IfOk result (λ answer. tried_once C.may change.old building.old answer change.new building.new) }
+    ensures taken { change.new ≡ None }
+    ensures changes { IfOk result (λ answer. tried_once C.may change.old building.old answer change.new building.new) }
 {
     match change.take() {
         Some(mut change) => change.try_on_ignite(alloc, building),
@@ -300,6 +306,8 @@ impl<C> OnLiftoff<C> {
         C: SeesLiftoff<A> + Drop,
         ensures name { self.new.name.now ≡ self.old.name.now }
         ensures key { self.new.key ≡ self.old.key }
+        // For want of memory too it is not made again.
+        ensures taken { self.new.change ≡ None }
         ensures changes { StepsTo result (λ _. once (λ change. C.may change view.now) self.old.change shutdown.old self.new.change shutdown.new) ⊤ }
         ensures hands_back { HandsBack shutdown.old shutdown.new }
     {
@@ -317,6 +325,7 @@ fn see_once<A: Parts, C: SeesLiftoff<A> + Drop>(
     view: &View<'_, A>,
     shutdown: &mut Shutdown<A::Reason>,
 ) -> Result<(), NoMemory>
+    ensures taken { change.new ≡ None }
     ensures changes { OnOk result (once (λ change. C.may change view.now) change.old shutdown.old change.new shutdown.new) }
     ensures hands_back { HandsBack shutdown.old shutdown.new }
 {

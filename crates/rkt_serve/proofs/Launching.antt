@@ -20,7 +20,7 @@ use Rattle.rkt_board.specs.declared.history.EventOf.TheVariants.{Lift, Trip, Adm
 use Rattle.rkt_board.specs.declared.history.HistoryOf.{HistoryOf}
 use Rattle.rkt_serve.proofs.Handles.{hands_back_more}
 use Rattle.rkt_serve.specs.Causes.{AllCaused, CauseAt}
-use Rattle.rkt_serve.specs.Headline.{AllTimed, HasEntry, IsCallers, IsLegal, IsOver}
+use Rattle.rkt_serve.specs.Headline.{AllTimed, GoesOn, HasEntry, IsCallers, IsLegal, IsOver}
 use Rattle.rkt_ignition.specs.declared.error.IgniteError.{IgniteError}
 use Rattle.rkt_serve.specs.Kept.{GivesBack, IfUnlit, IsLit}
 use Rattle.rkt_serve.specs.declared.error.ErrorKindOf.{ErrorKindOf}
@@ -70,6 +70,10 @@ module _ {F H K N V X Q C R L : Type 0} (tables : SeenTables F H K N V) (table :
       → list_any is_trip launched.history.events ≡ false → ForSome offers (λ all. (listeners launched.listener).given ≡ Some all)
   left_offers listeners offers all (inl over) none = rw is.listener (all over)
   left_offers listeners offers all (inr trip) none = absurd (cc (trip, rw is.history at none))
+
+  pub left_goes_on : (listeners : X → ListenerMeaning) → (closed.over ≡ false → (listeners closed.listener).ended ≡ false) → (closed.over ≡ false) × (list_any is_trip closed.history.events ≡ false)
+      → GoesOn (listeners launched.listener) launched.history.events
+  left_goes_on listeners goes none = (rw is.listener (goes none.0), rw is.history none.1)
 
   pub left_sound : (listeners : X → ListenerMeaning) (old : ListenerMeaning) → SoundAs closed.faulted old (listeners closed.listener) → closed.faulted ≡ false → old.faults ≡ 0 → (listeners launched.listener).faults ≡ 0
   left_sound listeners old sound goes none = rw is.listener (subst (λ (b : Bool). SoundAs b old (listeners closed.listener)) goes sound ∙ none)

@@ -1,5 +1,5 @@
 -- What a launch promises of its history.
-use Rattle.std.specs.Prelude.{◌≡◌, ◌<◌, ◌⊎◌, ℕ, true, List, Option, Some, slice_get}
+use Rattle.std.specs.Prelude.{◌≡◌, ◌<◌, ◌⊎◌, ℕ, true, false, List, Option, Some, slice_get}
 use Rattle.std.specs.List.{AllByRecursion, list_any}
 use Rattle.std.specs.Option.{ForSome}
 use Rattle.rkt_lifecycle.specs.Tables.{SeenTables}
@@ -19,6 +19,10 @@ module _ {C R L : Type 0} where
   -- the listener has ended, or a word was seen on the wire
   abbrev pub IsOver : ListenerMeaning → List (EventOf C R L) → Type 0
   IsOver listener events = (listener.ended ≡ true) ⊎ (list_any is_trip events ≡ true)
+
+  -- it has not ended, and no word was seen
+  abbrev pub GoesOn : ListenerMeaning → List (EventOf C R L) → Type 0
+  GoesOn listener events = (listener.ended ≡ false) × (list_any is_trip events ≡ false)
 
   -- the moments of all events and of their runs lie in the window
   abbrev pub AllTimed : Option (ℕ × ℕ) → List (EventOf C R L) → Type 0

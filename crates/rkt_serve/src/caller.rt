@@ -199,6 +199,7 @@ where
     ensures settled { Settled (L.meaning listener) (L.meaning result.0.listener) }
     ensures sound { SoundAs result.0.faulted (L.meaning listener) (L.meaning result.0.listener) }
     ensures ended { result.0.over ≡ true → (L.meaning result.0.listener).ended ≡ true }
+    ensures goes_on { result.0.over ≡ false → (L.meaning result.0.listener).ended ≡ false }
     ensures offers { result.0.over ≡ true → ForSome (L.meaning listener).offers (λ all. (L.meaning result.0.listener).given ≡ Some all) }
 {
     let lent = Lent { tables };

@@ -12,7 +12,7 @@ ghost use Rattle.rkt_turn.specs.Shutdown.{Handle, fresh};
 ghost use Rattle.rkt_serve.specs.Causes.{AllCaused};
 ghost use Rattle.rkt_board.specs.Closed.{AllAdmitted};
 ghost use Rattle.rkt_board.specs.Events.{is_trip, admitted, trip_of, Ordered, IsClosed, EachEndsOnce};
-ghost use Rattle.rkt_serve.specs.Headline.{HasEntry, AllTimed, IsCallers, IsLegal, IsOver};
+ghost use Rattle.rkt_serve.specs.Headline.{GoesOn, HasEntry, AllTimed, IsCallers, IsLegal, IsOver};
 ghost use Rattle.rkt_serve.specs.Kept.{GivesBack, IfKept, IfShutdown, IfUnlit, IfWanting, IsLit, IsWant};
 ghost use Rattle.rkt_serve.specs.Left.{IsLeft};
 ghost use Rattle.rkt_serve.specs.Lifted.{IsLifted, LiftsOff};
@@ -93,8 +93,8 @@ pub trait Launch<A: App>: Sized {
             IsLegal A.Reason.allowed A.Fairing.Shuts.calling (serving A.Fairing.Requests.calling A.Fairing.Responses.calling A.Handler.calling A.Catch.calling A.Source.meaning A.Stream.meaning L.Link.meaning (C.meaning clock).window) l.rocket.tables (L.meaning l.listener).given l.history.events)) }
         ensures kept_sound { IfErr result (λ e. IfWanting e (λ l. (L.meaning l.listener).faults ≡ 0)) }
         ensures kept_settled { IfErr result (λ e. IfKept e (λ l. Settled (L.meaning listener) (L.meaning l.listener))) }
-        // What is kept for want of memory has no Trip.
-        ensures kept_goes_on { IfErr result (λ e. IfWanting e (λ l. list_any is_trip l.history.events ≡ false)) }
+        // What is kept for want of memory has come neither to the listener's end nor to a Trip.
+        ensures kept_goes_on { IfErr result (λ e. IfWanting e (λ l. GoesOn (L.meaning l.listener) l.history.events)) }
         ensures kept_word { IfErr result (λ e. IfKept e (λ l. ForSome (trip_of l.history.events) (λ trip. l.rocket.handle.seen ≡ trip.0))) }
         ensures kept_still { IfErr result (λ e. IfKept e (λ l. 0 < seen self → admitted l.history.events ≡ 0)) }
         ensures kept_window { IfErr result (λ e. IfKept e (λ l. (C.meaning l.clock).window ≡ (C.meaning clock).window)) }
@@ -121,6 +121,7 @@ fn with_back<W: Reason>(mut handle: Shutdown<W>, back: Option<Shutdown<W>>) -> S
 #[tactic(auto, using(rkt_board::proofs::Core::found_trip, crate::proofs::Launching::none_found))]
 fn is_over<C, S, K>(over: bool, history: &HistoryOf<C, S, K>) -> bool
     ensures found { IsTrue result → (over ≡ true) ⊎ (list_any is_trip history.now.events ≡ true) }
+    ensures goes_on { result ≡ false → over ≡ false }
     ensures trip { result ≡ false → list_any is_trip history.now.events ≡ false }
 {
     over || history.trip().is_some()
@@ -137,7 +138,7 @@ fn answered<A: App, L: Listener, C: Clock>(
     ensures sound { IfOk result (λ l. closed.faulted ≡ false) }
     ensures kept { IfErr result (λ e. IfKept e (IsLeft tables table closed)) }
     ensures kept_sound { IfErr result (λ e. IfWanting e (λ l. closed.faulted ≡ false)) }
-    ensures kept_goes_on { IfErr result (λ e. IfWanting e (λ l. list_any is_trip l.history.events ≡ false)) }
+    ensures kept_goes_on { IfErr result (λ e. IfWanting e (λ l. (closed.over ≡ false) × (list_any is_trip closed.history.events ≡ false))) }
     ensures shutdown { IfErr result (λ e. IfShutdown e (λ l. closed.faulted ≡ true)) }
     ensures lit { IfErr result (λ e. IsLit e) }
     ensures want { closed.faulted ≡ false → IfErr result (λ e. IsWant e) }

@@ -40,6 +40,12 @@ returns-clause-offers g c over all is =
     let listener = ap (λ n. n.listener.value) name ∙ c.lift-board.ensures.name.1 in
     c.finish-closed.ensures.offers over all (subst (λ l. (g.L.Listener.meaning l).offers ≡ Some all) (sym listener) is)
 
+pub returns-clause-goes_on : goal.returns-clause-goes_on
+returns-clause-goes_on g c none =
+    let name = c.bring_to_close.ensures.name ∙ (c.bring_down.ensures.name ∙ c.work-back.ensures.name) in
+    let listener = ap (λ n. n.listener.value) name ∙ c.lift-board.ensures.name.1 in
+    c.finish-closed.ensures.goes_on none ∙ (ap (λ l. (g.L.Listener.meaning l).ended) listener ∙ c.requires.fresh.goes_on)
+
 pub returns-clause-lifted : goal.returns-clause-lifted
 returns-clause-lifted g c =
     let name = c.bring_to_close.ensures.name ∙ (c.bring_down.ensures.name ∙ c.work-back.ensures.name) in

@@ -4,7 +4,7 @@ use Rattle.rkt_board.proofs.Core.{tripped_word}
 use Rattle.rkt_board.specs.Events.{trip_of}
 use Rattle.rkt_serve.specs.Serving.{serving}
 use Rattle.rkt_serve.proofs.Lifting.{lifted_off}
-use Rattle.rkt_serve.proofs.Launching.{back_to, if_both, left_back, left_legal, left_offers, left_over, left_failed, left_settled, left_sound, left_still, left_window, left_word, never_failed, same_wire, unlit_lit, gives_lit}
+use Rattle.rkt_serve.proofs.Launching.{back_to, if_both, left_back, left_goes_on, left_legal, left_offers, left_over, left_failed, left_settled, left_sound, left_still, left_window, left_word, never_failed, same_wire, unlit_lit, gives_lit}
 use Rattle.rkt_serve.proofs.Lighting.{if_kept, if_shutdown, if_wanting}
 use Rattle.rkt_serve.proofs.launch.RocketIgniteLaunch.launch.Goals as goal
 
@@ -43,7 +43,7 @@ returns g c =
       window = IfOk-weaker c.answered.result _ _ (λ l is. left_window tables table closed l is g.C.Clock.meaning (g.C.Clock.meaning c.args.clock) known.clock) ok;
       kept_window = IfErr-weaker c.answered.result _ _ (if_kept _ _ (λ l is. left_window tables table closed l is g.C.Clock.meaning (g.C.Clock.meaning c.args.clock) known.clock)) kept;
       word = IfOk-weaker c.answered.result _ _ (λ l is. left_word tables table closed l is above known.word) ok;
-      kept_goes_on = c.answered.ensures.kept_goes_on;
+      kept_goes_on = if_wanting _ _ _ (λ l is none. left_goes_on tables table closed l is g.L.Listener.meaning known.goes_on none) c.answered.result kept c.answered.ensures.kept_goes_on;
       kept_word = IfErr-weaker c.answered.result _ _ (if_kept _ _ (λ l is. left_word tables table closed l is above known.word)) kept;
       still = IfOk-weaker c.answered.result _ _ (λ l is. left_still tables table closed l is still) ok;
       kept_still = IfErr-weaker c.answered.result _ _ (if_kept _ _ (λ l is. left_still tables table closed l is still)) kept;
