@@ -107,7 +107,7 @@ module _ (laws : Spelling) (word : ℕ) (window : Option (ℕ × ℕ)) (table : 
     made = made_of request entry Answered caused served;
     told = rw caused.sent.1 (record { pieces = entry.link.held; sent = subst (Sent source_meaning caused.first) (sym (caused.held entry.link.held refl)) caused.sent; text = refl });
   }
-  section_of_cause k request entry Lost caused served = absurd (cc (ap (λ (a : Asked). a.never_faults) served.asks, caused.1.may))
+  section_of_cause k request entry Lost caused served = absurd (cc (ap (λ (a : Asked). a.never_faults) served.asks, caused.1))
   section_of_cause k request entry (Failed BadHead) caused served = record {
     response = caused.first;
     made = made_of request entry (Failed BadHead) caused served;

@@ -1,9 +1,9 @@
 -- What a link means, and what its calls do.
 use Rattle.std.specs.Prelude.{◌≡◌, ◌++◌, ℕ, List, [], ◌∷◌, Bool, true, false, Option, Result, Ok, Err, option_map}
 use Rattle.std.specs.Option.{ForSome}
-use Rattle.rkt_base.specs.Counts.{Rose}
 use Rattle.rkt_base.specs.declared.poll.Poll.{Poll}
 use Rattle.rkt_base.specs.declared.poll.Poll.TheVariants.{Ready, Pending}
+use Rattle.rkt_source.specs.Memory.{counted}
 use Rattle.rkt_message.specs.declared.piece.Piece.{Piece}
 use Rattle.rkt_link.specs.Asked.{Asked}
 use Rattle.rkt_link.specs.declared.link.Handed.{Handed}
@@ -31,10 +31,10 @@ with_source_taken link = record link { source_taken = true }
 abbrev pub with_taken : LinkMeaning → List Piece → LinkMeaning
 with_taken link pieces = record link { held = option_map (λ held. held ++ pieces) link.held }
 
--- a fault is counted, and changes nothing else; a link that says that it never fails has none
+-- a fault is counted once, and changes nothing else; a link that says that it never fails has none
 pub record Faults (old new : LinkMeaning) : Type 0 where
   pub only : new ≡ record old { faults = new.faults }
-  pub rose : Rose old.faults new.faults
+  pub once : new.faults ≡ counted old.faults
   pub may : old.never_faults ≡ false
 
 -- what a piece that was not taken changes

@@ -13,7 +13,7 @@ use rkt_request::Head;
 /// Why a piece was not taken.
 #[derive(Clone, Copy, Debug, PartialEq, Eq)]
 pub enum SendError {
-    /// The link has failed, and has counted it.
+    /// The link has failed, and has counted it once; a count that stands at the end of a u64 stays.
     Fault,
     /// There was no memory for it.
     NoMemory,

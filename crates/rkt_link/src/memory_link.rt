@@ -1,6 +1,5 @@
 //! A link in memory.
 ghost use Rattle.std.specs.Prelude.{◌≡◌, ◌++◌, ◌∷◌, [], false, List, IfOk, IsTrue, OnOk, OnErr};
-ghost use Rattle.rkt_base.specs.Counts.{Rose};
 ghost use Rattle.rkt_source.specs.Memory.{counted, is_listed};
 ghost use Rattle.rkt_link.specs.Memory.{never_fails};
 
@@ -108,7 +107,7 @@ impl MemoryLink {
     // Counts one send more, and whether it fails.
     fn count_send(&mut self) -> bool
         ensures sends { self.new ≡ record self.old { sends = counted self.old.sends; faults = self.new.faults } }
-        ensures fails { IsTrue result → Rose self.old.faults self.new.faults × (never_fails self.old.fails ≡ false) }
+        ensures fails { IsTrue result → (self.new.faults ≡ counted self.old.faults) × (never_fails self.old.fails ≡ false) }
         ensures passes { result ≡ false → self.new.faults ≡ self.old.faults }
         ensures listed { result ≡ is_listed self.old.fails self.old.sends }
     {

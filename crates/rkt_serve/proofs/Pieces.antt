@@ -10,10 +10,11 @@ use Rattle.rkt_message.specs.Response.{ResponseOf}
 use Rattle.rkt_message.specs.Sending.{ReadOn}
 use Rattle.rkt_message.specs.declared.piece.Piece.{Piece}
 use Rattle.rkt_routing.specs.Routed.{turns_of}
-use Rattle.rkt_serve.specs.Causes.{CausedAs, Caused, HasFailed, Ran}
+use Rattle.rkt_source.specs.Memory.{counted}
+use Rattle.rkt_serve.specs.Causes.{CausedAs, Caused, Ran}
 use Rattle.rkt_serve.specs.Lifecycle.{Lifecycle}
 use Rattle.rkt_link.specs.Link.{LinkMeaning, with_taken}
-use Rattle.rkt_serve.specs.Sent.{IsSentAs, LeftBy}
+use Rattle.rkt_serve.specs.Sent.{IsSentAs, LeftBy, fault_count}
 use Rattle.rkt_serve.specs.Serving.{Serving, callbacks_of}
 use Rattle.rkt_board.specs.declared.history.End.{End as Ending}
 use Rattle.rkt_board.specs.declared.history.End.TheVariants.{Answered, Lost, Failed, Starved}
@@ -51,16 +52,23 @@ left_held Lost old new taken left = ap (λ (m : LinkMeaning). m.held) left.only
 left_held (Failed failure) old new taken left = ap (λ (m : LinkMeaning). m.held) left
 left_held Starved old new taken left = ap (λ (m : LinkMeaning). m.held) left
 
--- a link that was lost has failed
-lost_failed : (old new : LinkMeaning) (taken : List Piece) → LeftBy Lost old taken new → HasFailed new
-lost_failed old new taken left = record { counted = omega (arith, left.rose); may = ap (λ (m : LinkMeaning). m.never_faults) left.only ∙ left.may }
+-- a link that had not failed has failed once where it lost its response
+left_faults : (ended : Ending) (old new : LinkMeaning) (taken : List Piece) → LeftBy ended old taken new → old.faults ≡ 0 → new.faults ≡ fault_count ended
+left_faults Answered old new taken left none = ap (λ (m : LinkMeaning). m.faults) left ∙ none
+left_faults Lost old new taken left none = omega (arith, left.once, none)
+left_faults (Failed failure) old new taken left none = ap (λ (m : LinkMeaning). m.faults) left ∙ none
+left_faults Starved old new taken left none = ap (λ (m : LinkMeaning). m.faults) left ∙ none
+
+-- one that was lost does not say that it never fails
+lost_may : (old new : LinkMeaning) (taken : List Piece) → LeftBy Lost old taken new → new.never_faults ≡ false
+lost_may old new taken left = ap (λ (m : LinkMeaning). m.never_faults) left.only ∙ left.may
 
 module _ {V S C R F FTask GTask H HTask K KTask L N : Type 0} (served : Serving V S C R F FTask GTask H HTask K KTask L) (tables : SeenTables F H K N V) (entry : EntryOf C R L) (old : LinkMeaning) (run : RunOf C) (first response : ResponseOf R) where
   -- a run whose response was sent on a fresh link, and that is kept
   ran_sent : (ended : Ending) (taken : List Piece) → entry ≡ record { link = entry.link; run = Some run; response = Some response; end = ended }
-      → ForSome old.asked (λ asked. Lifecycle (callbacks_of served tables) tables served.sources asked run first) → ForSome old.held (λ held. held ≡ []) → ReadOn served.streams first response
+      → ForSome old.asked (λ asked. Lifecycle (callbacks_of served tables) tables served.sources asked run first) → ForSome old.held (λ held. held ≡ []) → old.faults ≡ 0 → ReadOn served.streams first response
       → ReadsOn served.streams None first.body.content response.body.content → IsSentAs served.streams (turns_of (table_of tables)) first response ended taken → LeftBy ended old taken (served.links entry.link) → Ran served tables entry ended
-  ran_sent ended taken is lifecycle fresh on untripped sent left = record {
+  ran_sent ended taken is lifecycle fresh none on untripped sent left = record {
     run = run;
     run_kept = ap (λ (e : EntryOf _ _ _). e.run) is;
     first = first;
@@ -72,16 +80,17 @@ module _ {V S C R F FTask GTask H HTask K KTask L N : Type 0} (served : Serving 
     pieces = taken;
     sent = sent;
     held = λ held told. held_only old.held taken held fresh (sym (left_held ended old (served.links entry.link) taken left) ∙ told);
+    faults = left_faults ended old (served.links entry.link) taken left none;
   }
 
   -- so its end has its cause
   pub caused_sent : (ended : Ending) (taken : List Piece) → entry ≡ record { link = entry.link; run = Some run; response = Some response; end = ended }
-      → ForSome old.asked (λ asked. Lifecycle (callbacks_of served tables) tables served.sources asked run first) → ForSome old.held (λ held. held ≡ []) → ReadOn served.streams first response
+      → ForSome old.asked (λ asked. Lifecycle (callbacks_of served tables) tables served.sources asked run first) → ForSome old.held (λ held. held ≡ []) → old.faults ≡ 0 → ReadOn served.streams first response
       → ReadsOn served.streams None first.body.content response.body.content → IsSentAs served.streams (turns_of (table_of tables)) first response ended taken → LeftBy ended old taken (served.links entry.link) → Caused served tables entry
-  caused_sent Starved taken is lifecycle fresh on untripped sent left = absurd sent
-  caused_sent Answered taken is lifecycle fresh on untripped sent left = subst (CausedAs served tables entry) (sym (ap (λ (e : EntryOf _ _ _). e.end) is)) (ran_sent Answered taken is lifecycle fresh on untripped sent left)
-  caused_sent Lost taken is lifecycle fresh on untripped sent left = subst (CausedAs served tables entry) (sym (ap (λ (e : EntryOf _ _ _). e.end) is)) (ran_sent Lost taken is lifecycle fresh on untripped sent left, lost_failed old (served.links entry.link) taken left)
-  caused_sent (Failed failure) taken is lifecycle fresh on untripped sent left = subst (CausedAs served tables entry) (sym (ap (λ (e : EntryOf _ _ _). e.end) is)) (ran_sent (Failed failure) taken is lifecycle fresh on untripped sent left)
+  caused_sent Starved taken is lifecycle fresh none on untripped sent left = absurd sent
+  caused_sent Answered taken is lifecycle fresh none on untripped sent left = subst (CausedAs served tables entry) (sym (ap (λ (e : EntryOf _ _ _). e.end) is)) (ran_sent Answered taken is lifecycle fresh none on untripped sent left)
+  caused_sent Lost taken is lifecycle fresh none on untripped sent left = subst (CausedAs served tables entry) (sym (ap (λ (e : EntryOf _ _ _). e.end) is)) (ran_sent Lost taken is lifecycle fresh none on untripped sent left, lost_may old (served.links entry.link) taken left)
+  caused_sent (Failed failure) taken is lifecycle fresh none on untripped sent left = subst (CausedAs served tables entry) (sym (ap (λ (e : EntryOf _ _ _). e.end) is)) (ran_sent (Failed failure) taken is lifecycle fresh none on untripped sent left)
 
 -- how a sending ended, said of equal values
 pub ended_as : {S E : Type 0} (stream : S → Meaning) (answer : Result Ending E) (turns n : ℕ) (begun first last left : ResponseOf S) (old new : LinkMeaning) → turns ≡ n → begun ≡ first → last ≡ left

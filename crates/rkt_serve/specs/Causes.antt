@@ -10,25 +10,19 @@ use Rattle.rkt_message.specs.Sending.{ReadOn}
 use Rattle.rkt_message.specs.declared.piece.Piece.{Piece}
 use Rattle.rkt_routing.specs.Routed.{turns_of}
 use Rattle.rkt_routing.specs.declared.run.Call.{Call}
-use Rattle.rkt_link.specs.Link.{LinkMeaning}
 use Rattle.rkt_board.specs.After.{AfterFrom}
 use Rattle.rkt_board.specs.Turns.{ShowsTrip}
 use Rattle.rkt_orbit.specs.Calls.{CallingAtShutdown}
 use Rattle.rkt_orbit.specs.ShutsDown.{ShutsDown}
 use Rattle.rkt_serve.specs.Lifecycle.{Lifecycle}
 use Rattle.rkt_serve.specs.Lifted.{view_of}
-use Rattle.rkt_serve.specs.Sent.{IsSentAs}
+use Rattle.rkt_serve.specs.Sent.{IsSentAs, fault_count}
 use Rattle.rkt_serve.specs.Serving.{Serving, callbacks_of}
 use Rattle.rkt_board.specs.declared.history.End.{End as Ending}
 use Rattle.rkt_board.specs.declared.history.End.TheVariants.{Answered, Lost, Failed, Starved}
 use Rattle.rkt_board.specs.declared.history.EntryOf.{EntryOf}
 use Rattle.rkt_board.specs.declared.history.EventOf.{EventOf}
 use Rattle.rkt_board.specs.declared.history.EventOf.TheVariants.{Lift, Trip, Admit, End, Down, Close}
-
--- a link has failed, and does not say that it never does
-pub record HasFailed (link : LinkMeaning) : Type 0 where
-  pub counted : 0 < link.faults
-  pub may : link.never_faults ≡ false
 
 module _ {V S C R F FTask GTask H HTask K KTask L N : Type 0} (served : Serving V S C R F FTask GTask H HTask K KTask L) (tables : SeenTables F H K N V) where
   -- a run and a response are kept, and the response was sent with this end
@@ -49,11 +43,13 @@ module _ {V S C R F FTask GTask H HTask K KTask L N : Type 0} (served : Serving 
     pub pieces : List Piece
     pub sent : IsSentAs served.streams (turns_of (table_of tables)) first response ended pieces
     pub held : ForSome (served.links entry.link).held (λ held. held ≡ pieces)
+    -- it has failed once where the response was lost, and else never
+    pub faults : (served.links entry.link).faults ≡ fault_count ended
 
-  -- Answered, Lost and Failed: with a run and a response; Lost only where the link has failed. Starved: nothing is kept
+  -- Answered, Lost and Failed: with a run and a response; Lost only on a link that does not say that it never fails. Starved: nothing is kept
   abbrev pub CausedAs : EntryOf C R L → Ending → Type 0
   CausedAs entry Answered = Ran entry Answered
-  CausedAs entry Lost = Ran entry Lost × HasFailed (served.links entry.link)
+  CausedAs entry Lost = Ran entry Lost × ((served.links entry.link).never_faults ≡ false)
   CausedAs entry (Failed failure) = Ran entry (Failed failure)
   CausedAs entry Starved = (entry.run ≡ None) × (entry.response ≡ None)
 

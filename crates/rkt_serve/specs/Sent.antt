@@ -28,6 +28,13 @@ IsSentAs stream turns first last (Failed BadHead) pieces = (has_head first ≡ f
 IsSentAs stream turns first last (Failed BodyFault) pieces = BodyFails stream turns first last × IsProperFront (Sent stream first) pieces × (pieces ≢ [])
 IsSentAs stream turns first last Starved pieces = ⊥
 
+-- how often a link has failed that was served so: once where the response was lost
+abbrev pub fault_count : Ending → ℕ
+fault_count Answered = 0
+fault_count Lost = 1
+fault_count (Failed failure) = 0
+fault_count Starved = 0
+
 -- how a link is left that took these pieces: where the response was lost, it has failed behind them
 abbrev pub LeftBy : Ending → LinkMeaning → List Piece → LinkMeaning → Type 0
 LeftBy Answered old pieces new = new ≡ with_taken old pieces

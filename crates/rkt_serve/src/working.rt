@@ -66,7 +66,7 @@ impl<'a, A: App, R: Wait> Worker<'a, A, R> {
         moment: u64,
     ) -> Entry<A, K>
         ensures asked { (K.meaning result.link).asked ≡ (K.meaning link).asked }
-        ensures caused { (window : Option (ℕ × ℕ)) → ForSome (K.meaning link).held (λ held. held ≡ [])
+        ensures caused { (window : Option (ℕ × ℕ)) → ForSome (K.meaning link).held (λ held. held ≡ []) → (K.meaning link).faults ≡ 0
             → ForSome (K.meaning link).asked (λ asked. Lifecycle (callbacks_of (serving A.Fairing.Requests.calling A.Fairing.Responses.calling A.Handler.calling A.Catch.calling A.Source.meaning A.Stream.meaning K.meaning window) self.now.tables.now) self.now.tables.now A.Source.meaning asked run response)
             → Caused (serving A.Fairing.Requests.calling A.Fairing.Responses.calling A.Handler.calling A.Catch.calling A.Source.meaning A.Stream.meaning K.meaning window) self.now.tables.now result }
         ensures moment { ForSome result.run (λ kept. kept.moment ≡ run.moment) }

@@ -10,7 +10,7 @@ returns-in-Finished-clause-caused g c fresh =
     let taken = c.in-Some.ensures in
     let asks = sym (ap (λ (m : LinkMeaning). m.asked) taken.link) in
     let holds = sym (ap (λ (m : LinkMeaning). m.held) taken.link) in
-    c.answer.ensures.caused (g.C.Clock.meaning c.args.board.now.near.clock).window (λ held told. fresh.none_held held (holds ∙ told))
+    c.answer.ensures.caused (g.C.Clock.meaning c.args.board.now.near.clock).window (λ held told. fresh.none_held held (holds ∙ told)) (ap (λ (m : LinkMeaning). m.faults) taken.link ∙ fresh.no_fault)
     (λ asked told. rw c.in-Finished.is at (c.run_exchange-ended.ensures.lifecycle asked (c.head.ensures asked told) taken.untouched (taken.body asked (asks ∙ told))))
 
 pub returns-in-Finished-clause-moment : goal.returns-in-Finished-clause-moment
