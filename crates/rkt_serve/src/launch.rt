@@ -1,5 +1,5 @@
 //! The launch of a rocket.
-ghost use Rattle.std.specs.Prelude.{◌≡◌, ◌<◌, ◌⊎◌, ℕ, List, Some, true, false, IfOk, IfErr, IfSome, IsTrue, ⊤};
+ghost use Rattle.std.specs.Prelude.{◌≡◌, ◌<◌, ◌≤◌, ◌⊎◌, [], ℕ, List, Some, true, false, IfOk, IfErr, IfSome, IsTrue, ⊤, length, vec_capacity};
 ghost use Rattle.std.specs.List.{AllByRecursion, list_any};
 ghost use Rattle.std.specs.Option.{ForSome};
 ghost use Rattle.rkt_turn.specs.HandsBack.{HandsBack};
@@ -10,24 +10,25 @@ ghost use Rattle.rkt_life.specs.Ignition.{IgnitesTo};
 ghost use Rattle.rkt_life.specs.Rocket.{SeenRocket};
 ghost use Rattle.rkt_turn.specs.Shutdown.{Handle, fresh};
 ghost use Rattle.rkt_serve.specs.Causes.{AllCaused};
+ghost use Rattle.rkt_board.specs.Board.{IsBlank};
 ghost use Rattle.rkt_board.specs.Closed.{AllAdmitted};
 ghost use Rattle.rkt_board.specs.Events.{is_trip, admitted, trip_of, Ordered, IsClosed, EachEndsOnce};
 ghost use Rattle.rkt_serve.specs.Headline.{GoesOn, HasEntry, AllTimed, IsCallers, IsLegal, IsOver};
 ghost use Rattle.rkt_serve.specs.Kept.{GivesBack, IfKept, IfShutdown, IfUnlit, IfWanting, IsLit, IsWant};
 ghost use Rattle.rkt_serve.specs.Left.{IsLeft};
-ghost use Rattle.rkt_serve.specs.Lifted.{IsLifted, LiftsOff};
-ghost use Rattle.rkt_orbit.specs.declared.called.Called.{Called};
+ghost use Rattle.rkt_serve.specs.Lifted.{IsLifted, LiftsOff, view_of};
+ghost use Rattle.rkt_orbit.specs.Lifts.{Lifts};
 ghost use Rattle.rkt_link.specs.Listener.{IsFresh, Settled};
 ghost use Rattle.rkt_serve.specs.Serving.{serving};
 
 use crate::caller::serve_to_close;
 use crate::orbit::lift_tables;
 use crate::{Clock, Error, ErrorKindOf, HistoryOf, Launched, LaunchedOf, Link, Listener};
-use rkt_base::Want;
-use rkt_board::{Book, Closed, ClosedOf};
+use rkt_base::{NoMemory, Seq, Want};
+use rkt_board::{Book, Closed, ClosedOf, Event, Mark};
 use rkt_life::{App, Build, Fairing, Ignite, Orbit, Rocket, Tables};
-use rkt_orbit::down_room;
-use rkt_request::ConfigTable;
+use rkt_orbit::{Called, down_room};
+use rkt_request::{ConfigTable, Types};
 use rkt_router::Aborts;
 use rkt_turn::{Reason, Shutdown};
 use std::alloc::Global;
@@ -103,6 +104,43 @@ pub trait Launch<A: App>: Sized {
         ensures shutdown { IfErr result (λ e. IfShutdown e (λ l. 0 < (L.meaning l.listener).faults)) }
         ensures outside { IfErr result (λ e. GivesBack listener clock e) }
         ensures complete { valid self → (L.meaning listener).never_faults ≡ true → IfErr result (λ e. IsWant e) };
+}
+
+// What a launch has before its Lift: room for what happens, the handle of the exchanges, and how the calls at liftoff ended.
+#[derive(Drop)]
+struct Begun<B, W> {
+    book: B,
+    room: Vec<Called>,
+    shutdown: W,
+    calls: Seq<Called>,
+}
+
+type BegunOf<A, K> = Begun<Book<Mark<A, K>, Event<A, K>>, Shutdown<<A as Types>::Reason>>;
+
+// Makes room, splits a handle off, and calls the fairings of liftoff.
+fn begin<A: App, K: Link>(
+    alloc: Global,
+    tables: &mut Tables<A>,
+    handle: &mut Shutdown<A::Reason>,
+) -> Result<BegunOf<A, K>, NoMemory>
+    ensures blank { IfOk result (λ begun. IsBlank begun.book) }
+    ensures empty { IfOk result (λ begun. begun.room.items ≡ []) }
+    ensures room { IfOk result (λ begun. length tables.new.fairings.places.shutdown ≤ vec_capacity begun.room) }
+    ensures lends { IfOk result (λ begun. begun.shutdown ≡ handle.old) }
+    ensures lifts { IfOk result (λ begun. Lifts A.Fairing.Lifts.calling (view_of tables.old) (record { fairings = tables.old.fairings; shutdown = handle.old }) begun.calls (record { fairings = tables.new.fairings; shutdown = handle.new })) }
+    ensures tables { IfOk result (λ begun. tables.new ≡ record tables.old { fairings = tables.new.fairings }) }
+    ensures handle { IfOk result (λ begun. HandsBack handle.old handle.new) }
+{
+    let book = Book::new(alloc)?;
+    let room = down_room(alloc, &tables.fairings)?;
+    let shutdown = handle.split()?;
+    let calls = lift_tables::<A>(alloc, tables, handle)?;
+    Ok(Begun {
+        book,
+        room,
+        shutdown,
+        calls,
+    })
 }
 
 // A handle that takes another one of its wire back.
@@ -191,19 +229,16 @@ impl<A: App> Launch<A> for Rocket<Ignite, A> {
     where
         L::Link: Link<Source = A::Source>,
     {
-        let Ok(book) = Book::new(alloc) else {
-            return Err(Error::new(ErrorKindOf::NoMemory { kept: None }));
-        };
         let (mut tables, table, mut handle) = self.into_orbit().into_parts();
-        let Ok(room) = down_room(alloc, &tables.fairings) else {
+        let Ok(begun) = begin::<A, L::Link>(alloc, &mut tables, &mut handle) else {
             return Err(Error::new(ErrorKindOf::NoMemory { kept: None }));
         };
-        let Ok(shutdown) = handle.split() else {
-            return Err(Error::new(ErrorKindOf::NoMemory { kept: None }));
-        };
-        let Ok(calls) = lift_tables::<A>(alloc, &mut tables, &mut handle) else {
-            return Err(Error::new(ErrorKindOf::NoMemory { kept: None }));
-        };
+        let Begun {
+            book,
+            room,
+            shutdown,
+            calls,
+        } = begun;
         let (closed, back) = serve_to_close::<A, R, L, C>(
             rt, alloc, &tables, book, listener, clock, handle, shutdown, calls, room,
         );

@@ -11,30 +11,30 @@ use Rattle.rkt_serve.proofs.launch.RocketIgniteLaunch.launch.Goals as goal
 pub with_back-handle-requires : goal.with_back-handle-requires
 with_back-handle-requires g c =
     let known = c.serve_to_close-closed.ensures in
-    same_wire c.serve_to_close-closed.result.1 c.in-Ok-split.shutdown c.lift_tables.new.handle c.serve_to_close-closed.result.0.handle known.lent known.handle (ap (λ h. h.wire) (c.in-Ok-split.ensures.copy ∙ sym c.split.ensures.same) ∙ sym c.lift_tables.ensures.handle.wire)
+    same_wire c.serve_to_close-closed.result.1 c.in-Ok.begun.shutdown c.begin.new.handle c.serve_to_close-closed.result.0.handle known.lent known.handle (ap (λ h. h.wire) c.in-Ok.ensures.lends ∙ sym c.in-Ok.ensures.handle.wire)
 
 pub returns : goal.returns
 returns g c =
     let known = c.serve_to_close-closed.ensures in
     let closed = c.serve_to_close-closed.result.0 in
-    let tables = c.lift_tables.new.tables in
+    let tables = c.begin.new.tables in
     let rocket = c.args.self in
     let table = c.into_parts-tables.result.1 in
-    let same = c.split.ensures.same ∙ c.into_parts-tables.ensures.handle ∙ ap (λ r. r.handle) c.into_orbit.ensures in
+    let same = c.into_parts-tables.ensures.handle ∙ ap (λ r. r.handle) c.into_orbit.ensures in
     let above : (trip : ℕ × ℕ) → trip_of c.serve_to_close-closed.result.0.history.events ≡ Some trip → 0 < trip.0 =
     λ trip found. tripped_word c.serve_to_close-closed.result.0.history.events (Some trip) (sym found) c.serve_to_close-closed.ensures.legal.ordered in
-    let still = λ (some : 0 < c.args.self.handle.seen). c.serve_to_close-closed.ensures.still (rw (c.lift_tables.ensures.handle.seen (subst (λ h. 0 < h.seen) (sym same) some), same) some) in
+    let still = λ (some : 0 < c.args.self.handle.seen). c.serve_to_close-closed.ensures.still (rw (c.in-Ok.ensures.handle.seen (subst (λ h. 0 < h.seen) (sym same) some), same) some) in
     let first = ap (λ r. r.tables) c.into_orbit.ensures in
     let given = c.into_parts-tables.ensures.tables ∙ first in
     let told = c.into_parts-tables.ensures.table ∙ ap (λ r. r.table) c.into_orbit.ensures in
-    let lifted = lifted_off g.A.Fairing.Lifts.LiftoffCallback.calling rocket tables table closed c.in-Ok-lift_tables.calls c.lift_tables.new.handle (rw (sym given, sym same) c.in-Ok-lift_tables.ensures.lifts) (rw (sym given) c.lift_tables.ensures.tables) told known.lifted known.handle known.looked known.still in
+    let lifted = lifted_off g.A.Fairing.Lifts.LiftoffCallback.calling rocket tables table closed c.in-Ok.begun.calls c.begin.new.handle (rw (sym given, sym same) c.in-Ok.ensures.lifts) (rw (sym given) c.in-Ok.ensures.tables) told known.lifted known.handle known.looked known.still in
     let ok = IfOk-weaker c.answered.result _ _ (λ l is. left_back tables table closed c.with_back-handle.result l c.with_back-handle.ensures is) c.answered.ensures.ok in
     let kept = IfErr-weaker c.answered.result _ _ (if_kept _ _ (λ l is. left_back tables table closed c.with_back-handle.result l c.with_back-handle.ensures is)) c.answered.ensures.kept in
     record {
       tables = IfOk-weaker c.answered.result _ _ lifted ok;
       kept_tables = IfErr-weaker c.answered.result _ _ (if_kept _ _ lifted) kept;
-      handle = IfOk-weaker c.answered.result _ _ (λ l is. back_to c.args.self.handle c.split.new.self c.lift_tables.new.handle closed.handle l.rocket.handle same c.lift_tables.ensures.handle known.handle is.handle) ok;
-      kept_handle = IfErr-weaker c.answered.result _ _ (if_kept _ _ (λ l is. back_to c.args.self.handle c.split.new.self c.lift_tables.new.handle closed.handle l.rocket.handle same c.lift_tables.ensures.handle known.handle is.handle)) kept;
+      handle = IfOk-weaker c.answered.result _ _ (λ l is. back_to c.args.self.handle c.into_parts-tables.result.2 c.begin.new.handle closed.handle l.rocket.handle same c.in-Ok.ensures.handle known.handle is.handle) ok;
+      kept_handle = IfErr-weaker c.answered.result _ _ (if_kept _ _ (λ l is. back_to c.args.self.handle c.into_parts-tables.result.2 c.begin.new.handle closed.handle l.rocket.handle same c.in-Ok.ensures.handle known.handle is.handle)) kept;
       sound = if_both c.answered.result _ _ _ (λ l is none. left_sound tables table closed l is g.L.Listener.meaning (g.L.Listener.meaning c.args.listener) known.sound none c.requires.fresh.no_fault) ok c.answered.ensures.sound;
       kept_sound = if_wanting _ _ _ (λ l is none. left_sound tables table closed l is g.L.Listener.meaning (g.L.Listener.meaning c.args.listener) known.sound none c.requires.fresh.no_fault) c.answered.result kept c.answered.ensures.kept_sound;
       shutdown = if_shutdown _ _ _ (λ l is failed. left_failed tables table closed l is g.L.Listener.meaning (g.L.Listener.meaning c.args.listener) known.sound failed) c.answered.result kept c.answered.ensures.shutdown;
