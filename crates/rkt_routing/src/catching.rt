@@ -10,14 +10,14 @@ ghost use Rattle.rkt_routing.specs.Ranks.{Falls, catch_rank, catching_rank};
 ghost use Rattle.rkt_routing.specs.Recorded.{catcher_answer};
 ghost use Rattle.rkt_routing.specs.Relations.{relations};
 ghost use Rattle.rkt_routing.specs.Routed.{settled};
-ghost use Rattle.rkt_routing.specs.Stands.{Called, CatcherTurned, Caught, Chosen, IsSoundAt, LeadsOn, Moves, Pages};
+ghost use Rattle.rkt_routing.specs.Stands.{Called, CatcherTurned, Caught, Chosen, LeadsOn, Moves, Pages};
 
 use crate::stage::{CatcherTask, LiveOf, Moved, MovedOf, Stage};
 use crate::{Answer, TableOf, Which, recorded};
 use rkt_http::Status;
 use rkt_request::{Ctx, Types};
 use rkt_response::Response;
-use rkt_router::{CatchHandler, Catching, Final, Handler, Turn, default_handler, turn_catch};
+use rkt_router::{CatchHandler, Catching, Final, Handler, Turn, default_handler};
 use std::alloc::Global;
 
 // The changes so far are pending no more.
@@ -100,33 +100,8 @@ fn page_of_catcher<T: Types, H: Handler<T> + Drop, K: CatchHandler<T> + Drop, N:
     }
 }
 
-// Makes a turn of a catcher's call.
-pub(crate) fn turn_catcher<T: Types, H: Handler<T> + Drop, K: CatchHandler<T> + Drop, N: Drop>(
-    alloc: Global,
-    table: &TableOf<'_, H, K, N>,
-    live: &mut LiveOf<'_, T>,
-    mut call: CatcherTask<K::Task>,
-) -> MovedOf<T, H, K>
-    requires { IsSoundAt H.calling K.calling table.now live.old (Stage.Catching call) }
-    ensures gives { LeadsOn H.calling K.calling table.now live.old (Stage.Catching call) live.new result }
-    ensures gate { live.new.ctx.gate ≡ live.old.ctx.gate }
-    ensures falls { Falls table.now (catching_rank call.status) result }
-{
-    let turn = turn_catch(
-        alloc,
-        table.handler(call.position),
-        table.turns(),
-        call.turn,
-        &mut call.task,
-        &live.request,
-        &mut live.ctx,
-    );
-    call.turn += 1;
-    catch_turned(alloc, table, live, call, turn)
-}
-
 // Where a turn of a catcher's call leads.
-fn catch_turned<T: Types, H: Handler<T> + Drop, K: CatchHandler<T> + Drop, N: Drop>(
+pub(crate) fn catch_turned<T: Types, H: Handler<T> + Drop, K: CatchHandler<T> + Drop, N: Drop>(
     alloc: Global,
     table: &TableOf<'_, H, K, N>,
     live: &mut LiveOf<'_, T>,

@@ -5,17 +5,17 @@ ghost use Rattle.rkt_cancel.specs.Cancel.{Cancellable};
 ghost use Rattle.rkt_data.specs.Body.{Body};
 ghost use Rattle.rkt_routing.specs.Beginning.{Beginning};
 ghost use Rattle.rkt_routing.specs.Relations.{relations};
-ghost use Rattle.rkt_routing.specs.Stands.{IsSoundAt, IsStep, PolledGives, StandsAt, begins};
+ghost use Rattle.rkt_routing.specs.Stands.{PolledGives, StandsAt, begins};
 
-use crate::catching::{begin_catch, turn_catcher};
-use crate::stage::{Live, LiveOf, Moved, MovedOf, Stage, StageOf, Underway, UnderwayOf};
-use crate::trying::{begin_route, turn_route};
+use crate::catching::{begin_catch, catch_turned};
+use crate::stage::{Live, LiveOf, Moved, Stage, StageOf, Underway, UnderwayOf};
+use crate::trying::{begin_route, route_turned};
 use crate::{Progress, RoutedOf, TableOf};
 use rkt_base::Seq;
 use rkt_data::Gate;
 use rkt_http::Status;
 use rkt_request::{Bad, Body0, Ctx, Request, Types};
-use rkt_router::{CatchHandler, Handler, Router};
+use rkt_router::{CatchHandler, Handler, Router, turn_catch, turn_handler};
 use rkt_turn::Shutdown;
 use std::alloc::Global;
 use std::marker::Model;
@@ -78,29 +78,6 @@ fn begin<T: Types, H: Handler<T>, K: CatchHandler<T>>(
     }
 }
 
-// Goes one move on.
-fn step<T: Types, H: Handler<T> + Drop, K: CatchHandler<T> + Drop, N: Drop>(
-    alloc: Global,
-    table: &TableOf<'_, H, K, N>,
-    live: &mut LiveOf<'_, T>,
-    stage: StageOf<T, H, K>,
-) -> MovedOf<T, H, K>
-    requires { IsSoundAt H.calling K.calling table.now live.old stage }
-    ensures { IsStep H.calling K.calling table.now live.old stage live.new result }
-{
-    match stage {
-        Stage::Next {
-            behind,
-            body,
-            status,
-            again,
-        } => begin_route(table, live, behind, body, status, again),
-        Stage::Trying(call) => turn_route(alloc, table, live, call),
-        Stage::Catch { status } => begin_catch(alloc, table, live, status),
-        Stage::Catching(call) => turn_catcher(alloc, table, live, call),
-    }
-}
-
 impl<'a, T: Types, H: Handler<T> + Drop, K: CatchHandler<T> + Drop, N: Drop> RoutingOf<
     'a,
     T,
@@ -156,7 +133,43 @@ impl<'a, T: Types, H: Handler<T> + Drop, K: CatchHandler<T> + Drop, N: Drop> Rou
         let table = TableOf { router, turns };
         live.ctx.set_gate(gate);
         loop {
-            let moved = step(alloc, &table, &mut live, stage);
+            let moved = match stage {
+                Stage::Next {
+                    behind,
+                    body,
+                    status,
+                    again,
+                } => begin_route(&table, &mut live, behind, body, status, again),
+                Stage::Trying(mut call) => {
+                    let lent = &mut live;
+                    let turn = turn_handler(
+                        alloc,
+                        &table.route(call.position).handler,
+                        table.turns(),
+                        call.turn,
+                        &mut call.task,
+                        &lent.request,
+                        &mut lent.ctx,
+                    );
+                    call.turn += 1;
+                    route_turned(&table, &mut live, call, turn)
+                }
+                Stage::Catch { status } => begin_catch(alloc, &table, &mut live, status),
+                Stage::Catching(mut call) => {
+                    let lent = &mut live;
+                    let turn = turn_catch(
+                        alloc,
+                        table.handler(call.position),
+                        table.turns(),
+                        call.turn,
+                        &mut call.task,
+                        &lent.request,
+                        &mut lent.ctx,
+                    );
+                    call.turn += 1;
+                    catch_turned(alloc, &table, &mut live, call, turn)
+                }
+            };
             match moved {
                 Moved::Going(next) => stage = next,
                 Moved::Pending(next) => {

@@ -9,14 +9,14 @@ ghost use Rattle.rkt_routing.specs.Routed.{is_retried, mounted};
 ghost use Rattle.rkt_routing.specs.Ranks.{Falls, again_rank, next_rank, trying_rank};
 ghost use Rattle.rkt_routing.specs.Recorded.{handler_answer, recorded};
 ghost use Rattle.rkt_routing.specs.Relations.{relations};
-ghost use Rattle.rkt_routing.specs.Stands.{Forwards, IsSoundAt, LeadsOn, Moves, Replied, RouteTurned, Tried};
+ghost use Rattle.rkt_routing.specs.Stands.{Forwards, LeadsOn, Moves, Replied, RouteTurned, Tried};
 
 use crate::stage::{LiveOf, Moved, MovedOf, RouteTask, Stage};
 use crate::{Answer, TableOf, Which, recorded};
 use rkt_http::{Method, Outcome, Status};
 use rkt_request::{Body0, Mounted, Request, Types};
 use rkt_response::Response;
-use rkt_router::{CatchHandler, Final, Handler, Route, RouteOutcome, Turn, turn_handler};
+use rkt_router::{CatchHandler, Final, Handler, Route, RouteOutcome, Turn};
 use std::alloc::Global;
 
 // Makes a route the one that a request is tried on.
@@ -94,33 +94,8 @@ fn forwarded<T: Types, H: Handler<T> + Drop, K: CatchHandler<T> + Drop, N: Drop>
     Moved::Going(Stage::Catch { status })
 }
 
-// Makes a turn of a route's call.
-pub(crate) fn turn_route<T: Types, H: Handler<T> + Drop, K: CatchHandler<T> + Drop, N: Drop>(
-    alloc: Global,
-    table: &TableOf<'_, H, K, N>,
-    live: &mut LiveOf<'_, T>,
-    mut call: RouteTask<H::Task>,
-) -> MovedOf<T, H, K>
-    requires { IsSoundAt H.calling K.calling table.now live.old (Stage.Trying call) }
-    ensures gives { LeadsOn H.calling K.calling table.now live.old (Stage.Trying call) live.new result }
-    ensures gate { live.new.ctx.gate ≡ live.old.ctx.gate }
-    ensures falls { Falls table.now (trying_rank table.now call.position call.again) result }
-{
-    let turn = turn_handler(
-        alloc,
-        &table.route(call.position).handler,
-        table.turns(),
-        call.turn,
-        &mut call.task,
-        &live.request,
-        &mut live.ctx,
-    );
-    call.turn += 1;
-    route_turned(table, live, call, turn)
-}
-
 // Where a turn of a route's call leads.
-fn route_turned<T: Types, H: Handler<T> + Drop, K: CatchHandler<T> + Drop, N: Drop>(
+pub(crate) fn route_turned<T: Types, H: Handler<T> + Drop, K: CatchHandler<T> + Drop, N: Drop>(
     table: &TableOf<'_, H, K, N>,
     live: &mut LiveOf<'_, T>,
     call: RouteTask<H::Task>,
