@@ -1,5 +1,5 @@
 -- What a link holds, piece by piece.
-use Rattle.std.proofs.Common.{◌≡◌, ◌++◌, ℕ, arith, subst, List, [], Option, Some, None, option_map, Result, Ok, Err, IfOk, ap, ◌∙◌, sym, refl, append_assoc, append-nil}
+use Rattle.std.proofs.Common.{◌≡◌, ◌++◌, ℕ, false, arith, subst, List, [], Option, Some, None, option_map, Result, Ok, Err, IfOk, ap, ◌∙◌, sym, refl, append_assoc, append-nil}
 use Rattle.std.proofs.lemmas.Grind.{common_steps}
 use Rattle.std.specs.Option.{ForSome}
 use Rattle.rkt_source.specs.Source.{Meaning}

@@ -18,6 +18,7 @@ ghost use Rattle.rkt_serve.specs.Kept.{GivesBack, IfKept, IfShutdown, IfUnlit, I
 ghost use Rattle.rkt_serve.specs.Left.{IsLeft};
 ghost use Rattle.rkt_serve.specs.Lifted.{IsLifted, LiftsOff, view_of};
 ghost use Rattle.rkt_orbit.specs.Lifts.{Lifts};
+ghost use Rattle.rkt_orbit.specs.declared.called.Called.{Called};
 ghost use Rattle.rkt_link.specs.Listener.{IsFresh, Settled};
 ghost use Rattle.rkt_serve.specs.Serving.{serving};
 
