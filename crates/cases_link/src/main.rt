@@ -1,0 +1,33 @@
+//! The cases of a link over the ends of pipes. Each line of standard input says one, and is written again with ` -> ` and its
+//! answer; beside this folder, `stdout` is the table of cases with the answers that are wanted, and `stdin` has its lines up
+//! to the arrow. Empty lines and those that begin with `#` are headings, and are written as they are.
+//!
+//! | Line | Answer |
+//! |---|---|
+//! | `link HEADERS ROOM PENDS FAILS CLOSED CHUNKS` | what each poll of each piece answers, the bytes that the sink has, and how often the link has failed |
+//! | `hand HEADERS ROOM PENDS FAILS CLOSED CHUNKS` | the same where the pieces are handed over |
+//! | `body CHUNK PENDS FAILS TEXT` | what the reads of the source answer that the link gives, into room for eight bytes |
+//! | `again` | whether the source is given, and given again |
+//! | `head METHOD TARGET` | the method and the target of the head that the link lends |
+//! | `shut` | what a shutdown answers |
+//!
+//! HEADERS are `NAME=VALUE`, and CHUNKS are texts; PENDS and FAILS are numbers of calls, from 0. All are parted by commas, and
+//! `-` is an empty list. ROOM is the most that a write takes, and CHUNK the most that a read gives. CLOSED is the number of
+//! bytes after which the other side has closed, or `-`. A piece or a source is polled 20 times at most. Any other line answers
+//! `? line`.
+#![tactic(auto)]
+
+mod answer;
+mod made;
+mod pieces;
+mod reads;
+mod sends;
+
+use crate::answer::Program;
+use cases::answer_lines;
+use std::io;
+
+fn main(rt: HostRuntime) -> io::Result<()> {
+    let alloc = rt.alloc();
+    answer_lines(&rt, alloc, Program)
+}
