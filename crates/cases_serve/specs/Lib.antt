@@ -1,2 +1,3 @@
 pub mod SayingLaws
 pub mod Sayings
+pub mod Ticking

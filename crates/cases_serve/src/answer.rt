@@ -4,7 +4,7 @@ use crate::error::CaseError;
 use crate::exchange::{exchange, parted};
 use crate::launch::launch;
 use crate::order::order;
-use crate::pieces::send_case;
+use crate::pieces::{cut_case, send_case};
 use crate::polls::{clock, polls};
 use crate::setting::{Setting, set_faults, set_header, set_routes};
 use crate::sourced::sourced;
@@ -70,6 +70,7 @@ pub fn answer<R: Wait + Threads>(
             rt, alloc, setting, command, rest,
         ),
         "send" => send_case(rt, alloc, setting, rest),
+        "cut" => cut_case(rt, alloc, setting, rest),
         _ => asked(alloc, setting, command, rest),
     }
 }

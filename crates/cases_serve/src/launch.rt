@@ -29,7 +29,7 @@ fn run_cookies(alloc: Global, entry: &Entry<Site, MemoryLink>) -> Result<String,
 
 /// How an entry ended, and the cookies of its run.
 fn entry_text(alloc: Global, entry: &Entry<Site, MemoryLink>) -> Result<String, AllocError> {
-    let ended = ended(alloc, entry.end, &entry.link)?;
+    let ended = ended(alloc, entry.end, entry.link.kept())?;
     let cookies = run_cookies(alloc, entry)?;
     format!(in alloc; "; {ended} cookies [{cookies}]")
 }

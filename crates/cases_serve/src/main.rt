@@ -49,6 +49,7 @@ mod pieces;
 mod polls;
 mod setting;
 mod sourced;
+mod ticks;
 mod words;
 
 use crate::answer::answer;

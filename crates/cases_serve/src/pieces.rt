@@ -1,21 +1,18 @@
 //! Pieces, and how a response is sent.
+ghost use Rattle.std.specs.Prelude.{◌≡◌};
+ghost use Rattle.rkt_cancel.specs.declared.stage.Stage.{Stage};
+
 use crate::error::CaseError;
 use crate::heads::link_with;
 use crate::setting::Setting;
+use crate::ticks::Ticks;
 use crate::words::{first_word, number, numbers, push_item};
 use rkt_base::NoMemory;
-use rkt_data::{Gate, MemorySource};
+use rkt_data::{CancellableIo, MemorySource};
 use rkt_message::{Piece, Response};
 use rkt_serve::{End, MemoryLink, send};
 use std::alloc::{AllocError, Global};
 use std::sync::Wait;
-
-const GATE: Gate = Gate {
-    moment: 7,
-    tripped: None,
-    grace: 2,
-    mercy: 3,
-};
 
 fn piece_text(alloc: Global, piece: &Piece) -> Result<String, AllocError> {
     match piece {
@@ -71,11 +68,14 @@ fn response(
 fn sent<R: Wait>(
     rt: &R,
     alloc: Global,
-    link: &mut MemoryLink,
+    ticks: &mut Ticks,
+    link: &mut CancellableIo<MemoryLink>,
     response: Response<MemorySource>,
     turns: u32,
-) -> Result<End, NoMemory> {
-    let (_response, ended) = send(rt, alloc, link, response, turns, GATE);
+) -> Result<End, NoMemory>
+    requires { link.old.stage ≡ Stage.Active }
+{
+    let (_response, ended) = send(rt, alloc, ticks, link, response, turns);
     ended
 }
 
@@ -83,13 +83,14 @@ fn send_body<R: Wait>(
     rt: &R,
     alloc: Global,
     setting: &Setting,
+    mut ticks: Ticks,
     turns: u32,
     source: MemorySource,
 ) -> Result<String, CaseError> {
-    let mut link = link_with(alloc, setting, "GET /", "")?;
+    let mut link = CancellableIo::new(link_with(alloc, setting, "GET /", "")?);
     let response = response(alloc, setting, source)?;
-    let end = sent(rt, alloc, &mut link, response, turns)?;
-    Ok(ended(alloc, end, &link)?)
+    let end = sent(rt, alloc, &mut ticks, &mut link, response, turns)?;
+    Ok(ended(alloc, end, link.kept())?)
 }
 
 fn turns_of(text: &str) -> Result<u32, CaseError> {
@@ -118,5 +119,23 @@ pub fn send_case<R: Wait>(
     let (turns, rest) = first_word(text);
     let turns = turns_of(turns)?;
     let source = source_of(alloc, rest)?;
-    send_body(rt, alloc, setting, turns, source)
+    let ticks = Ticks { now: 7, trip: None };
+    send_body(rt, alloc, setting, ticks, turns, source)
+}
+
+/// The response of `NOW TRIP CHUNK READS TEXT`, sent from the second behind this moment on, with a trip at that one.
+pub fn cut_case<R: Wait>(
+    rt: &R,
+    alloc: Global,
+    setting: &Setting,
+    text: &str,
+) -> Result<String, CaseError> {
+    let (now, rest) = first_word(text);
+    let (trip, rest) = first_word(rest);
+    let ticks = Ticks {
+        now: number(now)?,
+        trip: Some(number(trip)?),
+    };
+    let source = source_of(alloc, rest)?;
+    send_body(rt, alloc, setting, ticks, 1, source)
 }

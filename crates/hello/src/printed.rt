@@ -32,7 +32,7 @@ fn print_piece(rt: &impl Print, piece: &Piece) -> io::Result<()> {
 }
 
 fn print_entry(rt: &impl Print, entry: &Entry<Site, MemoryLink>) -> io::Result<()> {
-    for piece in entry.link.held() {
+    for piece in entry.link.kept().held() {
         print_piece(rt, piece)?;
     }
     Ok(())

@@ -141,9 +141,9 @@ module _ {C S K : Type 0} where
         let stands : es ≡ before ++ e ∷ rest = ap events s.parts ∙ (map_append (λ m. m.event) s.before (s.mark ∷ s.rest) ∙ ap (λ (x : EventOf C S K). before ++ x ∷ rest) s.is_end) in
         let caused : cause before e = after_at cause [] before e rest (subst (λ l. AfterFrom cause [] l) stands legal.caused) in
         let asked : AsksAt links s.before s.mark = after_at (AsksAt links) [] s.before s.mark s.rest (subst (λ l. AfterFrom (AsksAt links) [] l) s.parts legal.asks) in
-        let asks : slice_get (carries links s.before) k ≡ Some (links s.entry.link).asked = subst (λ x. AsksAs links s.before x) s.is_end asked in
-        let at : slice_get (carries links ms) k ≡ Some (links s.entry.link).asked = ap (λ l. slice_get (carries links l) k) s.parts
-        ∙ (ap (λ l. slice_get l k) (carries_append s.before (s.mark ∷ s.rest)) ∙ get_front (carries links s.before) (carries links (s.mark ∷ s.rest)) k (links s.entry.link).asked asks) in
+        let asks : slice_get (carries links s.before) k ≡ Some (links s.entry.link.io).asked = subst (λ x. AsksAs links s.before x) s.is_end asked in
+        let at : slice_get (carries links ms) k ≡ Some (links s.entry.link.io).asked = ap (λ l. slice_get (carries links l) k) s.parts
+        ∙ (ap (λ l. slice_get l k) (carries_append s.before (s.mark ∷ s.rest)) ∙ get_front (carries links s.before) (carries links (s.mark ∷ s.rest)) k (links s.entry.link.io).asked asks) in
         record {
           before = before;
           entry = s.entry;
@@ -153,7 +153,7 @@ module _ {C S K : Type 0} where
           stands = stands;
           found = ap (end_of k) stands ∙ (end_of_past k before (e ∷ rest) s.first ∙ end_of_front k (e ∷ []) rest s.entry (end_of_this k k s.entry s.moment s.by refl));
           caused = caused;
-          asks = λ given is. get_map given k (links s.entry.link).asked (ap (λ l. slice_get l k) (told_fresh old new (carries links ms) given told fresh is) ∙ at);
+          asks = λ given is. get_map given k (links s.entry.link.io).asked (ap (λ l. slice_get l k) (told_fresh old new (carries links ms) given told fresh is) ∙ at);
         }
 
 module _ {C S K P L Q : Type 0} (links : K → LinkMeaning) (listeners : L → ListenerMeaning) (clocks : Q → ClockMeaning) where

@@ -15,7 +15,7 @@ use Rattle.rkt_board.proofs.Core.{any_by}
 use Rattle.rkt_board.proofs.Counting.{or_false, length_events, unclosed_yet, counts_push, counts_end, counts_admit, fresh_number, opens_some, none_open, open_none}
 use Rattle.rkt_board.proofs.Holding.{told_none, holds_push, holds_admit, holds_clock, holds_handle, holds_listener, seen_before, untripped, legal_push, carries_admit, length-carries}
 use Rattle.rkt_board.proofs.Pushes.{any_push, map_push, word_old, word_new, get_last, lift_push}
-use Rattle.rkt_board.specs.Board.{left, TimedIn, SoundAs, Holds, Counts, BookOf, Counted, IsBlank, SameBook, BoardAs, Keeps}
+use Rattle.rkt_board.specs.Board.{left, IsCutWithin, TimedIn, SoundAs, Holds, Counts, BookOf, Counted, IsBlank, SameBook, BoardAs, Keeps}
 use Rattle.rkt_board.specs.Events.{is_trip, is_admit, is_down, is_close, moment_of, latest, lift_calls, admits_by, admits_until, admitted, ends, trip_word, InOrder}
 use Rattle.rkt_board.specs.Marks.{events, carries, IsOwn, AsksAt, Legal}
 use Rattle.rkt_board.specs.Turns.{mark, admit_mark, IsOpen, IsGiven, IsRunOf, MayClose}
@@ -72,7 +72,7 @@ module _ {C S K P L Q : Type 0} (links : K → LinkMeaning) (listeners : L → L
   pub keeps_lift : (s : BoardAs C S K P L Q) (b : BookOf C S K) (by : ℕ) (calls : _) → IsBlank b → s.book.history ≡ b.history → s.book.admitted ≡ b.admitted → s.book.opens ≡ b.opens
       → s.book.tripped ≡ b.tripped → s.book.down ≡ b.down → s.book.closed ≡ b.closed → s.book.marks.items ≡ mark by (Lift calls) ∷ [] → vec_capacity b.marks ≤ vec_capacity s.book.marks
       → s.near.listener ≡ s.name.listener.value → s.near.clock ≡ s.name.clock.value → s.near.handle ≡ s.name.handle.value → s.near.over ≡ false → s.near.faulted ≡ false → s.name.calls.value ≡ calls
-      → cause s.name.served.now (clocks s.name.clock.value).window [] (Lift calls) → Keeps links listeners clocks cause s
+      → cause s.name.served (clocks s.name.clock.value).window [] (Lift calls) → Keeps links listeners clocks cause s
   keeps_lift s b by calls blank history gave opens trip down closed items grows listener clock handle over faulted called caused =
       let ms = s.book.marks.items in
       let one : length ms ≡ 1 = ap length items in
@@ -129,7 +129,7 @@ module _ {C S K P L Q : Type 0} (links : K → LinkMeaning) (listeners : L → L
       → 1 + left s.book.opens tripped down closed ≤ left s.book.opens s.book.tripped s.book.down s.book.closed
       → TimedIn (clocks s.name.clock.value).window m.event → moment_of m.event ≤ (clocks s.near.clock).last
       → (list_any is_trip (events s.book.marks.items ++ m.event ∷ []) ≡ true → s.near.handle.seen ≡ trip_word (events s.book.marks.items ++ m.event ∷ []))
-      → InOrder (events s.book.marks.items) m.event → cause s.name.served.now (clocks s.name.clock.value).window (events s.book.marks.items) m.event → IsOwn m → AsksAt links s.book.marks.items m
+      → InOrder (events s.book.marks.items) m.event → cause s.name.served (clocks s.name.clock.value).window (events s.book.marks.items) m.event → IsOwn m → AsksAt links s.book.marks.items m
       → Keeps links listeners clocks cause (with_book s (with_marks s.book v s.book.opens tripped down closed))
   keeps_push s v m tripped down closed k items grows other none t d l less timed late seen order caused own asks = record {
     begun = let x : ℕ = length v.items in let y : x ≡ length s.book.marks.items + 1 = ap length items ∙ length-append s.book.marks.items (m ∷ []) in let g : 0 < x = omega (arith, y) in g;
@@ -137,12 +137,12 @@ module _ {C S K P L Q : Type 0} (links : K → LinkMeaning) (listeners : L → L
     holds = subst (Holds links listeners clocks s.name s.near) (sym items) (holds_push links listeners clocks s.name s.near s.book.marks.items m k.holds other timed late seen);
     counted = counted_push s.book v m s.book.opens tripped down closed k.counted items grows
         (counts_push s.book.marks.items m s.book.admitted s.book.opens s.book.tripped s.book.down s.book.closed tripped down closed k.counted.counts other none t d l) less;
-    legal = subst (Legal links (cause s.name.served.now (clocks s.name.clock.value).window)) (sym items) (legal_push links (cause s.name.served.now (clocks s.name.clock.value).window) s.book.marks.items m k.legal order caused own asks);
+    legal = subst (Legal links (cause s.name.served (clocks s.name.clock.value).window)) (sym items) (legal_push links (cause s.name.served (clocks s.name.clock.value).window) s.book.marks.items m k.legal order caused own asks);
   }
 
   pub keeps_trip : (s : BoardAs C S K P L Q) (v : Vec (MarkOf C S K) Global) (by word moment : ℕ) → Keeps links listeners clocks cause s
       → v.items ≡ s.book.marks.items ++ mark by (Trip word moment) ∷ [] → vec_capacity s.book.marks ≤ vec_capacity v → s.book.tripped ≡ false → s.book.closed ≡ false
-      → 0 < word → s.near.handle.seen ≡ word → cause s.name.served.now (clocks s.name.clock.value).window (events s.book.marks.items) (Trip word moment)
+      → 0 < word → s.near.handle.seen ≡ word → cause s.name.served (clocks s.name.clock.value).window (events s.book.marks.items) (Trip word moment)
       → moment ≡ (clocks s.near.clock).last → IsWithin (clocks s.name.clock.value).window moment
       → Keeps links listeners clocks cause (with_book s (with_marks s.book v s.book.opens true s.book.down s.book.closed))
   keeps_trip s v by word moment k items grows was unclosed some seen caused now within =
@@ -160,7 +160,7 @@ module _ {C S K P L Q : Type 0} (links : K → LinkMeaning) (listeners : L → L
 
   pub keeps_down : (s : BoardAs C S K P L Q) (v : Vec (MarkOf C S K) Global) (by : ℕ) (calls : _) → Keeps links listeners clocks cause s
       → v.items ≡ s.book.marks.items ++ mark by (Down calls) ∷ [] → vec_capacity s.book.marks ≤ vec_capacity v → s.book.tripped ≡ true → s.book.down ≡ false → s.book.closed ≡ false
-      → cause s.name.served.now (clocks s.name.clock.value).window (events s.book.marks.items) (Down calls)
+      → cause s.name.served (clocks s.name.clock.value).window (events s.book.marks.items) (Down calls)
       → Keeps links listeners clocks cause (with_book s (with_marks s.book v s.book.opens s.book.tripped true s.book.closed))
   keeps_down s v by calls k items grows tripped was unclosed caused =
       let es = events s.book.marks.items in
@@ -172,7 +172,7 @@ module _ {C S K P L Q : Type 0} (links : K → LinkMeaning) (listeners : L → L
 
   pub keeps_close : (s : BoardAs C S K P L Q) (v : Vec (MarkOf C S K) Global) (by moment : ℕ) → Keeps links listeners clocks cause s
       → v.items ≡ s.book.marks.items ++ mark by (Close moment) ∷ [] → vec_capacity s.book.marks ≤ vec_capacity v → s.book.opens ≡ 0 → s.book.down ≡ s.book.tripped → s.book.closed ≡ false
-      → cause s.name.served.now (clocks s.name.clock.value).window (events s.book.marks.items) (Close moment)
+      → cause s.name.served (clocks s.name.clock.value).window (events s.book.marks.items) (Close moment)
       → moment ≡ (clocks s.near.clock).last → IsWithin (clocks s.name.clock.value).window moment
       → Keeps links listeners clocks cause (with_book s (with_marks s.book v s.book.opens s.book.tripped s.book.down true))
   keeps_close s v by moment k items grows none downs unclosed caused now within =
@@ -202,27 +202,27 @@ module _ {C S K P L Q : Type 0} (links : K → LinkMeaning) (listeners : L → L
 
   pub keeps_end : (s : BoardAs C S K P L Q) (v : Vec (MarkOf C S K) Global) (by number moment : ℕ) (entry : EntryOf C S K) → Keeps links listeners clocks cause s
       → v.items ≡ s.book.marks.items ++ mark by (End number entry moment by) ∷ [] → vec_capacity s.book.marks ≤ vec_capacity v
-      → IsOpen links s.book.marks.items by number (links entry.link).asked
-      → IsRunOf (clocks s.name.clock.value).window (events s.book.marks.items) number entry moment
-      → cause s.name.served.now (clocks s.name.clock.value).window (events s.book.marks.items) (End number entry moment by)
+      → IsOpen links s.book.marks.items by number (links entry.link.io).asked
+      → IsRunOf (clocks s.name.clock.value).window (events s.book.marks.items) number entry moment → IsCutWithin (clocks s.name.clock.value).window entry.end
+      → cause s.name.served (clocks s.name.clock.value).window (events s.book.marks.items) (End number entry moment by)
       → moment ≡ (clocks s.near.clock).last → IsWithin (clocks s.name.clock.value).window moment
       → Keeps links listeners clocks cause (with_book s (with_marks s.book v (s.book.opens - 1) s.book.tripped s.book.down s.book.closed))
-  keeps_end s v by number moment entry k items grows open_at ran caused now within =
+  keeps_end s v by number moment entry k items grows open_at ran cut caused now within =
       let es = events s.book.marks.items in
       let e : EventOf C S K = End number entry moment by in
       let m : MarkOf C S K = mark by e in
       let a : ℕ = (clocks s.near.clock).last in
       let late : moment ≤ a = omega (arith, now) in
-      let some : 0 < s.book.opens = opens_one s by number (links entry.link).asked k open_at in
+      let some : 0 < s.book.opens = opens_one s by number (links entry.link.io).asked k open_at in
       record {
         begun = let x : ℕ = length v.items in let y : x ≡ length s.book.marks.items + 1 = ap length items ∙ length-append s.book.marks.items (m ∷ []) in let g : 0 < x = omega (arith, y) in g;
         lifted = lifted_push s v m k items;
-        holds = subst (Holds links listeners clocks s.name s.near) (sym items) (holds_push links listeners clocks s.name s.near s.book.marks.items m k.holds refl (within, λ run is. (ran run is).2) late
+        holds = subst (Holds links listeners clocks s.name s.near) (sym items) (holds_push links listeners clocks s.name s.near s.book.marks.items m k.holds refl (within, (λ run is. (ran run is).2), cut) late
             (seen_before links listeners clocks s.name s.near s.book.marks.items e k.holds refl));
         counted = counted_push s.book v m (s.book.opens - 1) s.book.tripped s.book.down s.book.closed k.counted items grows
             (counts_end s.book.marks.items s.book.admitted s.book.opens s.book.tripped s.book.down s.book.closed by number moment entry k.counted.counts k.legal.ordered open_at.admitted open_at.unended)
             (let f : ℕ = cond s.book.tripped 0 1 + (cond s.book.down 0 1 + cond s.book.closed 0 1) in let o : ℕ = s.book.opens in let q : 0 < o = some in let g : 1 + ((o - 1) + f) ≤ o + f = omega (arith, q) in g);
-        legal = subst (Legal links (cause s.name.served.now (clocks s.name.clock.value).window)) (sym items) (legal_push links (cause s.name.served.now (clocks s.name.clock.value).window) s.book.marks.items m k.legal (
+        legal = subst (Legal links (cause s.name.served (clocks s.name.clock.value).window)) (sym items) (legal_push links (cause s.name.served (clocks s.name.clock.value).window) s.book.marks.items m k.legal (
           unclosed_yet es number k.legal.ordered (any_by number by es open_at.admitted) open_at.unended,
           (open_at.admitted, open_at.unended, let b : ℕ = latest es in let p : b ≤ a = k.holds.latest_by in let g : b ≤ moment = omega (arith, now, p) in g, λ run is. ((ran run is).0, (ran run is).1)),
         )
@@ -253,7 +253,7 @@ module _ {C S K P L Q : Type 0} (links : K → LinkMeaning) (listeners : L → L
       → v.items ≡ s.book.marks.items ++ admit_mark by s.book.admitted moment copy ∷ [] → length s.book.marks.items + (s.book.opens + 5) ≤ vec_capacity v
       → length s.book.marks.items + (s.book.opens + 5) ≤ vec_capacity s.book.history → next ≡ s.book.admitted + 1
       → s.near.handle.seen ≡ 0 → s.name.handle.value.looked + admitted (events s.book.marks.items) < s.near.handle.looked → s.book.closed ≡ false → s.near.over ≡ false
-      → cause s.name.served.now (clocks s.name.clock.value).window (events s.book.marks.items) (Admit s.book.admitted moment by)
+      → cause s.name.served (clocks s.name.clock.value).window (events s.book.marks.items) (Admit s.book.admitted moment by)
       → moment ≡ (clocks s.near.clock).last → IsWithin (clocks s.name.clock.value).window moment
       → GivesMore (listeners s.near.listener).given (links copy.value).asked (listeners listener).given → Settled (listeners s.near.listener) (listeners listener) → (listeners listener).faults ≡ (listeners s.near.listener).faults
       → (listeners listener).ended ≡ (listeners s.near.listener).ended
@@ -277,7 +277,7 @@ module _ {C S K P L Q : Type 0} (links : K → LinkMeaning) (listeners : L → L
           unused = k.counted.unused;
           history_room = enough s (length v.items) (vec_capacity s.book.history) more history_room;
         };
-        legal = subst (Legal links (cause s.name.served.now (clocks s.name.clock.value).window)) (sym items) (legal_push links (cause s.name.served.now (clocks s.name.clock.value).window) s.book.marks.items m k.legal (
+        legal = subst (Legal links (cause s.name.served (clocks s.name.clock.value).window)) (sym items) (legal_push links (cause s.name.served (clocks s.name.clock.value).window) s.book.marks.items m k.legal (
           sym k.counted.counts.closed_is ∙ unclosed,
           (begun_events s k, untripped links listeners clocks s.name s.near s.book.marks.items k.holds k.legal.ordered unseen, k.counted.counts.gave_is, let b : ℕ = latest es in let p : b ≤ a = k.holds.latest_by in let g : b ≤ moment = omega (arith, now, p) in g),
         )

@@ -13,6 +13,8 @@ use Rattle.rkt_board.specs.declared.board.Board.{Board}
 use Rattle.rkt_board.specs.declared.board.Book.{Book}
 use Rattle.rkt_board.specs.declared.board.Name.{Name}
 use Rattle.rkt_board.specs.declared.board.Near.{Near}
+use Rattle.rkt_board.specs.declared.history.End.{End as Ending}
+use Rattle.rkt_board.specs.declared.history.End.TheVariants.{Answered, Lost, Cut, Failed, Starved}
 use Rattle.rkt_board.specs.declared.history.EventOf.{EventOf}
 use Rattle.rkt_board.specs.declared.history.EventOf.TheVariants.{Lift, Trip, Admit, End, Down, Close}
 use Rattle.rkt_board.specs.declared.mark.MarkOf.{MarkOf}
@@ -31,12 +33,20 @@ SoundAs false old new = new.faults ≡ old.faults
 abbrev pub left : ℕ → Bool → Bool → Bool → ℕ
 left opens tripped down closed = opens + (cond tripped 0 1 + (cond down 0 1 + cond closed 0 1))
 
--- the moments of an event and of its run lie in the window
+-- the moments at which a link was cut off lie in the window
+abbrev pub IsCutWithin : Option (ℕ × ℕ) → Ending → Type 0
+IsCutWithin window (Cut saw cut) = IsWithin window saw × IsWithin window cut
+IsCutWithin window Answered = Unit {0}
+IsCutWithin window Lost = Unit {0}
+IsCutWithin window (Failed failure) = Unit {0}
+IsCutWithin window Starved = Unit {0}
+
+-- the moments of an event, of its run and of how that ended lie in the window
 abbrev pub TimedIn : {C S K : Type 0} → Option (ℕ × ℕ) → EventOf C S K → Type 0
 TimedIn window (Lift calls) = Unit {0}
 TimedIn window (Trip word moment) = IsWithin window moment
 TimedIn window (Admit number moment by) = IsWithin window moment
-TimedIn window (End number entry moment by) = IsWithin window moment × ForSome entry.run (λ run. IsWithin window run.moment)
+TimedIn window (End number entry moment by) = IsWithin window moment × ForSome entry.run (λ run. IsWithin window run.moment) × IsCutWithin window entry.end
 TimedIn window (Down calls) = Unit {0}
 TimedIn window (Close moment) = IsWithin window moment
 
@@ -113,4 +123,4 @@ module _ {C S K P L Q : Type 0} (links : K → LinkMeaning) (listeners : L → L
     pub lifted : lift_calls (events board.book.marks.items) ≡ board.name.calls.value
     pub holds : Holds board.name board.near board.book.marks.items
     pub counted : Counted board.book
-    pub legal : Legal links (cause board.name.served.now (clocks board.name.clock.value).window) board.book.marks.items
+    pub legal : Legal links (cause board.name.served (clocks board.name.clock.value).window) board.book.marks.items

@@ -23,4 +23,4 @@ module _ {C S K : Type 0} where
     pub stands : events ≡ before ++ End k entry moment by ∷ rest
     pub found : end_of k events ≡ Some entry
     pub caused : cause before (End k entry moment by)
-    pub asks : ForSome given (λ asks. (links entry.link).asked ≡ slice_get asks k)
+    pub asks : ForSome given (λ asks. (links entry.link.io).asked ≡ slice_get asks k)

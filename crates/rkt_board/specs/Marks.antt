@@ -48,7 +48,7 @@ module _ {C S K : Type 0} (links : K → LinkMeaning) where
 
   -- the link of an End asks what that of the Admit of its number asks
   abbrev pub AsksAs : List (MarkOf C S K) → EventOf C S K → Type 0
-  AsksAs before (End number entry moment by) = slice_get (carries before) number ≡ Some (links entry.link).asked
+  AsksAs before (End number entry moment by) = slice_get (carries before) number ≡ Some (links entry.link.io).asked
   AsksAs before (Lift calls) = Unit {0}
   AsksAs before (Trip word moment) = Unit {0}
   AsksAs before (Admit number moment by) = Unit {0}

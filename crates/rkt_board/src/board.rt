@@ -9,8 +9,8 @@ use std::snapshot::Snapshot;
 
 /// What a board stands for: what is served, the calls at liftoff, and the rest as it was handed in.
 #[derive(Drop)]
-pub struct Name<'a, P, L, C, H> {
-    pub served: &'a P,
+pub struct Name<P, L, C, H> {
+    pub served: P,
     pub listener: Snapshot<L>,
     pub clock: Snapshot<C>,
     pub handle: Snapshot<H>,
@@ -52,8 +52,8 @@ pub struct Board<N, B, X> {
 }
 
 /// The state of an application's launch.
-pub type BoardOf<'a, A, P, L, C> = Board<
-    Name<'a, P, L, C, Shutdown<<A as Types>::Reason>>,
+pub type BoardOf<A, P, L, C> = Board<
+    Name<P, L, C, Shutdown<<A as Types>::Reason>>,
     Book<Mark<A, <L as Listener>::Link>, Event<A, <L as Listener>::Link>>,
     Near<L, C, Shutdown<<A as Types>::Reason>>,
 >;

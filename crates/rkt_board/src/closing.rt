@@ -58,35 +58,35 @@ fn moved<A: Types, K: Link>(
 }
 
 /// Hands out what a launch leaves behind whose Close was entered. It takes no memory.
-pub fn finish<'a, A: Types, P: Served<A, L::Link>, L: Listener, C: Clock>(
-    board: BoardOf<'a, A, P, L, C>,
+pub fn finish<A: Types, P: Served<A, L::Link>, L: Listener, C: Clock>(
+    board: BoardOf<A, P, L, C>,
 ) -> Closed<A, L, C>
     requires keeps { Keeps L.Link.meaning L.meaning C.meaning P.cause board }
     requires closed { list_any is_close (events board.book.marks.items) ≡ true }
     requires fresh { ForSome (L.meaning board.name.listener.value).given (λ given. given ≡ []) }
-    ensures history { result.history.events ≡ events board.entry.book.marks.items }
-    ensures lifted { lift_calls result.history.events ≡ board.entry.name.calls.value }
-    ensures near { (result.listener ≡ board.entry.near.listener) × (result.clock ≡ board.entry.near.clock) × (result.handle ≡ board.entry.near.handle) × (result.over ≡ board.entry.near.over) × (result.faulted ≡ board.entry.near.faulted) }
+    ensures history { result.history.events ≡ events board.book.marks.items }
+    ensures lifted { lift_calls result.history.events ≡ board.name.calls.value }
+    ensures near { (result.listener ≡ board.near.listener) × (result.clock ≡ board.near.clock) × (result.handle ≡ board.near.handle) × (result.over ≡ board.near.over) × (result.faulted ≡ board.near.faulted) }
     ensures ordered { Ordered result.history.events }
-    ensures caused { AfterFrom (P.cause board.entry.name.served.now (C.meaning board.entry.name.clock.value).window) [] result.history.events }
+    ensures caused { AfterFrom (P.cause board.name.served (C.meaning board.name.clock.value).window) [] result.history.events }
     ensures closed { IsClosed result.history.events }
     ensures ends { EachEndsOnce result.history.events }
     ensures requests { AllAdmitted (L.meaning result.listener).given result.history.events }
     ensures entries { (k : ℕ) → k < admitted result.history.events
-        → HasEntry L.Link.meaning (P.cause board.entry.name.served.now (C.meaning board.entry.name.clock.value).window) (L.meaning result.listener).given result.history.events k }
-    ensures moments { AllByRecursion (TimedIn (C.meaning board.entry.name.clock.value).window) result.history.events }
-    ensures clock { TellsOn (C.meaning board.entry.name.clock.value) (C.meaning result.clock) }
+        → HasEntry L.Link.meaning (P.cause board.name.served (C.meaning board.name.clock.value).window) (L.meaning result.listener).given result.history.events k }
+    ensures moments { AllByRecursion (TimedIn (C.meaning board.name.clock.value).window) result.history.events }
+    ensures clock { TellsOn (C.meaning board.name.clock.value) (C.meaning result.clock) }
     // The wire was looked at once for each link at least.
-    ensures looked { board.entry.name.handle.value.looked + admitted result.history.events ≤ result.handle.looked }
+    ensures looked { board.name.handle.value.looked + admitted result.history.events ≤ result.handle.looked }
     // The handle has seen the word of the Trip, and one that had seen a word admits nothing.
     ensures word { ForSome (trip_of result.history.events) (λ trip. result.handle.seen ≡ trip.0) }
-    ensures still { 0 < board.entry.name.handle.value.seen → admitted result.history.events ≡ 0 }
-    ensures handle { HandsBack board.entry.name.handle.value result.handle }
-    ensures settled { Settled (L.meaning board.entry.name.listener.value) (L.meaning result.listener) }
-    ensures sound { SoundAs result.faulted (L.meaning board.entry.name.listener.value) (L.meaning result.listener) }
+    ensures still { 0 < board.name.handle.value.seen → admitted result.history.events ≡ 0 }
+    ensures handle { HandsBack board.name.handle.value result.handle }
+    ensures settled { Settled (L.meaning board.name.listener.value) (L.meaning result.listener) }
+    ensures sound { SoundAs result.faulted (L.meaning board.name.listener.value) (L.meaning result.listener) }
     ensures ended { result.over ≡ true → (L.meaning result.listener).ended ≡ true }
-    ensures goes_on { result.over ≡ false → (L.meaning result.listener).ended ≡ (L.meaning board.entry.name.listener.value).ended }
-    ensures offers { result.over ≡ true → ForSome (L.meaning board.entry.name.listener.value).offers (λ all. (L.meaning result.listener).given ≡ Some all) }
+    ensures goes_on { result.over ≡ false → (L.meaning result.listener).ended ≡ (L.meaning board.name.listener.value).ended }
+    ensures offers { result.over ≡ true → ForSome (L.meaning board.name.listener.value).offers (λ all. (L.meaning result.listener).given ≡ Some all) }
 {
     let Board {
         name: _,

@@ -6,6 +6,7 @@ ghost use Rattle.rkt_board.specs.declared.history.EventOf.{EventOf};
 ghost use Rattle.rkt_board.specs.Events.{noted, with_first, is_admit, is_trip, admitted, admits, ends, end_of, trip_of, Ordered, IsClosed};
 
 use rkt_base::{NoMemory, Seq};
+use rkt_cancel::CancellableIo;
 use rkt_lifecycle::RunOf;
 use rkt_link::Boxed;
 use rkt_message::Response;
@@ -29,16 +30,19 @@ pub enum End {
     Answered,
     /// The link failed before it had taken the whole response.
     Lost,
+    /// The link was cut off before it had taken the whole response: a Trip was seen while it was sent, in this second, and
+    /// the grace was over in that one.
+    Cut { saw: u64, cut: u64 },
     /// The response could not be sent, or not to its end.
     Failed(Failure),
     /// There was no memory for it.
     Starved,
 }
 
-/// What is kept of one exchange.
+/// What is kept of one exchange. The link is kept as it was sent through.
 #[derive(Drop)]
 pub struct EntryOf<C, S, K> {
-    pub link: K,
+    pub link: CancellableIo<K>,
     pub run: Option<Boxed<RunOf<C>>>,
     pub response: Option<Boxed<Response<S>>>,
     pub end: End,

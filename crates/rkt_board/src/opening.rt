@@ -36,18 +36,18 @@ impl<M: Drop, E: Drop> Book<M, E> {
 }
 
 /// Enters the Lift, with the calls of the callbacks of liftoff. It takes no memory.
-pub fn lift<'a, A: Types, P: Served<A, L::Link>, L: Listener, C: Clock>(
+pub fn lift<A: Types, P: Served<A, L::Link>, L: Listener, C: Clock>(
     mut book: Book<Mark<A, L::Link>, Event<A, L::Link>>,
-    served: &'a P,
+    served: P,
     listener: L,
     clock: C,
     handle: Shutdown<A::Reason>,
     by: u64,
     calls: Seq<Called>,
-) -> BoardOf<'a, A, P, L, C>
+) -> BoardOf<A, P, L, C>
     requires blank { IsBlank book }
-    requires caused { P.cause served.now (C.meaning clock).window [] (Lift calls) }
-    ensures name { (result.name.served ≡ served.entry) × (result.name.listener.value ≡ listener) × (result.name.clock.value ≡ clock) × (result.name.handle.value ≡ handle) × (result.name.calls.value ≡ calls) }
+    requires caused { P.cause served (C.meaning clock).window [] (Lift calls) }
+    ensures name { (result.name.served ≡ served) × (result.name.listener.value ≡ listener) × (result.name.clock.value ≡ clock) × (result.name.handle.value ≡ handle) × (result.name.calls.value ≡ calls) }
     ensures adds { result.book.marks.items ≡ mark by (Lift calls) ∷ [] }
     ensures keeps { Keeps L.Link.meaning L.meaning C.meaning P.cause result }
 {

@@ -6,7 +6,7 @@ ghost use Rattle.rkt_board.specs.declared.history.EventOf.{EventOf};
 use rkt_request::Types;
 
 /// What is served over links of one kind. It says what stands behind each event of a launch, under a clock with a window.
-pub trait Served<A: Types, K> {
+pub trait Served<A: Types, K>: Drop {
     /// What stands behind an event that follows these.
     ghost cause: { Self → Option (ℕ × ℕ) → List (EventOf A.Cached A.Stream K) → EventOf A.Cached A.Stream K → Type 0 };
 

@@ -3,7 +3,7 @@ ghost use Rattle.std.specs.Prelude.{◌≡◌, ◌≤◌, ◌<◌, ◌+◌, ◌�
 ghost use Rattle.std.specs.List.{list_any};
 ghost use Rattle.rkt_turn.specs.HandsBack.{HandsBack};
 ghost use Rattle.rkt_link.specs.Clock.{IsAmid, IsWithin, TellsOn};
-ghost use Rattle.rkt_board.specs.Board.{Keeps, SameBook};
+ghost use Rattle.rkt_board.specs.Board.{IsCutWithin, Keeps, SameBook};
 ghost use Rattle.rkt_board.specs.Events.{is_close, admitted};
 ghost use Rattle.rkt_board.specs.Marks.{events};
 ghost use Rattle.rkt_board.specs.Turns.{mark, AddsOne, TurnedAs, StopsAs, GivesAs, DownsAs, ClosesAs, TripsAs, ShowsTrip, StaysOpen, MayDown, MayClose, IsOpen, IsRunOf};
@@ -19,8 +19,8 @@ use std::snapshot::Snapshot;
 
 /// A turn of a worker that has nothing open: it reads the clock, looks at the wire, and then polls the listener. Where the
 /// wire has a word it enters the Trip, once. Nothing is admitted where that has come, or the listener has ended or failed.
-pub fn turn<'a, A: Types, P: Served<A, L::Link>, L: Listener, C: Clock>(
-    board: &mut BoardOf<'a, A, P, L, C>,
+pub fn turn<A: Types, P: Served<A, L::Link>, L: Listener, C: Clock>(
+    board: &mut BoardOf<A, P, L, C>,
     by: u64,
 ) -> Turned<L::Link>
     requires keeps { Keeps L.Link.meaning L.meaning C.meaning P.cause board.old }
@@ -41,8 +41,8 @@ pub fn turn<'a, A: Types, P: Served<A, L::Link>, L: Listener, C: Clock>(
 }
 
 // Enters the Trip, where none stands yet.
-fn trip<'a, A: Types, P: Served<A, L::Link>, L: Listener, C: Clock>(
-    board: &mut BoardOf<'a, A, P, L, C>,
+fn trip<A: Types, P: Served<A, L::Link>, L: Listener, C: Clock>(
+    board: &mut BoardOf<A, P, L, C>,
     by: u64,
     moment: u64,
     word: u64,
@@ -85,8 +85,8 @@ fn make_room<M, E>(book: &mut Book<M, E>) -> Option<u64>
 }
 
 // Polls the listener, with room for what it gives.
-fn admit<'a, A: Types, P: Served<A, L::Link>, L: Listener, C: Clock>(
-    board: &mut BoardOf<'a, A, P, L, C>,
+fn admit<A: Types, P: Served<A, L::Link>, L: Listener, C: Clock>(
+    board: &mut BoardOf<A, P, L, C>,
     by: u64,
     moment: u64,
 ) -> Turned<L::Link>
@@ -136,8 +136,8 @@ fn admit<'a, A: Types, P: Served<A, L::Link>, L: Listener, C: Clock>(
 }
 
 // Enters the Trip of a word that the handle has seen, where none stands yet.
-fn note_trip<'a, A: Types, P: Served<A, L::Link>, L: Listener, C: Clock>(
-    board: &mut BoardOf<'a, A, P, L, C>,
+fn note_trip<A: Types, P: Served<A, L::Link>, L: Listener, C: Clock>(
+    board: &mut BoardOf<A, P, L, C>,
     by: u64,
     moment: u64,
     word: u64,
@@ -165,8 +165,8 @@ fn note_trip<'a, A: Types, P: Served<A, L::Link>, L: Listener, C: Clock>(
 
 /// Looks at the clock and at the wire, and tells the moment and the word, if there is one; the first time that there is, it
 /// enters the Trip. What is open stays open.
-pub fn look<'a, A: Types, P: Served<A, L::Link>, L: Listener, C: Clock>(
-    board: &mut BoardOf<'a, A, P, L, C>,
+pub fn look<A: Types, P: Served<A, L::Link>, L: Listener, C: Clock>(
+    board: &mut BoardOf<A, P, L, C>,
     by: u64,
 ) -> (u64, Option<u64>)
     requires keeps { Keeps L.Link.meaning L.meaning C.meaning P.cause board.old }
@@ -193,8 +193,8 @@ pub fn look<'a, A: Types, P: Served<A, L::Link>, L: Listener, C: Clock>(
 }
 
 /// Takes a handle of the wire in that has seen a word, and enters the Trip, where none stands yet. What is open stays open.
-pub fn rejoin<'a, A: Types, P: Served<A, L::Link>, L: Listener, C: Clock>(
-    board: &mut BoardOf<'a, A, P, L, C>,
+pub fn rejoin<A: Types, P: Served<A, L::Link>, L: Listener, C: Clock>(
+    board: &mut BoardOf<A, P, L, C>,
     by: u64,
     handle: Shutdown<A::Reason>,
 )
@@ -216,16 +216,17 @@ pub fn rejoin<'a, A: Types, P: Served<A, L::Link>, L: Listener, C: Clock>(
 }
 
 /// Enters the End of a number that this worker has open. It takes no memory.
-pub fn end<'a, A: Types, P: Served<A, L::Link>, L: Listener, C: Clock>(
-    board: &mut BoardOf<'a, A, P, L, C>,
+pub fn end<A: Types, P: Served<A, L::Link>, L: Listener, C: Clock>(
+    board: &mut BoardOf<A, P, L, C>,
     by: u64,
     number: u64,
     entry: Entry<A, L::Link>,
 )
     requires keeps { Keeps L.Link.meaning L.meaning C.meaning P.cause board.old }
-    requires opened { IsOpen L.Link.meaning board.old.book.marks.items by number (L.Link.meaning entry.link).asked }
+    requires opened { IsOpen L.Link.meaning board.old.book.marks.items by number (L.Link.meaning entry.link.io).asked }
     requires ran { IsRunOf (C.meaning board.old.name.clock.value).window (events board.old.book.marks.items) number entry (C.meaning board.old.near.clock).last }
-    requires caused { (moment : ℕ) → (C.meaning board.old.near.clock).last ≤ moment → P.cause board.old.name.served.now (C.meaning board.old.name.clock.value).window (events board.old.book.marks.items) (event.End number entry moment by) }
+    requires cut { IsCutWithin (C.meaning board.old.name.clock.value).window entry.end }
+    requires caused { (moment : ℕ) → (C.meaning board.old.near.clock).last ≤ moment → P.cause board.old.name.served (C.meaning board.old.name.clock.value).window (events board.old.book.marks.items) (event.End number entry moment by) }
     ensures name { board.new.name ≡ board.old.name }
     ensures adds { (moment : ℕ) × AddsOne board.old.book.marks.items board.new.book.marks.items (mark by (event.End number entry moment by)) }
     ensures clock { TellsOn (C.meaning board.old.near.clock) (C.meaning board.new.near.clock) }
@@ -246,13 +247,13 @@ pub fn end<'a, A: Types, P: Served<A, L::Link>, L: Listener, C: Clock>(
 }
 
 /// Enters the Down, with the calls of the callbacks of a shutdown, behind a Trip that has none. It takes no memory.
-pub fn down<'a, A: Types, P: Served<A, L::Link>, L: Listener, C: Clock>(
-    board: &mut BoardOf<'a, A, P, L, C>,
+pub fn down<A: Types, P: Served<A, L::Link>, L: Listener, C: Clock>(
+    board: &mut BoardOf<A, P, L, C>,
     by: u64,
     calls: Seq<Called>,
 ) -> bool
     requires keeps { Keeps L.Link.meaning L.meaning C.meaning P.cause board.old }
-    requires caused { P.cause board.old.name.served.now (C.meaning board.old.name.clock.value).window (events board.old.book.marks.items) (event.Down calls) }
+    requires caused { P.cause board.old.name.served (C.meaning board.old.name.clock.value).window (events board.old.book.marks.items) (event.Down calls) }
     ensures name { board.new.name ≡ board.old.name }
     ensures adds { DownsAs by calls board.old.book.marks.items board.new.book.marks.items result }
     ensures due { IsTrue result ↔ MayDown board.old.book.marks.items }
@@ -272,8 +273,8 @@ pub fn down<'a, A: Types, P: Served<A, L::Link>, L: Listener, C: Clock>(
 }
 
 /// Enters the Close, where nothing is open and a Down stands where a Trip does. It takes no memory.
-pub fn close<'a, A: Types, P: Served<A, L::Link>, L: Listener, C: Clock>(
-    board: &mut BoardOf<'a, A, P, L, C>,
+pub fn close<A: Types, P: Served<A, L::Link>, L: Listener, C: Clock>(
+    board: &mut BoardOf<A, P, L, C>,
     by: u64,
 ) -> bool
     requires keeps { Keeps L.Link.meaning L.meaning C.meaning P.cause board.old }

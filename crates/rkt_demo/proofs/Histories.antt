@@ -1,21 +1,22 @@
 -- The entries of a launch over the sample tell of the requests that its links ask.
-use Rattle.std.proofs.Common.{◌≡◌, ◌<◌, ◌++◌, ◌⊎◌, inl, inr, ℕ, List, [], ◌∷◌, Bool, true, false, ◌==◌, Option, Some, if◌then◌else◌, length, map, min, slice_get, take, refl, ap, ◌∙◌, sym, subst, arith}
+use Rattle.std.proofs.Common.{◌≡◌, ◌<◌, ◌≤◌, ◌+◌, ◌++◌, ◌⊎◌, inl, inr, ℕ, List, [], ◌∷◌, Bool, true, false, ◌==◌, IsSome, Option, Some, if◌then◌else◌, length, map, min, slice_get, take, refl, ap, ◌∙◌, sym, subst, arith}
 use Rattle.std.specs.Option.{ForSome, option_map}
 use Rattle.std.proofs.lemmas.List.{length-map, length-take}
 use Rattle.std.proofs.lemmas.Option.{none-some, same_Some, slice_get-map}
 use Rattle.rkt_source.specs.Memory.{SourceInMemory, source_meaning}
 use Rattle.rkt_link.specs.Asked.{Asked}
-use Rattle.rkt_serve.specs.Causes.{AllCaused, CauseAt, Caused, CausedAs, Ran}
+use Rattle.rkt_serve.specs.Causes.{AllCaused, CauseAt, CausedAs, Ran}
 use Rattle.rkt_link.specs.Clock.{IsWithin}
 use Rattle.std.specs.List.{list_any}
 use Rattle.rkt_board.specs.After.{AfterFrom}
 use Rattle.rkt_board.specs.Closed.{AllAdmitted}
-use Rattle.rkt_board.specs.Events.{is_trip, admitted, end_of}
+use Rattle.rkt_board.specs.Board.{IsCutWithin}
+use Rattle.rkt_board.specs.Events.{is_trip, admitted, end_of, InOrder}
 use Rattle.rkt_serve.specs.Headline.{AllTimed, HasEntry}
 use Rattle.rkt_link.specs.Listener.{Settled}
 use Rattle.rkt_link.specs.Memory.{LinkInMemory, ListenerInMemory, asked_of, listener_meaning}
 use Rattle.rkt_board.specs.declared.history.End.{End as Ending}
-use Rattle.rkt_board.specs.declared.history.End.TheVariants.{Answered, Lost, Failed, Starved}
+use Rattle.rkt_board.specs.declared.history.End.TheVariants.{Answered, Lost, Cut, Failed, Starved}
 use Rattle.rkt_board.specs.declared.history.Failure.TheVariants.{BadHead, BodyFault}
 use Rattle.rkt_board.specs.declared.history.EntryOf.{EntryOf}
 use Rattle.rkt_board.specs.declared.history.EventOf.{EventOf}
@@ -35,7 +36,7 @@ use Rattle.rkt_demo.proofs.Once.{Spelling}
 use Rattle.rkt_demo.proofs.Places.{front_at, map_front}
 use Rattle.rkt_demo.proofs.SampleCalls.{IsAtHand}
 use Rattle.rkt_demo.specs.Entries.{ended_section}
-use Rattle.rkt_demo.specs.Launched.{ServesFront, is_starved}
+use Rattle.rkt_demo.specs.Launched.{ServesFront, told_of}
 use Rattle.rkt_demo.specs.Sample.{IsSample, SampleTables}
 use Rattle.rkt_demo.specs.Shown.{IsMade, IsSection, LeadsTo, asked_for, served_in}
 use Rattle.rkt_demo.specs.Words.{Table}
@@ -44,9 +45,11 @@ use Rattle.rkt_demo.specs.declared.script.ScriptRequest.{ScriptRequest}
 abbrev Kept : Type 0
 Kept = EntryOf ℕ SourceInMemory LinkInMemory
 
--- the run of an entry is timed as its End
-timed_end : (window : Option (ℕ × ℕ)) (k : ℕ) (events : List (EventOf ℕ SourceInMemory LinkInMemory)) (entry : Kept) → AllTimed window events → end_of k events ≡ Some entry
-    → ForSome entry.run (λ run. IsWithin window run.moment)
+-- the run of an entry, and where its link was cut off, lie in the window
+abbrev IsTimed : Option (ℕ × ℕ) → Kept → Type 0
+IsTimed window entry = ForSome entry.run (λ run. IsWithin window run.moment) × IsCutWithin window entry.end
+
+timed_end : (window : Option (ℕ × ℕ)) (k : ℕ) (events : List (EventOf ℕ SourceInMemory LinkInMemory)) (entry : Kept) → AllTimed window events → end_of k events ≡ Some entry → IsTimed window entry
 timed_end window k [] entry timed found = absurd (none-some entry found)
 timed_end window k (Lift calls ∷ es) entry timed found = timed_end window k es entry timed.1 found
 timed_end window k (Trip w t ∷ es) entry timed found = timed_end window k es entry timed.1 found
@@ -55,8 +58,8 @@ timed_end window k (Admit n m b ∷ es) entry timed found = timed_end window k e
 timed_end window k (Close m ∷ es) entry timed found = timed_end window k es entry timed.1 found
 timed_end window k (End n other m b ∷ es) entry timed found = by_number (n == k) found (timed_end window k es entry timed.1)
   where
-    by_number : (t : Bool) → (if t then Some other else end_of k es) ≡ Some entry → (end_of k es ≡ Some entry → ForSome entry.run (λ run. IsWithin window run.moment)) → ForSome entry.run (λ run. IsWithin window run.moment)
-    by_number true here later = subst (λ (e : Kept). ForSome e.run (λ run. IsWithin window run.moment)) (same_Some other entry here) timed.0.1
+    by_number : (t : Bool) → (if t then Some other else end_of k es) ≡ Some entry → (end_of k es ≡ Some entry → IsTimed window entry) → IsTimed window entry
+    by_number true here later = subst (IsTimed window) (same_Some other entry here) (timed.0.1, timed.0.2)
     by_number false here later = later here
 
 -- where no word is allowed there is no Trip
@@ -70,11 +73,22 @@ none_trips allowed none shuts word window tables before (End n x m b ∷ es) cau
 none_trips allowed none shuts word window tables before (Down calls ∷ es) caused = none_trips allowed none shuts word window tables (before ++ Down calls ∷ []) es caused.1
 none_trips allowed none shuts word window tables before (Close m ∷ es) caused = none_trips allowed none shuts word window tables (before ++ Close m ∷ []) es caused.1
 
+-- where there is a Trip, the word of `/stop` is one that may stand
+pub trip_told : {Task : Type 0} (allowed : ℕ → Type 0) (shuts : CallingAtShutdown SampleRoute SampleCatcher (Unit {0}) ℕ NoFairing Task) (word stop : ℕ) (window : Option (ℕ × ℕ)) (tables : SampleTables) → ((w : ℕ) → allowed w → w ≡ stop)
+    → (before es : List (EventOf ℕ SourceInMemory LinkInMemory)) → AfterFrom (CauseAt allowed shuts (served_in word window) tables) before es → AfterFrom InOrder before es → list_any is_trip es ≡ true → 0 < stop
+trip_told allowed shuts word stop window tables alone before [] caused ordered there = absurd (cc there)
+trip_told allowed shuts word stop window tables alone before (Trip w m ∷ es) caused ordered there = subst (λ (n : ℕ). 0 < n) (alone w caused.0) ordered.0.1.2
+trip_told allowed shuts word stop window tables alone before (Lift calls ∷ es) caused ordered there = trip_told allowed shuts word stop window tables alone (before ++ Lift calls ∷ []) es caused.1 ordered.1 there
+trip_told allowed shuts word stop window tables alone before (Admit n m b ∷ es) caused ordered there = trip_told allowed shuts word stop window tables alone (before ++ Admit n m b ∷ []) es caused.1 ordered.1 there
+trip_told allowed shuts word stop window tables alone before (End n x m b ∷ es) caused ordered there = trip_told allowed shuts word stop window tables alone (before ++ End n x m b ∷ []) es caused.1 ordered.1 there
+trip_told allowed shuts word stop window tables alone before (Down calls ∷ es) caused ordered there = trip_told allowed shuts word stop window tables alone (before ++ Down calls ∷ []) es caused.1 ordered.1 there
+trip_told allowed shuts word stop window tables alone before (Close m ∷ es) caused ordered there = trip_told allowed shuts word stop window tables alone (before ++ Close m ∷ []) es caused.1 ordered.1 there
+
 -- an entry of a request
-record ServedFor (word : ℕ) (window : Option (ℕ × ℕ)) (tables : SampleTables) (request : ScriptRequest) (entry : Kept) : Type 0 where
-  pub caused : Caused (served_in word window) tables entry
-  pub asks : asked_of entry.link ≡ asked_for request
+record ServedFor (word : ℕ) (window : Option (ℕ × ℕ)) (request : ScriptRequest) (seen : Option ℕ) (entry : Kept) : Type 0 where
+  pub asks : asked_of entry.link.io ≡ asked_for request
   pub timed : ForSome entry.run (λ run. IsWithin window run.moment)
+  pub told : IsSome seen → 0 < word
 
 -- no body without a source fails
 never_fails : (turns : ℕ) (c d : Content SourceInMemory) → IsAtHand c → (((e : SourceError) × StreamErrs source_meaning e c d) ⊎ MayWait source_meaning turns c) → ⊥
@@ -90,38 +104,45 @@ never_fails turns (content.Phantom length size) d at_hand (inr may) = may
 
 module _ (laws : Spelling) (word : ℕ) (window : Option (ℕ × ℕ)) (table : Table) (tables : SampleTables) (sample : IsSample table tables) where
   -- the response of an entry was made of its request
-  made_of : (request : ScriptRequest) (entry : Kept) (ended : Ending) (ran : Ran (served_in word window) tables entry ended) → ServedFor word window tables request entry → IsMade table word window request ran.first
-  made_of request entry ended ran served = record {
+  made_of : (request : ScriptRequest) (seen : Option ℕ) (entry : Kept) (ended : Ending) (ran : Ran (served_in word window) tables seen entry ended) → ServedFor word window request seen entry → IsMade table word window request ran.first
+  made_of request seen entry ended ran served = record {
     tables = tables;
     sample = sample;
     run = ran.run;
     timed = served.timed ran.run ran.run_kept;
-    lifecycle = subst (λ (a : Asked). LeadsTo word window tables a ran.run ran.first) served.asks (ran.lifecycle (asked_of entry.link) refl);
+    lifecycle = subst (λ (a : Asked). LeadsTo word window tables a ran.run ran.first) served.asks (ran.lifecycle (asked_of entry.link.io) refl);
   }
 
-  section_of_cause : (k : ℕ) (request : ScriptRequest) (entry : Kept) (ended : Ending) → CausedAs (served_in word window) tables entry ended → ServedFor word window tables request entry
-      → IsSection (is_starved ended) table word window k request (ended_section k ended entry.link.held)
-  section_of_cause k request entry Starved caused served = refl
-  section_of_cause k request entry Answered caused served = record {
+  section_of_cause : (k : ℕ) (request : ScriptRequest) (seen : Option ℕ) (entry : Kept) (ended : Ending) → CausedAs (served_in word window) tables seen entry ended → IsCutWithin window ended → ServedFor word window request seen entry
+      → IsSection (told_of ended) table word window k request (ended_section k ended entry.link.io.held)
+  section_of_cause k request seen entry Starved caused cut served = refl
+  section_of_cause k request seen entry Answered caused cut served = record {
     response = caused.first;
-    made = made_of request entry Answered caused served;
-    told = rw caused.sent.1 (record { pieces = entry.link.held; sent = subst (Sent source_meaning caused.first) (sym (caused.held entry.link.held refl)) caused.sent; text = refl });
+    made = made_of request seen entry Answered caused served;
+    told = rw caused.sent.1 (record { pieces = entry.link.io.held; sent = subst (Sent source_meaning caused.first) (sym (caused.held entry.link.io.held refl)) caused.sent; text = refl });
   }
-  section_of_cause k request entry Lost caused served = absurd (cc (ap (λ (a : Asked). a.never_faults) served.asks, caused.1))
-  section_of_cause k request entry (Failed BadHead) caused served = record {
+  section_of_cause k request seen entry (Cut saw at) caused cut served = record {
+    told = served.told caused.1.tripped;
+    tables = tables;
+    sample = sample;
+    long = λ w is. omega (arith, (cut.0 w is).0, caused.1.grace, (cut.1 w is).1);
+    text = refl;
+  }
+  section_of_cause k request seen entry Lost caused cut served = absurd (cc (ap (λ (a : Asked). a.never_faults) served.asks, caused.1))
+  section_of_cause k request seen entry (Failed BadHead) caused cut served = record {
     response = caused.first;
-    made = made_of request entry (Failed BadHead) caused served;
+    made = made_of request seen entry (Failed BadHead) caused served;
     told = rw caused.sent.0 refl;
   }
-  section_of_cause k request entry (Failed BodyFault) caused served =
-      let made = made_of request entry (Failed BodyFault) caused served in
+  section_of_cause k request seen entry (Failed BodyFault) caused cut served =
+      let made = made_of request seen entry (Failed BodyFault) caused served in
       let one = made_once laws table word word window window request caused.first caused.first made made in
       absurd (never_fails _ caused.first.body.content caused.response.body.content one.1 caused.sent.0)
 
   -- a launch serves a front of what its listener offers
   pub launched_serves : (given : Option (List Asked)) (count : ℕ) (events : List (EventOf ℕ SourceInMemory LinkInMemory)) (requests : List ScriptRequest) → given ≡ Some (take count (map asked_for requests)) → AllAdmitted given events
-      → AllTimed window events → ((k : ℕ) → k < admitted events → HasEntry (served_in word window) tables given events k) → ServesFront table word window requests events
-  launched_serves given count events requests given_is all timed has =
+      → AllTimed window events → ((k : ℕ) → k < admitted events → HasEntry (served_in word window) tables given events k) → (list_any is_trip events ≡ true → 0 < word) → ServesFront table word window requests events
+  launched_serves given count events requests given_is all timed has word_told =
       let asks : List Asked = map asked_for requests in
       let many : admitted events ≡ length (take count asks) = all (take count asks) given_is in
       let front : length (take count asks) ≡ min count (length asks) = length-take count asks in
@@ -131,15 +152,17 @@ module _ (laws : Spelling) (word : ℕ) (window : Option (ℕ × ℕ)) (table : 
         each = λ k request within there.
             let entry = has k within in
             let place : slice_get (take count asks) k ≡ slice_get asks k = front_at asks count k (omega (arith, within, many, front)) in
-            let asked : Some (asked_of entry.entry.link) ≡ Some (asked_for request) =
+            let asked : Some (asked_of entry.entry.link.io) ≡ Some (asked_for request) =
             entry.asks (take count asks) given_is ∙ place ∙ slice_get-map asked_for requests k ∙ ap (option_map asked_for) there in (
               entry.entry,
               entry.found,
-              λ n. section_of_cause n request entry.entry entry.entry.end entry.caused (record {
-                caused = entry.caused;
-                asks = same_Some _ _ asked;
-                timed = timed_end window k events entry.entry timed entry.found;
-              }),
+              λ n.
+                  let times = timed_end window k events entry.entry timed entry.found in
+                  section_of_cause n request entry.seen entry.entry entry.entry.end entry.caused times.1 (record {
+                    asks = same_Some _ _ asked;
+                    timed = times.0;
+                    told = λ some. word_told (entry.tripped some);
+                  }),
             );
       }
 

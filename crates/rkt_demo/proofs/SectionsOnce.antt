@@ -14,7 +14,7 @@ use Rattle.rkt_demo.proofs.Once.{Spelling}
 use Rattle.rkt_demo.proofs.SampleCalls.{IsAtHand, Response}
 use Rattle.rkt_demo.specs.Output.{answered_section, body_bytes, failed_section, head_text, sent_section}
 use Rattle.rkt_demo.specs.Script.{lines_of, requests_of}
-use Rattle.rkt_demo.specs.Shown.{IsAnswered, IsSection, IsServed, ShownFrom, ShownOnce}
+use Rattle.rkt_demo.specs.Shown.{IsAnswered, IsSection, IsServed, ShownFrom, ShownOnce, Told}
 use Rattle.rkt_demo.specs.Words.{Table}
 use Rattle.rkt_demo.specs.declared.script.ScriptRequest.{ScriptRequest}
 
@@ -62,18 +62,19 @@ served_once laws table word word' window window' k request section section' serv
     told_once (has_head served.response) k served.response section section' one.1 served.told
     (subst (λ (r : Response). MatchBool (has_head r) (IsAnswered k r section') (section' ≡ failed_section k)) one.0 served'.told)
 
-section_once : (laws : Spelling) (table : Table) (word word' : ℕ) (window window' : Option (ℕ × ℕ)) (starved : Bool) (k : ℕ) (request : ScriptRequest) (section section' : List ℕ) → IsSection starved table word window k request section
-    → IsSection starved table word' window' k request section' → section' ≡ section
-section_once laws table word word' window window' true k request section section' is is' = is' ∙ sym is
-section_once laws table word word' window window' false k request section section' is is' = served_once laws table word word' window window' k request section section' is is'
+section_once : (laws : Spelling) (table : Table) (word word' : ℕ) (window window' : Option (ℕ × ℕ)) (told : Told) (k : ℕ) (request : ScriptRequest) (section section' : List ℕ) → IsSection told table word window k request section
+    → IsSection told table word' window' k request section' → section' ≡ section
+section_once laws table word word' window window' Told.NoMemory k request section section' is is' = is' ∙ sym is
+section_once laws table word word' window window' Told.CutShort k request section section' is is' = is'.text ∙ sym is.text
+section_once laws table word word' window window' Told.Served k request section section' is is' = served_once laws table word word' window window' k request section section' is is'
 
-from_once : (laws : Spelling) (table : Table) (word word' : ℕ) (window window' : Option (ℕ × ℕ)) (starved : ℕ → Bool) (k : ℕ) (requests : List ScriptRequest) (text text' : List ℕ) → ShownFrom table window starved word k requests text
-    → ShownFrom table window' starved word' k requests text' → text' ≡ text
-from_once laws table word word' window window' starved k [] text text' is is' = is' ∙ sym is
-from_once laws table word word' window window' starved k (request ∷ requests) text text' is is' =
-    let first : is'.0 ≡ is.0 = section_once laws table is.2 is'.2 window window' (starved k) k request is.0 is'.0 is.4 is'.4 in
-    let rest : is'.1 ≡ is.1 = from_once laws table is.2 is'.2 window window' starved (k + 1) requests is.1 is'.1 is.5 is'.5 in
+from_once : (laws : Spelling) (table : Table) (word word' : ℕ) (window window' : Option (ℕ × ℕ)) (told : ℕ → Told) (k : ℕ) (requests : List ScriptRequest) (text text' : List ℕ) → ShownFrom table window told word k requests text
+    → ShownFrom table window' told word' k requests text' → text' ≡ text
+from_once laws table word word' window window' told k [] text text' is is' = is' ∙ sym is
+from_once laws table word word' window window' told k (request ∷ requests) text text' is is' =
+    let first : is'.0 ≡ is.0 = section_once laws table is.2 is'.2 window window' (told k) k request is.0 is'.0 is.4 is'.4 in
+    let rest : is'.1 ≡ is.1 = from_once laws table is.2 is'.2 window window' told (k + 1) requests is.1 is'.1 is.5 is'.5 in
     is'.6 ∙ rw (first, rest) (sym is.6)
 
 pub one_text : Spelling → ShownOnce
-one_text laws table window window' starved n script text text' is is' = from_once laws table 0 0 window window' starved 0 (take n (requests_of (lines_of script))) text text' is is'
+one_text laws table window window' told n script text text' is is' = from_once laws table 0 0 window window' told 0 (take n (requests_of (lines_of script))) text text' is is'

@@ -12,8 +12,8 @@ use Rattle.rkt_board.specs.declared.history.EventOf.{EventOf}
 use Rattle.rkt_demo.proofs.Places.{front_at, left_at, rest_at, right_at}
 use Rattle.rkt_demo.proofs.Stops.{may_serve, none_at}
 use Rattle.rkt_demo.specs.Entries.{ended_section, entry_section, entries_text, AreEntries}
-use Rattle.rkt_demo.specs.Launched.{ServesFront, TellsOf, is_starved}
-use Rattle.rkt_demo.specs.Shown.{IsSection, ShownFrom, ShowsRequests}
+use Rattle.rkt_demo.specs.Launched.{ServesFront, TellsOf, told_of}
+use Rattle.rkt_demo.specs.Shown.{IsSection, ShownFrom, ShowsRequests, Told}
 use Rattle.rkt_demo.specs.Stopping.{FollowsWord, IsStop, StandBefore}
 use Rattle.rkt_demo.specs.Words.{Table}
 use Rattle.rkt_demo.specs.declared.script.ScriptRequest.{ScriptRequest}
@@ -24,10 +24,10 @@ Kept = EntryOf ℕ SourceInMemory LinkInMemory
 abbrev Event : Type 0
 Event = EventOf ℕ SourceInMemory LinkInMemory
 
-abbrev entry_starved : Option (Option Kept) → Bool
-entry_starved (Some (Some entry)) = is_starved entry.end
-entry_starved (Some None) = false
-entry_starved None = false
+abbrev entry_told : Option (Option Kept) → Told
+entry_told (Some (Some entry)) = told_of entry.end
+entry_told (Some None) = Told.Served
+entry_told None = Told.Served
 
 -- none, or that of the second launch
 abbrev word_by : Bool → ℕ
@@ -59,26 +59,26 @@ module _ (table : Table) (window : Option (ℕ × ℕ)) where
   abbrev TellsAt : List (Option Kept) → ℕ → ℕ → ScriptRequest → Type 0
   TellsAt entries word i request = (entry : Kept) × (slice_get entries i ≡ Some (Some entry)) × TellsOf table word window request entry
 
-  shown_from : (starved : ℕ → Bool) (told : ℕ → ℕ) (k : ℕ) (entries : List (Option Kept)) (requests : List ScriptRequest) → length entries ≡ length requests → ((i : ℕ) → starved (k + i) ≡ entry_starved (slice_get entries i))
-      → ((i : ℕ) (request : ScriptRequest) → slice_get requests i ≡ Some request → FollowsWord (told i) request (told (suc i)) × TellsAt entries (told (suc i)) i request)
-      → ShownFrom table window starved (told 0) k requests (entries_text k entries)
-  shown_from starved told k [] [] same starves served = refl
-  shown_from starved told k [] (request ∷ requests) same starves served = absurd (omega (arith, same))
-  shown_from starved told k (entry ∷ entries) [] same starves served = absurd (omega (arith, same))
-  shown_from starved told k (entry ∷ entries) (request ∷ requests) same starves served =
+  shown_from : (told : ℕ → Told) (word : ℕ → ℕ) (k : ℕ) (entries : List (Option Kept)) (requests : List ScriptRequest) → length entries ≡ length requests → ((i : ℕ) → told (k + i) ≡ entry_told (slice_get entries i))
+      → ((i : ℕ) (request : ScriptRequest) → slice_get requests i ≡ Some request → FollowsWord (word i) request (word (suc i)) × TellsAt entries (word (suc i)) i request)
+      → ShownFrom table window told (word 0) k requests (entries_text k entries)
+  shown_from told word k [] [] same tells served = refl
+  shown_from told word k [] (request ∷ requests) same tells served = absurd (omega (arith, same))
+  shown_from told word k (entry ∷ entries) [] same tells served = absurd (omega (arith, same))
+  shown_from told word k (entry ∷ entries) (request ∷ requests) same tells served =
       let here = served 0 request refl in
       let is : entry ≡ Some here.1.0 = same_Some entry (Some here.1.0) here.1.1 in
       let number : k + 0 ≡ k = omega arith in
-      let now : starved k ≡ is_starved here.1.0.end = ap starved (sym number) ∙ starves 0 ∙ ap (λ (e : Option Kept). entry_starved (Some e)) is in
-      let section : IsSection (starved k) table (told 1) window k request (entry_section k entry) =
-      subst (λ (e : Option Kept). IsSection (starved k) table (told 1) window k request (entry_section k e)) (sym is)
-      (subst (λ (b : Bool). IsSection b table (told 1) window k request (ended_section k here.1.0.end here.1.0.link.held)) (sym now) (here.1.2 k)) in (
+      let now : told k ≡ told_of here.1.0.end = ap told (sym number) ∙ tells 0 ∙ ap (λ (e : Option Kept). entry_told (Some e)) is in
+      let section : IsSection (told k) table (word 1) window k request (entry_section k entry) =
+      subst (λ (e : Option Kept). IsSection (told k) table (word 1) window k request (entry_section k e)) (sym is)
+      (subst (λ (t : Told). IsSection t table (word 1) window k request (ended_section k here.1.0.end here.1.0.link.io.held)) (sym now) (here.1.2 k)) in (
         entry_section k entry,
         entries_text (k + 1) entries,
-        told 1,
+        word 1,
         here.0,
         section,
-        shown_from starved (λ i. told (suc i)) (k + 1) entries requests (omega (arith, same)) (λ i. let next : k + 1 + i ≡ k + suc i = omega arith in ap starved next ∙ starves (suc i))
+        shown_from told (λ i. word (suc i)) (k + 1) entries requests (omega (arith, same)) (λ i. let next : k + 1 + i ≡ k + suc i = omega arith in ap told next ∙ tells (suc i))
             (λ i other there. served (suc i) other there),
         refl,
       )
@@ -93,10 +93,10 @@ module _ (table : Table) (window : Option (ℕ × ℕ)) where
 
   module _ (requests : List ScriptRequest) (before : ℕ) (stands : StandBefore requests before) (first second : List Event) (entries others : List (Option Kept)) (all_first : admitted first ≡ before)
       (serves : ServesFront table 0 window (take before requests) first) (serves' : ServesFront table 2 window (drop before requests) second) (are : AreEntries first entries) (are' : AreEntries second others) where
-    abbrev Told : ℕ → ScriptRequest → Type 0
-    Told i request = FollowsWord (words before i) request (words before (suc i)) × TellsAt (entries ++ others) (words before (suc i)) i request
+    abbrev TellsHere : ℕ → ScriptRequest → Type 0
+    TellsHere i request = FollowsWord (words before i) request (words before (suc i)) × TellsAt (entries ++ others) (words before (suc i)) i request
 
-    told_before : (i : ℕ) (request : ScriptRequest) → i < before → slice_get requests i ≡ Some request → Told i request
+    told_before : (i : ℕ) (request : ScriptRequest) → i < before → slice_get requests i ≡ Some request → TellsHere i request
     told_before i request until there =
         let within : i < length entries = omega (arith, until, are.count, all_first) in
         let here = tells_at 0 (take before requests) first entries serves are i request within (front_at requests before i until ∙ there) in
@@ -106,7 +106,7 @@ module _ (table : Table) (window : Option (ℕ × ℕ)) where
           (here.0, left_at entries others i within ∙ here.1, subst (λ (w : ℕ). TellsOf table w window request here.0) (sym next) here.2),
         )
 
-    told_behind : (i : ℕ) (request : ScriptRequest) → before ≤ i → i < length (entries ++ others) → slice_get requests i ≡ Some request → Told i request
+    told_behind : (i : ℕ) (request : ScriptRequest) → before ≤ i → i < length (entries ++ others) → slice_get requests i ≡ Some request → TellsHere i request
     told_behind i request from within there =
         let sum : length (entries ++ others) ≡ length entries + length others = length-append entries others in
         let place : i ≡ before + (i - before) = omega (arith, from) in
@@ -122,10 +122,10 @@ module _ (table : Table) (window : Option (ℕ × ℕ)) where
             let at : before ≡ i = omega (arith, from, ltb-false before i is) in
             absurd (not_stop (stands.first request (ap (slice_get requests) at ∙ there)))
 
-    told_at : (i : ℕ) (request : ScriptRequest) → i < length (entries ++ others) → slice_get requests i ≡ Some request → Told i request
+    told_at : (i : ℕ) (request : ScriptRequest) → i < length (entries ++ others) → slice_get requests i ≡ Some request → TellsHere i request
     told_at i request within there = by_order (ltb i before) refl
       where
-        by_order : (t : Bool) → ltb i before ≡ t → Told i request
+        by_order : (t : Bool) → ltb i before ≡ t → TellsHere i request
         by_order true is = told_before i request (ltb-true i before is) there
         by_order false is = told_behind i request (ltb-false i before is) within there
 
@@ -137,14 +137,14 @@ module _ (table : Table) (window : Option (ℕ × ℕ)) where
         let within : length (entries ++ others) ≤ length requests = omega (arith, sum, rest, are.count, are'.count, all_first, serves'.within, stands.within) in
         let more : before ≤ length (entries ++ others) = omega (arith, sum, are.count, all_first) in
         let count : length (entries ++ others) ≡ length (take (length (entries ++ others)) requests) = sym (length-take-le (length (entries ++ others)) requests within) in
-        let starved : ℕ → Bool = λ n. entry_starved (slice_get (entries ++ others) n) in
-        let shown = shown_from starved (words before) 0 (entries ++ others) (take (length (entries ++ others)) requests) count (λ i. let same : 0 + i ≡ i = omega arith in ap starved same) (λ i request there.
+        let told : ℕ → Told = λ n. entry_told (slice_get (entries ++ others) n) in
+        let shown = shown_from told (words before) 0 (entries ++ others) (take (length (entries ++ others)) requests) count (λ i. let same : 0 + i ≡ i = omega arith in ap told same) (λ i request there.
         let inside : i < length (entries ++ others) = omega (arith, slice_get_within (take (length (entries ++ others)) requests) i request there, count) in
         told_at i request inside (sym (front_at requests (length (entries ++ others)) i inside) ∙ there)) in (
           length (entries ++ others),
-          starved,
+          told,
           may_serve requests before (length (entries ++ others)) stands more within,
-          subst (λ (w : ℕ). ShownFrom table window starved w 0 (take (length (entries ++ others)) requests) (entries_text 0 (entries ++ others))) (words_until before 0 (omega arith)) shown,
+          subst (λ (w : ℕ). ShownFrom table window told w 0 (take (length (entries ++ others)) requests) (entries_text 0 (entries ++ others))) (words_until before 0 (omega arith)) shown,
         )
 
   -- nothing was served, and nothing is told

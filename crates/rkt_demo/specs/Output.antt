@@ -40,6 +40,10 @@ failed_section k = label k ++ codes "Failed\n"
 abbrev pub lost_section : ℕ → List ℕ
 lost_section k = label k ++ codes "Lost\n"
 
+-- the section of a request whose link was cut off before it had the whole response
+abbrev pub cut_section : ℕ → List ℕ
+cut_section k = label k ++ codes "Cut\n"
+
 -- the section of a request for which there was no memory
 abbrev pub starved_section : ℕ → List ℕ
 starved_section k = label k ++ codes "Starved\n"

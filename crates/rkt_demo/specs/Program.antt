@@ -1,12 +1,12 @@
 -- What the program writes, by the words and the script that it reads.
-use Rattle.std.specs.Prelude.{◌≡◌, ◌⊎◌, ℕ, ◌+◌, ◌++◌, List, [], Bool, Option, Some, None, codes, drop}
+use Rattle.std.specs.Prelude.{◌≡◌, ◌⊎◌, ℕ, ◌+◌, ◌++◌, List, [], Option, Some, None, codes, drop}
 use Rattle.std.specs.Fmt.{decimal}
 use Rattle.std.specs.Option.{ForSome}
 use Rattle.rkt_config.specs.Config.{first_bad}
 use Rattle.rkt_source.specs.Source.{Meaning}
 use Rattle.rkt_demo.specs.declared.script.TheConstants.{SCRIPT_LIMIT}
 use Rattle.rkt_demo.specs.Script.{lines_of, AreGood, IsFirstBad}
-use Rattle.rkt_demo.specs.Shown.{Shown}
+use Rattle.rkt_demo.specs.Shown.{Shown, Told}
 use Rattle.rkt_demo.specs.Stopping.{IsCount}
 use Rattle.rkt_demo.specs.Streams.{IsReadTo}
 use Rattle.rkt_demo.specs.Words.{Commands, Table}
@@ -48,7 +48,7 @@ config_refusal = codes "error 18 aborting due to invalid configuration\n"
 abbrev pub IsText : Table → Option (ℕ × ℕ) → List ℕ → List ℕ → Type 0
 IsText table window script text = ((number : ℕ) × IsFirstBadLine script number × (text ≡ refusal number))
     ⊎ (IsGoodScript script × ¬ IsAccepted table × (text ≡ config_refusal))
-    ⊎ (IsGoodScript script × IsAccepted table × ((n : ℕ) × (starved : ℕ → Bool) × IsCount script n × Shown table window starved n script text))
+    ⊎ (IsGoodScript script × IsAccepted table × ((n : ℕ) × (told : ℕ → Told) × IsCount script n × Shown table window told n script text))
 
 -- all of the source was read, or so many bytes that a line leaves the grammar
 abbrev pub IsAllRead : Meaning → Meaning → Type 0

@@ -1,5 +1,6 @@
 -- What the program writes of the requests that it served.
-use Rattle.std.specs.Prelude.{◌≡◌, ℕ, ◌+◌, ◌++◌, List, [], ◌∷◌, Bool, true, false, MatchBool, Option, Some, take}
+use Rattle.std.specs.Prelude.{◌≡◌, ◌<◌, ◌≤◌, ℕ, ◌+◌, ◌++◌, List, [], ◌∷◌, true, MatchBool, Option, Some, take}
+use Rattle.std.specs.Option.{ForSome}
 use Rattle.rkt_fairing.specs.Callbacks.{quiet}
 use Rattle.rkt_http.specs.declared.status.Status.{Status}
 use Rattle.rkt_life.specs.declared.no_fairing.NoFairing.{NoFairing}
@@ -18,7 +19,7 @@ use Rattle.rkt_serve.specs.Lifecycle.{Lifecycle}
 use Rattle.rkt_link.specs.Memory.{LinkInMemory, link_meaning}
 use Rattle.rkt_serve.specs.Serving.{Serving, callbacks_of, serving}
 use Rattle.rkt_source.specs.Memory.{SourceInMemory, source_meaning}
-use Rattle.rkt_demo.specs.Output.{failed_section, last_line, sent_section, starved_section}
+use Rattle.rkt_demo.specs.Output.{cut_section, failed_section, last_line, sent_section, starved_section}
 use Rattle.rkt_demo.specs.Sample.{IsSample, SampleTables}
 use Rattle.rkt_demo.specs.Script.{lines_of, requests_of}
 use Rattle.rkt_demo.specs.Stopping.{FollowsWord, MayServe}
@@ -58,27 +59,41 @@ pub record IsServed (table : Table) (word : ℕ) (window : Option (ℕ × ℕ)) 
   pub made : IsMade table word window request response
   pub told : MatchBool (has_head response) (IsAnswered k response section) (section ≡ failed_section k)
 
--- the section of a request for which there was memory, or not
-abbrev pub IsSection : Bool → Table → ℕ → Option (ℕ × ℕ) → ℕ → ScriptRequest → List ℕ → Type 0
-IsSection true table word window k request section = section ≡ starved_section k
-IsSection false table word window k request section = IsServed table word window k request section
+-- the section of a request whose link was cut off: `/stop` has told its word, and so long a grace has gone by since
+pub record IsCutShort (table : Table) (word : ℕ) (window : Option (ℕ × ℕ)) (k : ℕ) (section : List ℕ) : Type 0 where
+  pub told : 0 < word
+  pub tables : SampleTables
+  pub sample : IsSample table tables
+  pub long : ForSome window (λ w. w.0 + tables.config.grace ≤ w.1)
+  pub text : section ≡ cut_section k
 
--- The sections of requests, from the number k on, of which these numbers had no memory, and the last line. In the exchange
--- before the first of them `/stop` would have told this word.
-abbrev pub ShownFrom : Table → Option (ℕ × ℕ) → (ℕ → Bool) → ℕ → ℕ → List ScriptRequest → List ℕ → Type 0
-ShownFrom table window starved word k [] text = text ≡ last_line k
-ShownFrom table window starved word k (request ∷ requests) text = (section : List ℕ) × (rest : List ℕ) × (next : ℕ) × FollowsWord word request next
-    × IsSection (starved k) table next window k request section × ShownFrom table window starved next (k + 1) requests rest × (text ≡ section ++ rest)
+-- what a section tells: that its request was served, or that its link was cut off, or that there was no memory
+pub data Told : Type 0 where
+  Served : Told
+  CutShort : Told
+  NoMemory : Told
 
--- the text tells of the first n requests of a script, served with the configuration of this table in this window of moments,
--- but for those that had no memory
-abbrev pub Shown : Table → Option (ℕ × ℕ) → (ℕ → Bool) → ℕ → List ℕ → List ℕ → Type 0
-Shown table window starved n script text = ShownFrom table window starved 0 0 (take n (requests_of (lines_of script))) text
+-- the section of a request of which this is told
+abbrev pub IsSection : Told → Table → ℕ → Option (ℕ × ℕ) → ℕ → ScriptRequest → List ℕ → Type 0
+IsSection Told.Served table word window k request section = IsServed table word window k request section
+IsSection Told.CutShort table word window k request section = IsCutShort table word window k section
+IsSection Told.NoMemory table word window k request section = section ≡ starved_section k
+
+-- The sections of requests, from the number k on, of which this is told, and the last line. In the exchange before the first of
+-- them `/stop` would have told this word.
+abbrev pub ShownFrom : Table → Option (ℕ × ℕ) → (ℕ → Told) → ℕ → ℕ → List ScriptRequest → List ℕ → Type 0
+ShownFrom table window told word k [] text = text ≡ last_line k
+ShownFrom table window told word k (request ∷ requests) text = (section : List ℕ) × (rest : List ℕ) × (next : ℕ) × FollowsWord word request next
+    × IsSection (told k) table next window k request section × ShownFrom table window told next (k + 1) requests rest × (text ≡ section ++ rest)
+
+-- the text tells this of the first n requests of a script, served with the configuration of this table in this window of moments
+abbrev pub Shown : Table → Option (ℕ × ℕ) → (ℕ → Told) → ℕ → List ℕ → List ℕ → Type 0
+Shown table window told n script text = ShownFrom table window told 0 0 (take n (requests_of (lines_of script))) text
 
 -- the text tells of as many of these requests as may be served
 abbrev pub ShowsRequests : Table → Option (ℕ × ℕ) → List ScriptRequest → List ℕ → Type 0
-ShowsRequests table window requests text = (n : ℕ) × (starved : ℕ → Bool) × MayServe requests n × ShownFrom table window starved 0 0 (take n requests) text
+ShowsRequests table window requests text = (n : ℕ) × (told : ℕ → Told) × MayServe requests n × ShownFrom table window told 0 0 (take n requests) text
 
 -- so many requests of one script are shown as one text at most, whatever the moments
 abbrev pub ShownOnce : Type 0
-ShownOnce = (table : Table) (window window' : Option (ℕ × ℕ)) (starved : ℕ → Bool) (n : ℕ) (script text text' : List ℕ) → Shown table window starved n script text → Shown table window' starved n script text' → text' ≡ text
+ShownOnce = (table : Table) (window window' : Option (ℕ × ℕ)) (told : ℕ → Told) (n : ℕ) (script text text' : List ℕ) → Shown table window told n script text → Shown table window' told n script text' → text' ≡ text

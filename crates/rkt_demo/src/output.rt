@@ -3,7 +3,7 @@ ghost use Rattle.std.specs.Prelude.{◌≡◌, ◌++◌, ◌∷◌, [], IfOk, On
 ghost use Rattle.std.specs.Fmt.{decimal};
 ghost use Rattle.std.specs.Option.{option_copied};
 ghost use Rattle.rkt_demo.specs.Entries.{ended_section, entries_text, AreEntries};
-ghost use Rattle.rkt_demo.specs.Output.{header_line, head_text, body_bytes, label, sent_section, lost_section, failed_section, starved_section, last_line};
+ghost use Rattle.rkt_demo.specs.Output.{header_line, head_text, body_bytes, label, sent_section, lost_section, cut_section, failed_section, starved_section, last_line};
 
 use crate::sample::{SampleEntry, SampleHistory};
 use rkt_base::{NoMemory, Text};
@@ -117,6 +117,13 @@ fn push_lost(alloc: Global, out: &mut Vec<u8>, number: usize) -> Result<(), NoMe
     push_text(out, "Lost\n")
 }
 
+fn push_cut(alloc: Global, out: &mut Vec<u8>, number: usize) -> Result<(), NoMemory>
+    ensures { OnOk result (out.new.items ≡ out.old.items ++ cut_section number) }
+{
+    push_label(alloc, out, number)?;
+    push_text(out, "Cut\n")
+}
+
 fn push_failed(alloc: Global, out: &mut Vec<u8>, number: usize) -> Result<(), NoMemory>
     ensures { OnOk result (out.new.items ≡ out.old.items ++ failed_section number) }
 {
@@ -145,11 +152,12 @@ fn push_section(
     number: usize,
     entry: &SampleEntry,
 ) -> Result<(), NoMemory>
-    ensures { OnOk result (out.new.items ≡ out.old.items ++ ended_section number entry.now.end entry.now.link.held) }
+    ensures { OnOk result (out.new.items ≡ out.old.items ++ ended_section number entry.now.end entry.now.link.io.held) }
 {
     match entry.end {
-        End::Answered => push_answered(alloc, out, number, entry.link.held()),
+        End::Answered => push_answered(alloc, out, number, entry.link.kept().held()),
         End::Lost => push_lost(alloc, out, number),
+        End::Cut { .. } => push_cut(alloc, out, number),
         End::Failed(_) => push_failed(alloc, out, number),
         End::Starved => push_starved(alloc, out, number),
     }

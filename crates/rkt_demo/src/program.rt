@@ -1,9 +1,9 @@
 //! The program: reads the words and the script, serves, and writes.
-ghost use Rattle.std.specs.Prelude.{◌≡◌, ◌⊎◌, ◌≤◌, ◌+◌, List, ℕ, Bool, false, map, string_bytes};
+ghost use Rattle.std.specs.Prelude.{◌≡◌, ◌⊎◌, ◌≤◌, ◌+◌, List, ℕ, false, map, string_bytes};
 ghost use Rattle.rkt_base.specs.Counts.{Rose};
 ghost use Rattle.rkt_source.specs.Sink.{Gains};
 ghost use Rattle.rkt_demo.specs.Program.{OfCommand, IsAccepted, OfScript, IsScript, IsGoodScript, IsFirstBadLine, IsText, IsAllRead, refusal};
-ghost use Rattle.rkt_demo.specs.Shown.{Shown};
+ghost use Rattle.rkt_demo.specs.Shown.{Shown, Told};
 ghost use Rattle.rkt_demo.specs.Stopping.{IsCount};
 ghost use Rattle.rkt_demo.specs.Streams.{GainsFront, GainsUnlessRefused};
 ghost use Rattle.rkt_demo.specs.Words.{Commands, IsCommand, IsStatus, Table};
@@ -112,7 +112,7 @@ pub fn run<R: Wait + Threads, S: Source, K: Sink, C: Clock>(
     // 5: the sink refused, and has taken a front of the text.
     ensures write { result ≡ 5 → Rose (K.meaning sink.old).faults (K.meaning sink.new).faults }
     ensures write_text { result ≡ 5 → OfCommand (map string_bytes words.now) (λ table. IsAccepted table × OfScript (S.meaning source.old) (λ script.
-        (n : ℕ) × (starved : ℕ → Bool) × (text : List ℕ) × IsCount script n × Shown table (C.meaning clock).window starved n script text × GainsFront (K.meaning sink.old) (K.meaning sink.new) text)) }
+        (n : ℕ) × (told : ℕ → Told) × (text : List ℕ) × IsCount script n × Shown table (C.meaning clock).window told n script text × GainsFront (K.meaning sink.old) (K.meaning sink.new) text)) }
 
     // 6: there was no memory, and the sink has taken nothing, or a front of what was to be written.
     ensures memory_usage { result ≡ 6 → ¬ IsCommand (map string_bytes words.now) → GainsFront (K.meaning sink.old) (K.meaning sink.new) USAGE.now }
@@ -121,9 +121,9 @@ pub fn run<R: Wait + Threads, S: Source, K: Sink, C: Clock>(
         (text : List ℕ) × IsText table (C.meaning clock).window script text × GainsFront (K.meaning sink.old) (K.meaning sink.new) text)) }
 
     // 0: the text shows as many requests of the script as may be served: all of them where none is for `/stop`. There is one such
-    // text for that number but for the starved, as a law of texts says.
+    // text for that number where none is cut short and none had no memory, as a law of texts says.
     ensures text { result ≡ 0 → OfCommand (map string_bytes words.now) (λ table. IsAccepted table × OfScript (S.meaning source.old) (λ script.
-        (n : ℕ) × (starved : ℕ → Bool) × (text : List ℕ) × IsCount script n × Shown table (C.meaning clock).window starved n script text × Gains (K.meaning sink.old) (K.meaning sink.new) text)) }
+        (n : ℕ) × (told : ℕ → Told) × (text : List ℕ) × IsCount script n × Shown table (C.meaning clock).window told n script text × Gains (K.meaning sink.old) (K.meaning sink.new) text)) }
 
     // Words and script of the grammar, settings that take their texts, and no fault of a stream: nothing but want of memory is
     // in the way. One command sets one table, as a law says.

@@ -1,5 +1,5 @@
 -- Reads of a body, one after another, are reads of it.
-use Rattle.std.proofs.Common.{◌+◌, ◌∙◌, inl, inr, List, ℕ, Option, arith, refl, ap, subst}
+use Rattle.std.proofs.Common.{◌+◌, ◌∙◌, inl, inr, List, ℕ, Option, IsSome, arith, refl, ap, subst}
 use Rattle.std.proofs.lemmas.List.{drop-drop}
 use Rattle.rkt_source.specs.Source.{Meaning, Keeps}
 use Rattle.rkt_message.specs.Reading.{ReadsOn}
@@ -29,6 +29,26 @@ keeps_more trip a b c first second = record {
   still_warned = λ is. second.still_warned (first.still_warned is);
   still_shut = λ is. second.still_shut (first.still_shut is);
 }
+
+keeps_wider : (trip other : Option ℕ) (a b : Meaning) → (IsSome trip → IsSome other) → Keeps trip a b → Keeps other a b
+keeps_wider trip other a b wider keeps = record {
+  whole = keeps.whole;
+  never_faults = keeps.never_faults;
+  pendings = keeps.pendings;
+  faults = keeps.faults;
+  pended = keeps.pended;
+  warned = λ is. elim (keeps.warned is) [ inl before ↦ inl before | inr some ↦ inr (wider some) ];
+  still_warned = keeps.still_warned;
+  still_shut = keeps.still_shut;
+}
+
+-- what was read under Gates of one kind was so under those of a wider one
+pub reads_wider : {S : Type 0} (stream : S → Meaning) (trip other : Option ℕ) (c d : Content S) → (IsSome trip → IsSome other) → ReadsOn stream trip c d → ReadsOn stream other c d
+reads_wider stream trip other content.None d wider on = on
+reads_wider stream trip other content.UnsizedNone d wider on = on
+reads_wider stream trip other (content.Sized rest size) d wider on = on
+reads_wider stream trip other (content.Phantom length size) d wider on = on
+reads_wider stream trip other (content.Streamed s) d wider on = (on.0, on.1, keeps_wider trip other (stream s) (stream on.0) wider on.2)
 
 module _ {S : Type 0} (stream : S → Meaning) (trip : Option ℕ) where
   pub reads_none : (c : Content S) → ReadsOn stream trip c c

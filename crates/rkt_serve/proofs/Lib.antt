@@ -1,4 +1,5 @@
 pub mod Boards
+pub mod Cutting
 pub mod Endings
 pub mod Pieces
 pub mod BodyReads
@@ -9,3 +10,4 @@ pub mod Lifting
 pub mod Lighting
 pub mod Meanwhile
 pub mod Handles
+pub mod Handings

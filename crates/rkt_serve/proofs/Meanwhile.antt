@@ -22,7 +22,7 @@ looks_again old mid new (inl none) load back = omega (arith, none.1, load none.0
 looks_again old mid new (inr looked) load back = omega (arith, looked, back.looked)
 
 module _ {C R L : Type 0} where
-  with_trip : (by word moment : ℕ) (old new : List (MarkOf C R L)) → new ≡ old ++ mark by (Trip word moment) ∷ [] → events new ≡ events old ++ Trip word moment ∷ []
+  pub with_trip : (by word moment : ℕ) (old new : List (MarkOf C R L)) → new ≡ old ++ mark by (Trip word moment) ∷ [] → events new ≡ events old ++ Trip word moment ∷ []
   with_trip by word moment old new is = ap (λ ms. events ms) is ∙ map_push (λ m. m.event) old (mark by (Trip word moment))
 
   -- a Trip closes nothing

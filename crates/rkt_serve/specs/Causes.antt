@@ -1,7 +1,8 @@
 -- What stands behind each event.
-use Rattle.std.specs.Prelude.{◌≡◌, ◌<◌, ℕ, false, List, [], Some, None}
+use Rattle.std.specs.Prelude.{◌≡◌, ◌<◌, ◌≤◌, ◌+◌, ℕ, false, List, [], IsSome, Option, Some, None}
 use Rattle.std.specs.List.{All}
 use Rattle.std.specs.Option.{ForSome}
+use Rattle.rkt_cancel.specs.Cancel.{cut_of, saw_of}
 use Rattle.rkt_lifecycle.specs.Tables.{SeenTables, table_of}
 use Rattle.rkt_lifecycle.specs.declared.ended.RunOf.{RunOf}
 use Rattle.rkt_message.specs.Reading.{ReadsOn}
@@ -11,50 +12,68 @@ use Rattle.rkt_message.specs.declared.piece.Piece.{Piece}
 use Rattle.rkt_routing.specs.Routed.{turns_of}
 use Rattle.rkt_routing.specs.declared.run.Call.{Call}
 use Rattle.rkt_board.specs.After.{AfterFrom}
+use Rattle.rkt_board.specs.Events.{trip_of}
 use Rattle.rkt_board.specs.Turns.{ShowsTrip}
 use Rattle.rkt_orbit.specs.Calls.{CallingAtShutdown}
 use Rattle.rkt_orbit.specs.ShutsDown.{ShutsDown}
+use Rattle.rkt_serve.specs.Gates.{word_in}
 use Rattle.rkt_serve.specs.Lifecycle.{Lifecycle}
 use Rattle.rkt_serve.specs.Lifted.{view_of}
 use Rattle.rkt_serve.specs.Sent.{IsSentAs, fault_count}
 use Rattle.rkt_serve.specs.Serving.{Serving, callbacks_of}
 use Rattle.rkt_board.specs.declared.history.End.{End as Ending}
-use Rattle.rkt_board.specs.declared.history.End.TheVariants.{Answered, Lost, Failed, Starved}
+use Rattle.rkt_board.specs.declared.history.End.TheVariants.{Answered, Lost, Cut, Failed, Starved}
 use Rattle.rkt_board.specs.declared.history.EntryOf.{EntryOf}
 use Rattle.rkt_board.specs.declared.history.EventOf.{EventOf}
 use Rattle.rkt_board.specs.declared.history.EventOf.TheVariants.{Lift, Trip, Admit, End, Down, Close}
 
 module _ {V S C R F FTask GTask H HTask K KTask L N : Type 0} (served : Serving V S C R F FTask GTask H HTask K KTask L) (tables : SeenTables F H K N V) where
-  -- a run and a response are kept, and the response was sent with this end
-  pub record Ran (entry : EntryOf C R L) (ended : Ending) : Type 0 where
+  -- a run and a response are kept, and the response was sent with this end, where the Trip before it, if there is one, has this word
+  pub record Ran (seen : Option ℕ) (entry : EntryOf C R L) (ended : Ending) : Type 0 where
     pub run : RunOf C
     pub run_kept : entry.run ≡ Some run
     -- the response that the run led to
     pub first : ResponseOf R
     -- the run is a lifecycle of what this very link asks
-    pub lifecycle : ForSome (served.links entry.link).asked (λ asked. Lifecycle (callbacks_of served tables) tables served.sources asked run first)
+    pub lifecycle : ForSome (served.links entry.link.io).asked (λ asked. Lifecycle (callbacks_of served tables) tables served.sources asked run first)
     -- the same, but that its body may have been read
     pub response : ResponseOf R
     pub response_kept : entry.response ≡ Some response
     pub read_on : ReadOn served.streams first response
-    -- no Gate with a trip was shown to the source of its body
-    pub untripped : ReadsOn served.streams None first.body.content response.body.content
+    -- a Gate with a trip was shown to the source of its body only where there is one
+    pub reads : ReadsOn served.streams seen first.body.content response.body.content
     -- the pieces that were sent, which the link holds
     pub pieces : List Piece
     pub sent : IsSentAs served.streams (turns_of (table_of tables)) first response ended pieces
-    pub held : ForSome (served.links entry.link).held (λ held. held ≡ pieces)
+    pub held : ForSome (served.links entry.link.io).held (λ held. held ≡ pieces)
     -- it has failed once where the response was lost, and else never
-    pub faults : (served.links entry.link).faults ≡ fault_count ended
+    pub faults : (served.links entry.link.io).faults ≡ fault_count ended
 
-  -- Answered, Lost and Failed: with a run and a response; Lost only on a link that does not say that it never fails. Starved: nothing is kept
-  abbrev pub CausedAs : EntryOf C R L → Ending → Type 0
-  CausedAs entry Answered = Ran entry Answered
-  CausedAs entry Lost = Ran entry Lost × ((served.links entry.link).never_faults ≡ false)
-  CausedAs entry (Failed failure) = Ran entry (Failed failure)
-  CausedAs entry Starved = (entry.run ≡ None) × (entry.response ≡ None)
+  -- the kept link saw the Trip at this moment, and was cut off at that one, when the grace was over
+  pub record WasCut (seen : Option ℕ) (entry : EntryOf C R L) (saw cut : ℕ) : Type 0 where
+    pub tripped : IsSome seen
+    pub saw_there : saw_of entry.link.stage ≡ Some saw
+    pub cut_there : cut_of entry.link.stage ≡ Some cut
+    pub grace : saw + tables.config.grace ≤ cut
 
-  abbrev pub Caused : EntryOf C R L → Type 0
-  Caused entry = CausedAs entry entry.end
+  -- Answered, Lost, Cut and Failed: with a run and a response; Lost only on a link that does not say that it never fails, Cut only behind a Trip and its grace. Starved: nothing is kept
+  abbrev pub CausedAs : Option ℕ → EntryOf C R L → Ending → Type 0
+  CausedAs seen entry Answered = Ran seen entry Answered
+  CausedAs seen entry Lost = Ran seen entry Lost × ((served.links entry.link.io).never_faults ≡ false)
+  CausedAs seen entry (Cut saw cut) = Ran seen entry (Cut saw cut) × WasCut seen entry saw cut
+  CausedAs seen entry (Failed failure) = Ran seen entry (Failed failure)
+  CausedAs seen entry Starved = (entry.run ≡ None) × (entry.response ≡ None)
+
+  abbrev pub Caused : Option ℕ → EntryOf C R L → Type 0
+  Caused seen entry = CausedAs seen entry entry.end
+
+-- a link was cut off that had seen the Trip, which stands before, and it was so by this moment
+abbrev pub IsCutBehind : {C R L : Type 0} → List (EventOf C R L) → ℕ → Ending → Type 0
+IsCutBehind before moment (Cut saw cut) = (trip : ℕ × ℕ) × (trip_of before ≡ Some trip) × (trip.1 ≤ saw) × (cut ≤ moment)
+IsCutBehind before moment Answered = Unit {0}
+IsCutBehind before moment Lost = Unit {0}
+IsCutBehind before moment (Failed failure) = Unit {0}
+IsCutBehind before moment Starved = Unit {0}
 
 -- a word that a call recorded is that of a Trip before
 abbrev pub SawTrip : {C R L : Type 0} → List (EventOf C R L) → Call → Type 0
@@ -66,7 +85,7 @@ module _ {V S C R F FTask GTask STask H HTask K KTask L N : Type 0} (allowed : �
   CauseAt before (Lift calls) = Unit {0}
   CauseAt before (Trip word moment) = allowed word
   CauseAt before (Admit number moment by) = Unit {0}
-  CauseAt before (End number entry moment by) = Caused served tables entry × ForSome entry.run (λ run. All (SawTrip before) run.calls)
+  CauseAt before (End number entry moment by) = Caused served tables (word_in (trip_of before)) entry × IsCutBehind before moment entry.end × ForSome entry.run (λ run. All (SawTrip before) run.calls)
   CauseAt before (Down calls) = ShutsDown shuts (view_of tables) tables.fairings calls
   CauseAt before (Close moment) = Unit {0}
 

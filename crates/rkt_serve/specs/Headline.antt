@@ -1,5 +1,5 @@
 -- What a launch promises of its history.
-use Rattle.std.specs.Prelude.{◌≡◌, ◌<◌, ◌⊎◌, ℕ, true, false, List, Option, Some, slice_get}
+use Rattle.std.specs.Prelude.{◌≡◌, ◌<◌, ◌⊎◌, ℕ, true, false, List, IsSome, Option, Some, slice_get}
 use Rattle.std.specs.List.{AllByRecursion, list_any}
 use Rattle.std.specs.Option.{ForSome}
 use Rattle.rkt_lifecycle.specs.Tables.{SeenTables}
@@ -42,8 +42,11 @@ module _ {V S C R F FTask GTask H HTask K KTask L N : Type 0} (served : Serving 
   pub record HasEntry (given : Option (List Asked)) (events : List (EventOf C R L)) (k : ℕ) : Type 0 where
     pub entry : EntryOf C R L
     pub found : end_of k events ≡ Some entry
-    pub caused : Caused served tables entry
-    pub asks : ForSome given (λ asks. (served.links entry.link).asked ≡ slice_get asks k)
+    -- the word of the Trip before its End, if there is one
+    pub seen : Option ℕ
+    pub tripped : IsSome seen → list_any is_trip events ≡ true
+    pub caused : Caused served tables seen entry
+    pub asks : ForSome given (λ asks. (served.links entry.link.io).asked ≡ slice_get asks k)
 
 module _ {V S C R F FTask GTask STask H HTask K KTask L N : Type 0} (allowed : ℕ → Type 0) (shuts : CallingAtShutdown H K N V F STask) (served : Serving V S C R F FTask GTask H HTask K KTask L) (tables : SeenTables F H K N V) where
   -- a history that is legal and closed, with what the listener has given

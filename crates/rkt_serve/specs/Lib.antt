@@ -1,11 +1,15 @@
 pub mod Begun
 pub mod Causes
+pub mod Gates
+pub mod Handing
 pub mod Headline
 pub mod Kept
 pub mod Left
 pub mod Lent
 pub mod Lifecycle
 pub mod Lifted
+pub mod Looking
+pub mod LookingLaws
 pub mod Progress
 pub mod Rest
 pub mod Said

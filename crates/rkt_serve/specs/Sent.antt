@@ -9,7 +9,7 @@ use Rattle.rkt_message.specs.Sending.{MayWait}
 use Rattle.rkt_message.specs.Sent.{Sent, has_head}
 use Rattle.rkt_message.specs.declared.piece.Piece.{Piece}
 use Rattle.rkt_board.specs.declared.history.End.{End as Ending}
-use Rattle.rkt_board.specs.declared.history.End.TheVariants.{Answered, Lost, Failed, Starved}
+use Rattle.rkt_board.specs.declared.history.End.TheVariants.{Answered, Lost, Cut, Failed, Starved}
 use Rattle.rkt_board.specs.declared.history.Failure.TheVariants.{BadHead, BodyFault}
 
 -- the pieces are such ones without the last or more of them
@@ -24,6 +24,7 @@ BodyFails stream turns first last = ((e : SourceError) × StreamErrs stream e fi
 abbrev pub IsSentAs : {S : Type 0} → (S → Meaning) → ℕ → ResponseOf S → ResponseOf S → Ending → List Piece → Type 0
 IsSentAs stream turns first last Answered pieces = Sent stream first pieces
 IsSentAs stream turns first last Lost pieces = IsProperFront (Sent stream first) pieces
+IsSentAs stream turns first last (Cut saw cut) pieces = IsProperFront (Sent stream first) pieces
 IsSentAs stream turns first last (Failed BadHead) pieces = (has_head first ≡ false) × (pieces ≡ [])
 IsSentAs stream turns first last (Failed BodyFault) pieces = BodyFails stream turns first last × IsProperFront (Sent stream first) pieces × (pieces ≢ [])
 IsSentAs stream turns first last Starved pieces = ⊥
@@ -32,6 +33,7 @@ IsSentAs stream turns first last Starved pieces = ⊥
 abbrev pub fault_count : Ending → ℕ
 fault_count Answered = 0
 fault_count Lost = 1
+fault_count (Cut saw cut) = 0
 fault_count (Failed failure) = 0
 fault_count Starved = 0
 
@@ -39,5 +41,6 @@ fault_count Starved = 0
 abbrev pub LeftBy : Ending → LinkMeaning → List Piece → LinkMeaning → Type 0
 LeftBy Answered old pieces new = new ≡ with_taken old pieces
 LeftBy Lost old pieces new = Faults (with_taken old pieces) new
+LeftBy (Cut saw cut) old pieces new = new ≡ with_taken old pieces
 LeftBy (Failed failure) old pieces new = new ≡ with_taken old pieces
 LeftBy Starved old pieces new = new ≡ with_taken old pieces

@@ -13,11 +13,11 @@ ghost use Rattle.rkt_board.specs.declared.history.EntryOf.{EntryOf};
 ghost use Rattle.rkt_board.specs.declared.history.EventOf.TheVariants.{End};
 ghost use Rattle.rkt_board.specs.declared.mark.MarkOf.{MarkOf};
 ghost use Rattle.rkt_serve.specs.Headline.{IsCallers, IsLegal};
-ghost use Rattle.rkt_serve.specs.Lent.{cause_of};
+ghost use Rattle.rkt_serve.specs.Lent.{IsLent, cause_of};
 ghost use Rattle.rkt_serve.specs.Rest.{IsAtRest};
 ghost use Rattle.rkt_serve.specs.Serving.{serving};
 
-use crate::causes::Lent;
+use crate::causes::{LentBy, lend};
 use crate::orbit::shut_tables;
 use crate::working::{CALLER, Worker};
 use crate::{Clock, Link, Listener};
@@ -32,8 +32,8 @@ use std::alloc::Global;
 use std::sync::Wait;
 
 // Gives a handle that has seen a word to the board, which then has its Trip, or hands it back.
-fn note_word<'b, A: App, L: Listener, C: Clock>(
-    board: &mut BoardOf<'b, A, Lent<'b, Tables<A>>, L, C>,
+fn note_word<A: App, L: Listener, C: Clock>(
+    board: &mut BoardOf<A, LentBy<A>, L, C>,
     handle: Shutdown<A::Reason>,
 ) -> Option<Shutdown<A::Reason>>
 where
@@ -52,16 +52,16 @@ where
     if handle.seen() == 0 {
         return Some(handle);
     }
-    rejoin::<A, Lent<'b, Tables<A>>, L, C>(board, CALLER, handle);
+    rejoin::<A, LentBy<A>, L, C>(board, CALLER, handle);
     None
 }
 
 impl<'a, A: App, R: Wait> Worker<'a, A, R> {
     // Serves a link that was admitted, to its End, and hands the handle back. The Trip of a word that was seen meanwhile
     // stands before the End; where the handle has seen it, the board has that from then on.
-    fn serve_given<'b, L: Listener, C: Clock>(
+    fn serve_given<L: Listener, C: Clock>(
         &self,
-        board: &mut BoardOf<'b, A, Lent<'b, Tables<A>>, L, C>,
+        board: &mut BoardOf<A, LentBy<A>, L, C>,
         number: u64,
         moment: u64,
         link: L::Link,
@@ -70,7 +70,7 @@ impl<'a, A: App, R: Wait> Worker<'a, A, R> {
     where
         L::Link: Link<Source = A::Source>,
         requires keeps { Keeps L.Link.meaning L.meaning C.meaning (cause_of A.Reason.allowed A.Fairing.Shuts.calling A.Fairing.Requests.calling A.Fairing.Responses.calling A.Handler.calling A.Catch.calling A.Source.meaning A.Stream.meaning L.Link.meaning) board.old }
-        requires tables { board.old.name.served.now.tables.now ≡ self.now.tables.now }
+        requires lent { IsLent board.old.name.served self.now.tables.now }
         requires wire { shutdown.wire ≡ board.old.name.handle.value.wire }
         requires unclosed { list_any is_close (events board.old.book.marks.items) ≡ false }
         requires given { IsGiven L.Link.meaning board.old.book.marks.items 0 number (C.meaning board.old.near.clock).last link }
@@ -83,20 +83,20 @@ impl<'a, A: App, R: Wait> Worker<'a, A, R> {
     {
         let (entry, back) = self.serve(link, shutdown, moment, board);
         let back = note_word::<A, L, C>(board, back);
-        end::<A, Lent<'b, Tables<A>>, L, C>(board, CALLER, number, entry);
+        end::<A, LentBy<A>, L, C>(board, CALLER, number, entry);
         back
     }
 
     // Takes turns of the caller, until nothing more is admitted, and hands the handle back that the board has not.
-    pub(crate) fn work<'b, L: Listener, C: Clock>(
+    pub(crate) fn work<L: Listener, C: Clock>(
         &self,
-        board: &mut BoardOf<'b, A, Lent<'b, Tables<A>>, L, C>,
+        board: &mut BoardOf<A, LentBy<A>, L, C>,
         mut shutdown: Shutdown<A::Reason>,
     ) -> Option<Shutdown<A::Reason>>
     where
         L::Link: Link<Source = A::Source>,
         requires keeps { Keeps L.Link.meaning L.meaning C.meaning (cause_of A.Reason.allowed A.Fairing.Shuts.calling A.Fairing.Requests.calling A.Fairing.Responses.calling A.Handler.calling A.Catch.calling A.Source.meaning A.Stream.meaning L.Link.meaning) board.old }
-        requires tables { board.old.name.served.now.tables.now ≡ self.now.tables.now }
+        requires lent { IsLent board.old.name.served self.now.tables.now }
         requires wire { shutdown.wire ≡ board.old.name.handle.value.wire }
         requires rest { IsAtRest board.old.book.marks.items }
         ensures name { board.new.name ≡ board.old.name }
@@ -106,7 +106,7 @@ impl<'a, A: App, R: Wait> Worker<'a, A, R> {
         ensures keeps { Keeps L.Link.meaning L.meaning C.meaning (cause_of A.Reason.allowed A.Fairing.Shuts.calling A.Fairing.Requests.calling A.Fairing.Responses.calling A.Handler.calling A.Catch.calling A.Source.meaning A.Stream.meaning L.Link.meaning) board.new }
     {
         for _ in self.rt.forever() {
-            match turn::<A, Lent<'b, Tables<A>>, L, C>(board, CALLER) {
+            match turn::<A, LentBy<A>, L, C>(board, CALLER) {
                 Turned::Again => {}
                 Turned::Given {
                     number,
@@ -125,17 +125,17 @@ impl<'a, A: App, R: Wait> Worker<'a, A, R> {
 }
 
 // Calls the fairings of a shutdown and enters the Down, where there is a Trip.
-fn bring_down<'b, A: App, L: Listener, C: Clock>(
+fn bring_down<A: App, L: Listener, C: Clock>(
     alloc: Global,
     tables: &Tables<A>,
-    board: &mut BoardOf<'b, A, Lent<'b, Tables<A>>, L, C>,
+    board: &mut BoardOf<A, LentBy<A>, L, C>,
     room: Vec<Called>,
 )
 where
     L::Link: Link<Source = A::Source>,
     requires keeps { Keeps L.Link.meaning L.meaning C.meaning (cause_of A.Reason.allowed A.Fairing.Shuts.calling A.Fairing.Requests.calling A.Fairing.Responses.calling A.Handler.calling A.Catch.calling A.Source.meaning A.Stream.meaning L.Link.meaning) board.old }
     requires rest { IsAtRest board.old.book.marks.items }
-    requires tables { board.old.name.served.now.tables.now ≡ tables.now }
+    requires lent { IsLent board.old.name.served tables.now }
     requires empty { room.items ≡ [] }
     requires room { length tables.now.fairings.places.shutdown ≤ vec_capacity room }
     ensures name { board.new.name ≡ board.old.name }
@@ -145,14 +145,12 @@ where
 {
     if board.book.tripped {
         let calls = shut_tables::<A>(alloc, tables, room);
-        down::<A, Lent<'b, Tables<A>>, L, C>(board, CALLER, calls);
+        down::<A, LentBy<A>, L, C>(board, CALLER, calls);
     }
 }
 
 // Enters the Close.
-fn bring_to_close<'b, A: App, L: Listener, C: Clock>(
-    board: &mut BoardOf<'b, A, Lent<'b, Tables<A>>, L, C>,
-)
+fn bring_to_close<A: App, L: Listener, C: Clock>(board: &mut BoardOf<A, LentBy<A>, L, C>)
 where
     L::Link: Link<Source = A::Source>,
     requires keeps { Keeps L.Link.meaning L.meaning C.meaning (cause_of A.Reason.allowed A.Fairing.Shuts.calling A.Fairing.Requests.calling A.Fairing.Responses.calling A.Handler.calling A.Catch.calling A.Source.meaning A.Stream.meaning L.Link.meaning) board.old }
@@ -163,15 +161,15 @@ where
     ensures callers { AllByRecursion IsCallers (events board.new.book.marks.items) }
     ensures keeps { Keeps L.Link.meaning L.meaning C.meaning (cause_of A.Reason.allowed A.Fairing.Shuts.calling A.Fairing.Requests.calling A.Fairing.Responses.calling A.Handler.calling A.Catch.calling A.Source.meaning A.Stream.meaning L.Link.meaning) board.new }
 {
-    close::<A, Lent<'b, Tables<A>>, L, C>(board, CALLER);
+    close::<A, LentBy<A>, L, C>(board, CALLER);
 }
 
 /// Serves on the caller alone, from the Lift of a board with these calls to its Close, and hands out what is left, and the handle
 /// that was lent to the exchanges where the board has not taken that. The calls at a shutdown stand in the room.
-pub(crate) fn serve_to_close<A: App, R: Wait, L: Listener, C: Clock>(
-    rt: &R,
+pub(crate) fn serve_to_close<'a, A: App, R: Wait, L: Listener, C: Clock>(
+    rt: &'a R,
     alloc: Global,
-    tables: &Tables<A>,
+    tables: &'a Tables<A>,
     book: Book<Mark<A, L::Link>, Event<A, L::Link>>,
     listener: L,
     clock: C,
@@ -202,14 +200,19 @@ where
     ensures goes_on { result.0.over ≡ false → (L.meaning result.0.listener).ended ≡ false }
     ensures offers { result.0.over ≡ true → ForSome (L.meaning listener).offers (λ all. (L.meaning result.0.listener).given ≡ Some all) }
 {
-    let lent = Lent { tables };
-    let mut board = lift::<A, Lent<'_, Tables<A>>, L, C>(
-        book, &lent, listener, clock, handle, CALLER, calls,
+    let mut board = lift::<A, LentBy<A>, L, C>(
+        book,
+        lend(tables),
+        listener,
+        clock,
+        handle,
+        CALLER,
+        calls,
     );
-    let worker: Worker<'_, A, R> = Worker { rt, alloc, tables };
+    let worker: Worker<'a, A, R> = Worker { rt, alloc, tables };
     let back = worker.work(&mut board, shutdown);
     bring_down::<A, L, C>(alloc, tables, &mut board, room);
     bring_to_close::<A, L, C>(&mut board);
-    let closed = finish::<A, Lent<'_, Tables<A>>, L, C>(board);
+    let closed = finish::<A, LentBy<A>, L, C>(board);
     (closed, back)
 }

@@ -20,7 +20,7 @@ ghost use Rattle.rkt_serve.specs.Lent.{cause_of};
 ghost use Rattle.rkt_serve.specs.Lifecycle.{Lifecycle};
 ghost use Rattle.rkt_serve.specs.Serving.{callbacks_with, gates_of};
 
-use crate::causes::Lent;
+use crate::causes::LentBy;
 use crate::working::CALLER;
 use crate::{Clock, Link, Listener};
 use rkt_base::Poll;
@@ -73,10 +73,10 @@ fn begin<'a, A: App>(
 }
 
 // Looks at the wire, and gives the Gate of that moment. Where it is the first to see a word, it enters the Trip.
-fn next_gate<'b, A: App, L: Listener, C: Clock>(
+fn next_gate<A: App, L: Listener, C: Clock>(
     grace: u32,
     mercy: u32,
-    board: &mut BoardOf<'b, A, Lent<'b, Tables<A>>, L, C>,
+    board: &mut BoardOf<A, LentBy<A>, L, C>,
 ) -> Gate
 where
     L::Link: Link<Source = A::Source>,
@@ -85,7 +85,6 @@ where
     ensures name { board.new.name ≡ board.old.name }
     ensures gate { result ≡ gate_with result.moment grace mercy }
     ensures moment { IsAmid (C.meaning board.old.near.clock) (C.meaning board.new.near.clock) result.moment }
-    ensures last { (C.meaning board.new.near.clock).last ≡ result.moment }
     ensures clock { TellsOn (C.meaning board.old.near.clock) (C.meaning board.new.near.clock) }
     // It looks with one load, unless a word was seen before.
     ensures looked { board.old.near.handle.seen ≡ 0 → board.new.near.handle.looked ≡ board.old.near.handle.looked + 1 }
@@ -93,19 +92,18 @@ where
     ensures adds { TripsAs 0 board.old.book.marks.items board.new.book.marks.items }
     ensures keeps { Keeps L.Link.meaning L.meaning C.meaning (cause_of A.Reason.allowed A.Fairing.Shuts.calling A.Fairing.Requests.calling A.Fairing.Responses.calling A.Handler.calling A.Catch.calling A.Source.meaning A.Stream.meaning L.Link.meaning) board.new }
 {
-    let (moment, _word) = look::<A, Lent<'b, Tables<A>>, L, C>(board, CALLER);
+    let (moment, _word) = look::<A, LentBy<A>, L, C>(board, CALLER);
     gate_with(moment, grace, mercy)
 }
 
-// Polls an exchange to its end, each time under the Gate of the next moment, and gives the last one beside it. Before each
-// poll it looks at the wire.
-fn to_end<'b, A: App, R: Wait, L: Listener, C: Clock>(
+// Polls an exchange to its end, each time under the Gate of the next moment. Before each poll it looks at the wire.
+fn to_end<A: App, R: Wait, L: Listener, C: Clock>(
     rt: &R,
     exchange: &mut Exchange<'_, A>,
     grace: u32,
     mercy: u32,
-    board: &mut BoardOf<'b, A, Lent<'b, Tables<A>>, L, C>,
-) -> (Ended<A>, u64)
+    board: &mut BoardOf<A, LentBy<A>, L, C>,
+) -> Ended<A>
 where
     L::Link: Link<Source = A::Source>,
     requires going { IsSome exchange.old.phase }
@@ -115,8 +113,7 @@ where
     // Whatever rule all Gates fit that it may be polled under.
     ensures ends { (rule : GateRule) (first : Beginning A.Value (Body (Cancellable A.Source)) A.Cached) → AllFit rule grace mercy (C.meaning board.old.near.clock) (C.meaning board.new.near.clock)
         → StandsFor (callbacks_with A.Source.meaning A.Fairing.Requests.calling A.Fairing.Responses.calling A.Handler.calling A.Catch.calling rule) first exchange.old.tables exchange.old.phase
-        → EndsSo (callbacks_with A.Source.meaning A.Fairing.Requests.calling A.Fairing.Responses.calling A.Handler.calling A.Catch.calling rule) first exchange.old.tables result.0 }
-    ensures last { result.1 ≡ (C.meaning board.new.near.clock).last }
+        → EndsSo (callbacks_with A.Source.meaning A.Fairing.Requests.calling A.Fairing.Responses.calling A.Handler.calling A.Catch.calling rule) first exchange.old.tables result }
     ensures clock { TellsOn (C.meaning board.old.near.clock) (C.meaning board.new.near.clock) }
     ensures looked { board.old.near.handle.seen ≡ 0 → board.old.near.handle.looked < board.new.near.handle.looked }
     ensures adds { TripsAs 0 board.old.book.marks.items board.new.book.marks.items }
@@ -125,16 +122,16 @@ where
     for _ in rt.forever() {
         let gate = next_gate::<A, L, C>(grace, mercy, board);
         match exchange.poll(gate) {
-            Poll::Ready(ended) => return (ended, gate.moment),
+            Poll::Ready(ended) => return ended,
             Poll::Pending => {}
         }
     }
     unreachable!()
 }
 
-/// The exchange of what a head asks, with the body that a source gives. It begins at this moment, and ends at the one that
-/// stands beside it. Before each poll of it the wire is looked at, which may enter a Trip.
-pub(crate) fn run_exchange<'b, A: App, R: Wait, L: Listener, C: Clock>(
+/// The exchange of what a head asks, with the body that a source gives. It begins at this moment. Before each poll of it the wire
+/// is looked at, which may enter a Trip.
+pub(crate) fn run_exchange<A: App, R: Wait, L: Listener, C: Clock>(
     rt: &R,
     alloc: Global,
     tables: &Tables<A>,
@@ -142,20 +139,19 @@ pub(crate) fn run_exchange<'b, A: App, R: Wait, L: Listener, C: Clock>(
     source: A::Source,
     shutdown: Shutdown<A::Reason>,
     moment: u64,
-    board: &mut BoardOf<'b, A, Lent<'b, Tables<A>>, L, C>,
-) -> (Ended<A>, u64)
+    board: &mut BoardOf<A, LentBy<A>, L, C>,
+) -> Ended<A>
 where
     L::Link: Link<Source = A::Source>,
     requires keeps { Keeps L.Link.meaning L.meaning C.meaning (cause_of A.Reason.allowed A.Fairing.Shuts.calling A.Fairing.Requests.calling A.Fairing.Responses.calling A.Handler.calling A.Catch.calling A.Source.meaning A.Stream.meaning L.Link.meaning) board.old }
     requires unclosed { list_any is_close (events board.old.book.marks.items) ≡ false }
     ensures name { board.new.name ≡ board.old.name }
     ensures lifecycle { (asked : Asked) → asked.head ≡ head.now → IsUntouched (A.Source.meaning source) → GivesBody asked (A.Source.meaning source)
-        → IfFinished result.0 (Lifecycle (callbacks_with A.Source.meaning A.Fairing.Requests.calling A.Fairing.Responses.calling A.Handler.calling A.Catch.calling (gates_of (C.meaning board.old.near.clock).window tables.now)) tables.now A.Source.meaning asked) }
-    ensures moment { IfFinished result.0 (λ run response. IsAmid (C.meaning board.old.near.clock) (C.meaning board.new.near.clock) run.moment) }
-    ensures last { IfFinished result.0 (λ run response. result.1 ≡ (C.meaning board.new.near.clock).last) }
-    ensures handle { HandsBack shutdown (handle_of result.0) }
+        → IfFinished result (Lifecycle (callbacks_with A.Source.meaning A.Fairing.Requests.calling A.Fairing.Responses.calling A.Handler.calling A.Catch.calling (gates_of (C.meaning board.old.near.clock).window tables.now)) tables.now A.Source.meaning asked) }
+    ensures moment { IfFinished result (λ run response. IsAmid (C.meaning board.old.near.clock) (C.meaning board.new.near.clock) run.moment) }
+    ensures handle { HandsBack shutdown (handle_of result) }
     // A word that a call of the run recorded is the one that the handle has seen which comes back.
-    ensures words { IfFinished result.0 (λ run response. All (Sees (handle_of result.0)) run.calls) }
+    ensures words { IfFinished result (λ run response. All (Sees (handle_of result)) run.calls) }
     ensures clock { TellsOn (C.meaning board.old.near.clock) (C.meaning board.new.near.clock) }
     ensures adds { TripsAs 0 board.old.book.marks.items board.new.book.marks.items }
     ensures keeps { Keeps L.Link.meaning L.meaning C.meaning (cause_of A.Reason.allowed A.Fairing.Shuts.calling A.Fairing.Requests.calling A.Fairing.Responses.calling A.Handler.calling A.Catch.calling A.Source.meaning A.Stream.meaning L.Link.meaning) board.new }
@@ -168,6 +164,6 @@ where
             drop(exchange);
             ended
         }
-        Err(shutdown) => (EndedOf::Starved { shutdown }, moment),
+        Err(shutdown) => EndedOf::Starved { shutdown },
     }
 }

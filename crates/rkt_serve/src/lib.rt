@@ -5,12 +5,15 @@ mod caller;
 mod causes;
 mod error;
 mod exchanging;
+mod gates;
 mod launch;
+mod looking;
 mod orbit;
 mod sending;
 mod working;
 
 pub use error::{Error, ErrorKind, ErrorKindOf, Launched, LaunchedOf};
+pub use gates::Gates;
 pub use launch::Launch;
 pub use rkt_board::{End, Entry, EntryOf, Event, EventOf, Failure, History, HistoryOf};
 pub use rkt_link::{

@@ -5,21 +5,25 @@ ghost use Rattle.std.specs.Option.{ForSome};
 ghost use Rattle.rkt_routing.specs.Backs.{Sees};
 ghost use Rattle.rkt_turn.specs.HandsBack.{HandsBack};
 ghost use Rattle.rkt_board.specs.Board.{Keeps};
-ghost use Rattle.rkt_board.specs.Events.{is_close};
+ghost use Rattle.rkt_board.specs.Events.{is_close, trip_of};
 ghost use Rattle.rkt_board.specs.Marks.{events};
 ghost use Rattle.rkt_board.specs.Turns.{TripsAs};
 ghost use Rattle.rkt_serve.specs.Causes.{Caused};
 ghost use Rattle.rkt_link.specs.Clock.{IsAmid, TellsOn};
-ghost use Rattle.rkt_serve.specs.Lent.{cause_of};
+ghost use Rattle.rkt_serve.specs.Gates.{IsCutBy, word_in};
+ghost use Rattle.rkt_serve.specs.Lent.{IsLent, cause_of};
+ghost use Rattle.rkt_lifecycle.specs.Tables.{SeenTables};
 ghost use Rattle.rkt_serve.specs.Lifecycle.{Lifecycle};
+ghost use Rattle.rkt_serve.specs.Looking.{watched_by};
 ghost use Rattle.rkt_link.specs.Link.{IsFreshLink};
 ghost use Rattle.rkt_serve.specs.Serving.{serving, callbacks_of};
 
-use crate::causes::Lent;
-use crate::exchanging::{gate_of, run_exchange};
+use crate::causes::LentBy;
+use crate::exchanging::run_exchange;
 use crate::sending::send;
-use crate::{Boxed, Clock, End, Entry, EntryOf, Link, Listener};
+use crate::{Boxed, Clock, End, Entry, EntryOf, Gates, Link, Listener};
 use rkt_board::BoardOf;
+use rkt_data::CancellableIo;
 use rkt_life::{App, EndedOf, Run, Tables};
 use rkt_message::Response;
 use rkt_turn::Shutdown;
@@ -38,7 +42,7 @@ pub(crate) struct Worker<'a, A: App, R> {
 }
 
 // What is kept of an exchange for which there was no memory.
-fn starved<C, S, K>(link: K) -> EntryOf<C, S, K>
+fn starved<C, S, K>(link: CancellableIo<K>) -> EntryOf<C, S, K>
     ensures { result ≡ record { link = link; run = None; response = None; end = End.Starved } }
 {
     EntryOf {
@@ -56,59 +60,75 @@ fn turns_of<A: App>(tables: &Tables<A>) -> u32
     tables.config.turns
 }
 
-impl<'a, A: App, R: Wait> Worker<'a, A, R> {
-    // Sends the response of a run, under a Gate of this moment, and keeps both with how that ended.
-    fn answer<K: Link>(
-        &self,
-        mut link: K,
-        run: Run<A>,
-        response: Response<A::Stream>,
-        moment: u64,
-    ) -> Entry<A, K>
-        ensures asked { (K.meaning result.link).asked ≡ (K.meaning link).asked }
-        ensures caused { (window : Option (ℕ × ℕ)) → ForSome (K.meaning link).held (λ held. held ≡ []) → (K.meaning link).faults ≡ 0
-            → ForSome (K.meaning link).asked (λ asked. Lifecycle (callbacks_of (serving A.Fairing.Requests.calling A.Fairing.Responses.calling A.Handler.calling A.Catch.calling A.Source.meaning A.Stream.meaning K.meaning window) self.now.tables.now) self.now.tables.now A.Source.meaning asked run response)
-            → Caused (serving A.Fairing.Requests.calling A.Fairing.Responses.calling A.Handler.calling A.Catch.calling A.Source.meaning A.Stream.meaning K.meaning window) self.now.tables.now result }
-        ensures moment { ForSome result.run (λ kept. kept.moment ≡ run.moment) }
-        ensures calls { ForSome result.run (λ kept. kept.calls ≡ run.calls) }
-    {
-        let gate = gate_of::<A>(self.tables, moment);
-        let turns = turns_of::<A>(self.tables);
-        let (response, sent) = send(self.rt, self.alloc, &mut link, response, turns, gate);
-        let Ok(ended) = sent else {
-            return starved(link);
-        };
-        let Ok(run) = Boxed::new(self.alloc, run) else {
-            return starved(link);
-        };
-        let Ok(response) = Boxed::new(self.alloc, response) else {
-            return starved(link);
-        };
-        EntryOf {
-            link,
-            run: Some(run),
-            response: Some(response),
-            end: ended,
-        }
+// Sends the response of a run, and keeps both with how that ended. The board is looked at meanwhile; the source of the body may be
+// Pending so often in a row.
+fn answer<A: App, R: Wait, L: Listener, C: Clock>(
+    rt: &R,
+    alloc: Global,
+    board: &mut BoardOf<A, LentBy<A>, L, C>,
+    link: L::Link,
+    run: Run<A>,
+    response: Response<A::Stream>,
+    turns: u32,
+) -> Entry<A, L::Link>
+where
+    L::Link: Link<Source = A::Source>,
+    requires keeps { Keeps L.Link.meaning L.meaning C.meaning (cause_of A.Reason.allowed A.Fairing.Shuts.calling A.Fairing.Requests.calling A.Fairing.Responses.calling A.Handler.calling A.Catch.calling A.Source.meaning A.Stream.meaning L.Link.meaning) board.old }
+    requires unclosed { list_any is_close (events board.old.book.marks.items) ≡ false }
+    ensures name { board.new.name ≡ board.old.name }
+    ensures asked { (L.Link.meaning result.link.io).asked ≡ (L.Link.meaning link).asked }
+    ensures caused { (window : Option (ℕ × ℕ)) (tables : SeenTables A.Fairing A.Handler A.Catch A.Sentinel A.Value) → tables.config.turns ≡ turns → board.old.name.served.grace ≡ tables.config.grace
+        → ForSome (L.Link.meaning link).held (λ held. held ≡ []) → (L.Link.meaning link).faults ≡ 0
+        → ForSome (L.Link.meaning link).asked (λ asked. Lifecycle (callbacks_of (serving A.Fairing.Requests.calling A.Fairing.Responses.calling A.Handler.calling A.Catch.calling A.Source.meaning A.Stream.meaning L.Link.meaning window) tables) tables A.Source.meaning asked run response)
+        → Caused (serving A.Fairing.Requests.calling A.Fairing.Responses.calling A.Handler.calling A.Catch.calling A.Source.meaning A.Stream.meaning L.Link.meaning window) tables (word_in (trip_of (events board.new.book.marks.items))) result }
+    ensures cut { IsCutBy (watched_by C.meaning board.new) result.end }
+    ensures moment { ForSome result.run (λ kept. kept.moment ≡ run.moment) }
+    ensures calls { ForSome result.run (λ kept. kept.calls ≡ run.calls) }
+    ensures clock { TellsOn (C.meaning board.old.near.clock) (C.meaning board.new.near.clock) }
+    ensures adds { TripsAs 0 board.old.book.marks.items board.new.book.marks.items }
+    ensures keeps { Keeps L.Link.meaning L.meaning C.meaning (cause_of A.Reason.allowed A.Fairing.Shuts.calling A.Fairing.Requests.calling A.Fairing.Responses.calling A.Handler.calling A.Catch.calling A.Source.meaning A.Stream.meaning L.Link.meaning) board.new }
+{
+    let mut io = CancellableIo::new(link);
+    let (response, sent) = send::<R, BoardOf<A, LentBy<A>, L, C>, L::Link, A::Stream>(
+        rt, alloc, board, &mut io, response, turns,
+    );
+    let Ok(ended) = sent else {
+        return starved(io);
+    };
+    let Ok(run) = Boxed::new(alloc, run) else {
+        return starved(io);
+    };
+    let Ok(response) = Boxed::new(alloc, response) else {
+        return starved(io);
+    };
+    EntryOf {
+        link: io,
+        run: Some(run),
+        response: Some(response),
+        end: ended,
     }
+}
 
+impl<'a, A: App, R: Wait> Worker<'a, A, R> {
     // One exchange from a moment on, kept with its end, and the handle that it was given. A link that is fresh has its
     // source.
-    pub(crate) fn serve<'b, L: Listener, C: Clock>(
+    pub(crate) fn serve<L: Listener, C: Clock>(
         &self,
         mut link: L::Link,
         shutdown: Shutdown<A::Reason>,
         moment: u64,
-        board: &mut BoardOf<'b, A, Lent<'b, Tables<A>>, L, C>,
+        board: &mut BoardOf<A, LentBy<A>, L, C>,
     ) -> (Entry<A, L::Link>, Shutdown<A::Reason>)
     where
         L::Link: Link<Source = A::Source>,
         requires keeps { Keeps L.Link.meaning L.meaning C.meaning (cause_of A.Reason.allowed A.Fairing.Shuts.calling A.Fairing.Requests.calling A.Fairing.Responses.calling A.Handler.calling A.Catch.calling A.Source.meaning A.Stream.meaning L.Link.meaning) board.old }
         requires unclosed { list_any is_close (events board.old.book.marks.items) ≡ false }
+        requires lent { IsLent board.old.name.served self.now.tables.now }
         ensures name { board.new.name ≡ board.old.name }
-        ensures asked { (L.Link.meaning result.0.link).asked ≡ (L.Link.meaning link).asked }
+        ensures asked { (L.Link.meaning result.0.link.io).asked ≡ (L.Link.meaning link).asked }
         ensures caused { IsFreshLink (L.Link.meaning link)
-            → Caused (serving A.Fairing.Requests.calling A.Fairing.Responses.calling A.Handler.calling A.Catch.calling A.Source.meaning A.Stream.meaning L.Link.meaning (C.meaning board.old.near.clock).window) self.now.tables.now result.0 }
+            → Caused (serving A.Fairing.Requests.calling A.Fairing.Responses.calling A.Handler.calling A.Catch.calling A.Source.meaning A.Stream.meaning L.Link.meaning (C.meaning board.old.near.clock).window) self.now.tables.now (word_in (trip_of (events board.new.book.marks.items))) result.0 }
+        ensures cut { IsCutBy (watched_by C.meaning board.new) result.0.end }
         ensures moment { ForSome result.0.run (λ run. IsAmid (C.meaning board.old.near.clock) (C.meaning board.new.near.clock) run.moment) }
         ensures words { ForSome result.0.run (λ run. All (Sees result.1) run.calls) }
         ensures handle { HandsBack shutdown result.1 }
@@ -117,9 +137,9 @@ impl<'a, A: App, R: Wait> Worker<'a, A, R> {
         ensures keeps { Keeps L.Link.meaning L.meaning C.meaning (cause_of A.Reason.allowed A.Fairing.Shuts.calling A.Fairing.Requests.calling A.Fairing.Responses.calling A.Handler.calling A.Catch.calling A.Source.meaning A.Stream.meaning L.Link.meaning) board.new }
     {
         let Some(source) = link.take_source() else {
-            return (starved(link), shutdown);
+            return (starved(CancellableIo::new(link)), shutdown);
         };
-        let (ended, last) = run_exchange::<A, R, L, C>(
+        let ended = run_exchange::<A, R, L, C>(
             self.rt,
             self.alloc,
             self.tables,
@@ -134,8 +154,14 @@ impl<'a, A: App, R: Wait> Worker<'a, A, R> {
                 run,
                 response,
                 shutdown,
-            } => (self.answer(link, run, response, last), shutdown),
-            EndedOf::Starved { shutdown } => (starved(link), shutdown),
+            } => {
+                let turns = turns_of::<A>(self.tables);
+                let entry = answer::<A, R, L, C>(
+                    self.rt, self.alloc, board, link, run, response, turns,
+                );
+                (entry, shutdown)
+            }
+            EndedOf::Starved { shutdown } => (starved(CancellableIo::new(link)), shutdown),
         }
     }
 }

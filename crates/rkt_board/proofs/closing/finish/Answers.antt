@@ -28,7 +28,7 @@ pub returns-clause-entries : goal.returns-clause-entries
 returns-clause-entries g c k less =
     let ms = c.args.board.book.marks.items in
     let same = c.from_vec.ensures ∙ (c.moved.ensures ∙ ap (λ h. h ++ events ms) c.requires.keeps.counted.unused) in
-    let cause = g.P.Served.cause c.args.board.name.served.now (g.C.Clock.meaning c.args.board.name.clock.value).window in
+    let cause = g.P.Served.cause c.args.board.name.served (g.C.Clock.meaning c.args.board.name.clock.value).window in
     subst (λ es. HasEntry g.L.Link.Link.meaning cause (g.L.Listener.meaning c.args.board.near.listener).given es k) (sym same)
     (has_entry g.L.Link.Link.meaning cause _ _ ms k c.requires.keeps.legal c.requires.closed c.requires.keeps.holds.told c.requires.fresh (subst (λ es. k < admitted es) same less))
 

@@ -18,4 +18,4 @@ returns-clause-keeps g c =
     keeps_end _ _ _ _ (with_clock c.args.board.now c.now-moment.new.self) c.push_reserved.new.self c.args.by c.args.number c.now-moment.result c.args.entry after
     (search rules) (search rules) c.requires.opened
     (λ run is. let r = c.requires.ran run is in (r.0, omega (arith, r.1, c.now-moment.ensures.rises), r.2))
-    (c.requires.caused c.now-moment.result c.now-moment.ensures.rises) (search rules) (search rules)
+    c.requires.cut (c.requires.caused c.now-moment.result c.now-moment.ensures.rises) (search rules) (search rules)

@@ -15,4 +15,4 @@ returns-then-board-clause-callers g c =
     callers_down _ _ _ c.shut_tables-calls.result c.requires.rest.callers (downed _ c.shut_tables-calls.result _ _ c.down.result due c.down.ensures.adds)
 
 pub down-requires-clause-caused : goal.down-requires-clause-caused
-down-requires-clause-caused g c = rw c.requires.tables c.shut_tables-calls.ensures
+down-requires-clause-caused g c = rw c.requires.lent.tables c.shut_tables-calls.ensures

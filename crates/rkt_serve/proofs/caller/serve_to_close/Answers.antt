@@ -19,13 +19,13 @@ pub returns-clause-legal : goal.returns-clause-legal
 returns-clause-legal g c =
     let name = c.bring_to_close.ensures.name ∙ (c.bring_down.ensures.name ∙ c.work-back.ensures.name) in
     let clock = ap (λ n. n.clock.value) name ∙ c.lift-board.ensures.name.2 in
-    let tables = ap (λ n. n.served.now.tables.now) name ∙ ap (λ b. b.now.tables.now) c.lift-board.ensures.name.0 in
+    let tables = ap (λ n. n.served.tables.value) name ∙ (ap (λ b. b.tables.value) c.lift-board.ensures.name.0 ∙ c.lend.ensures.tables) in
     let over = c.finish-closed.ensures in
     let given = (g.L.Listener.meaning c.finish-closed.result.listener).given in
     let events = c.finish-closed.result.history.events in
     subst (λ q. IsLegal g.A.Reason.Reason.allowed g.A.Fairing.Shuts.ShutdownCallback.calling (serving g.A-Fairing-Requests-RequestCallback.calling g.A.Fairing.Responses.ResponseCallback.calling g.A-Handler-Handler.calling g.A.Catch.CatchHandler.calling g.A.Source.Source.meaning g.A.Stream.Source.meaning g.L.Link.Link.meaning (g.C.Clock.meaning q).window) c.args.tables.now given events) clock
     (subst (λ ts. IsLegal g.A.Reason.Reason.allowed g.A.Fairing.Shuts.ShutdownCallback.calling (serving g.A-Fairing-Requests-RequestCallback.calling g.A.Fairing.Responses.ResponseCallback.calling g.A-Handler-Handler.calling g.A.Catch.CatchHandler.calling g.A.Source.Source.meaning g.A.Stream.Source.meaning g.L.Link.Link.meaning (g.C.Clock.meaning c.bring_to_close.new.board.name.clock.value).window) ts given events) tables
-    (legal_of g.A.Reason.Reason.allowed g.A.Fairing.Shuts.ShutdownCallback.calling (serving g.A-Fairing-Requests-RequestCallback.calling g.A.Fairing.Responses.ResponseCallback.calling g.A-Handler-Handler.calling g.A.Catch.CatchHandler.calling g.A.Source.Source.meaning g.A.Stream.Source.meaning g.L.Link.Link.meaning (g.C.Clock.meaning c.bring_to_close.new.board.name.clock.value).window) c.bring_to_close.new.board.name.served.now.tables.now given events _
+    (legal_of g.A.Reason.Reason.allowed g.A.Fairing.Shuts.ShutdownCallback.calling (serving g.A-Fairing-Requests-RequestCallback.calling g.A.Fairing.Responses.ResponseCallback.calling g.A-Handler-Handler.calling g.A.Catch.CatchHandler.calling g.A.Source.Source.meaning g.A.Stream.Source.meaning g.L.Link.Link.meaning (g.C.Clock.meaning c.bring_to_close.new.board.name.clock.value).window) c.bring_to_close.new.board.name.served.tables.value given events _
     over.ordered over.closed over.caused over.ends over.entries over.requests over.moments c.bring_to_close.ensures.callers over.history))
 
 pub returns-clause-still : goal.returns-clause-still

@@ -15,9 +15,9 @@ returns-in-Ok-clause-lifecycle g c asked same untouched gives =
     let begun = c.in-Ok.ensures.begun in
     let first = beginning begun.request begun.jar begun.faults (body_from c.args.source) c.args.shutdown in
     let ended = c.to_end-ended.ensures.ends rule first (fit_window gate.grace gate.mercy old (g.C.Clock.meaning c.to_end-ended.new.board.near.clock)) (begun.stands rule) in
-    ended_lifecycle g.A-Fairing-Requests-RequestCallback.calling g.A.Fairing.Responses.ResponseCallback.calling g.A-Handler-Handler.calling g.A.Catch.CatchHandler.calling (gates_of old.window c.args.tables.now) c.args.tables.now g.A.Source.Source.meaning asked c.args.head.now c.args.source c.args.shutdown c.in-Ok.exchange c.to_end-ended.result.0 same untouched gives begun
-    (subst (λ ts. EndsSo (callbacks_with g.A.Source.Source.meaning g.A-Fairing-Requests-RequestCallback.calling g.A.Fairing.Responses.ResponseCallback.calling g.A-Handler-Handler.calling g.A.Catch.CatchHandler.calling (gates_of old.window c.args.tables.now)) first ts c.to_end-ended.result.0) begun.same
-    (subst (λ (x : Gate). EndsSo (callbacks_with g.A.Source.Source.meaning g.A-Fairing-Requests-RequestCallback.calling g.A.Fairing.Responses.ResponseCallback.calling g.A-Handler-Handler.calling g.A.Catch.CatchHandler.calling (gates_with old.window x.grace x.mercy)) first c.in-Ok.exchange.tables c.to_end-ended.result.0) c.gate_of-gate.ensures ended))
+    ended_lifecycle g.A-Fairing-Requests-RequestCallback.calling g.A.Fairing.Responses.ResponseCallback.calling g.A-Handler-Handler.calling g.A.Catch.CatchHandler.calling (gates_of old.window c.args.tables.now) c.args.tables.now g.A.Source.Source.meaning asked c.args.head.now c.args.source c.args.shutdown c.in-Ok.exchange c.to_end-ended.result same untouched gives begun
+    (subst (λ ts. EndsSo (callbacks_with g.A.Source.Source.meaning g.A-Fairing-Requests-RequestCallback.calling g.A.Fairing.Responses.ResponseCallback.calling g.A-Handler-Handler.calling g.A.Catch.CatchHandler.calling (gates_of old.window c.args.tables.now)) first ts c.to_end-ended.result) begun.same
+    (subst (λ (x : Gate). EndsSo (callbacks_with g.A.Source.Source.meaning g.A-Fairing-Requests-RequestCallback.calling g.A.Fairing.Responses.ResponseCallback.calling g.A-Handler-Handler.calling g.A.Catch.CatchHandler.calling (gates_with old.window x.grace x.mercy)) first c.in-Ok.exchange.tables c.to_end-ended.result) c.gate_of-gate.ensures ended))
 
 pub returns-in-Ok-clause-moment : goal.returns-in-Ok-clause-moment
 returns-in-Ok-clause-moment g c =
@@ -28,9 +28,9 @@ returns-in-Ok-clause-moment g c =
     let narrow = gates_with (Some (old.last, new.last)) gate.grace gate.mercy in
     let begun = c.in-Ok.ensures.begun in
     let first = beginning begun.request begun.jar begun.faults (body_from c.args.source) c.args.shutdown in
-    run_amid old new c.to_end-ended.result.0
-    (ended_moment (callbacks_with g.A.Source.Source.meaning g.A-Fairing-Requests-RequestCallback.calling g.A.Fairing.Responses.ResponseCallback.calling g.A-Handler-Handler.calling g.A.Catch.CatchHandler.calling wide) first c.in-Ok.exchange.tables c.to_end-ended.result.0 (c.to_end-ended.ensures.ends wide first (fit_window gate.grace gate.mercy old new) (begun.stands wide)))
-    (ended_moment (callbacks_with g.A.Source.Source.meaning g.A-Fairing-Requests-RequestCallback.calling g.A.Fairing.Responses.ResponseCallback.calling g.A-Handler-Handler.calling g.A.Catch.CatchHandler.calling narrow) first c.in-Ok.exchange.tables c.to_end-ended.result.0 (c.to_end-ended.ensures.ends narrow first (fit_between gate.grace gate.mercy old new) (begun.stands narrow)))
+    run_amid old new c.to_end-ended.result
+    (ended_moment (callbacks_with g.A.Source.Source.meaning g.A-Fairing-Requests-RequestCallback.calling g.A.Fairing.Responses.ResponseCallback.calling g.A-Handler-Handler.calling g.A.Catch.CatchHandler.calling wide) first c.in-Ok.exchange.tables c.to_end-ended.result (c.to_end-ended.ensures.ends wide first (fit_window gate.grace gate.mercy old new) (begun.stands wide)))
+    (ended_moment (callbacks_with g.A.Source.Source.meaning g.A-Fairing-Requests-RequestCallback.calling g.A.Fairing.Responses.ResponseCallback.calling g.A-Handler-Handler.calling g.A.Catch.CatchHandler.calling narrow) first c.in-Ok.exchange.tables c.to_end-ended.result (c.to_end-ended.ensures.ends narrow first (fit_between gate.grace gate.mercy old new) (begun.stands narrow)))
 
 pub returns-in-Ok-clause-handle : goal.returns-in-Ok-clause-handle
 returns-in-Ok-clause-handle g c =
@@ -39,7 +39,7 @@ returns-in-Ok-clause-handle g c =
     let rule = gates_with old.window gate.grace gate.mercy in
     let begun = c.in-Ok.ensures.begun in
     let first = beginning begun.request begun.jar begun.faults (body_from c.args.source) c.args.shutdown in
-    ended_back (callbacks_with g.A.Source.Source.meaning g.A-Fairing-Requests-RequestCallback.calling g.A.Fairing.Responses.ResponseCallback.calling g.A-Handler-Handler.calling g.A.Catch.CatchHandler.calling rule) first c.in-Ok.exchange.tables c.to_end-ended.result.0
+    ended_back (callbacks_with g.A.Source.Source.meaning g.A-Fairing-Requests-RequestCallback.calling g.A.Fairing.Responses.ResponseCallback.calling g.A-Handler-Handler.calling g.A.Catch.CatchHandler.calling rule) first c.in-Ok.exchange.tables c.to_end-ended.result
     (c.to_end-ended.ensures.ends rule first (fit_window gate.grace gate.mercy old (g.C.Clock.meaning c.to_end-ended.new.board.near.clock)) (begun.stands rule))
 
 pub returns-in-Ok-clause-words : goal.returns-in-Ok-clause-words
@@ -49,5 +49,5 @@ returns-in-Ok-clause-words g c =
     let rule = gates_with old.window gate.grace gate.mercy in
     let begun = c.in-Ok.ensures.begun in
     let first = beginning begun.request begun.jar begun.faults (body_from c.args.source) c.args.shutdown in
-    ended_words (callbacks_with g.A.Source.Source.meaning g.A-Fairing-Requests-RequestCallback.calling g.A.Fairing.Responses.ResponseCallback.calling g.A-Handler-Handler.calling g.A.Catch.CatchHandler.calling rule) first c.in-Ok.exchange.tables c.to_end-ended.result.0
+    ended_words (callbacks_with g.A.Source.Source.meaning g.A-Fairing-Requests-RequestCallback.calling g.A.Fairing.Responses.ResponseCallback.calling g.A-Handler-Handler.calling g.A.Catch.CatchHandler.calling rule) first c.in-Ok.exchange.tables c.to_end-ended.result
     (c.to_end-ended.ensures.ends rule first (fit_window gate.grace gate.mercy old (g.C.Clock.meaning c.to_end-ended.new.board.near.clock)) (begun.stands rule))

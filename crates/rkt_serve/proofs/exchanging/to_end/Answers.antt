@@ -50,9 +50,6 @@ returns-in-Ready-clause-ends g c rule first fit stands =
     subst (λ ts. EndsSo (callbacks_with g.A.Source.Source.meaning g.A-Fairing-Requests-RequestCallback.calling g.A.Fairing.Responses.ResponseCallback.calling g.A-Handler-Handler.calling g.A.Catch.CatchHandler.calling rule) first ts c.in-Ready.ended) (polled.tables ∙ inv.3)
     (polled.gives rule first fits (inv.5 rule first (fit_before rule c.args.grace c.args.mercy told before now next.clock.rises fit) stands))
 
-pub returns-in-Ready-clause-last : goal.returns-in-Ready-clause-last
-returns-in-Ready-clause-last g c = sym c.next_gate-gate.ensures.last
-
 pub returns-in-Ready-clause-clock : goal.returns-in-Ready-clause-clock
 returns-in-Ready-clause-clock g c =
     tells_then (g.C.Clock.meaning c.args.board.now.near.clock) (g.C.Clock.meaning c.loop.board.near.clock) (g.C.Clock.meaning c.next_gate-gate.new.board.near.clock) c.loop.invariant.4 c.next_gate-gate.ensures.clock

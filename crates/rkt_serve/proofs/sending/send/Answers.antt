@@ -3,7 +3,11 @@ use Rattle.rkt_message.specs.Reading.{ReadsOn}
 use Rattle.rkt_message.specs.Response.{ResponseOf}
 use Rattle.rkt_message.specs.Sending.{ReadOn, Sending}
 use Rattle.rkt_serve.proofs.Pieces.{ended_as}
+use Rattle.rkt_serve.specs.Gates.{MayStand, word_in}
 use Rattle.rkt_serve.proofs.sending.send.Goals as goal
+
+pub put_all-ended-requires-clause-stands : goal.put_all-ended-requires-clause-stands
+put_all-ended-requires-clause-stands g c = subst (MayStand (g.G.Gates.watched c.args.gates.now)) (sym c.requires.active) tt
 
 pub returns-clause-read_on : goal.returns-clause-read_on
 returns-clause-read_on g c =
@@ -19,5 +23,6 @@ pub returns-clause-reads : goal.returns-clause-reads
 returns-clause-reads g c =
     let stream = g.S.Source.meaning in
     let begins = ap (λ (s : Sending _). s.response) c.new-pieces.ensures.value in
-    subst (λ (p : ResponseOf _). ReadsOn stream c.args.gate.tripped c.args.response.body.content p.body.content) (sym c.into_response.ensures.value)
-    (subst (λ (p : ResponseOf _). ReadsOn stream c.args.gate.tripped p.body.content c.put_all-ended.new.pieces.response.body.content) begins c.put_all-ended.ensures.reads)
+    let seen = word_in (g.G.Gates.watched c.put_all-ended.new.gates).trip in
+    subst (λ (p : ResponseOf _). ReadsOn stream seen c.args.response.body.content p.body.content) (sym c.into_response.ensures.value)
+    (subst (λ (p : ResponseOf _). ReadsOn stream seen p.body.content c.put_all-ended.new.pieces.response.body.content) begins c.put_all-ended.ensures.reads)

@@ -1,11 +1,16 @@
 use Rattle.std.proofs.Common.{ℕ, Option, subst, sym, ap, ◌∙◌, arith}
 use Rattle.rkt_link.specs.Clock.{IsWithin}
 use Rattle.rkt_board.proofs.Tripping.{stays_open}
+use Rattle.rkt_board.specs.Board.{IsCutWithin}
+use Rattle.rkt_board.specs.Events.{trip_of}
 use Rattle.rkt_board.specs.Marks.{events}
 use Rattle.rkt_board.specs.Turns.{IsOpen}
 use Rattle.rkt_serve.proofs.Boards.{saw_trip, until_later}
+use Rattle.rkt_serve.proofs.Cutting.{caused_wider, cut_behind, cut_within, trips_stay, word_still}
 use Rattle.rkt_serve.proofs.Meanwhile.{still_unclosed, trips_then}
 use Rattle.rkt_serve.specs.Causes.{Caused}
+use Rattle.rkt_serve.specs.Gates.{word_in}
+use Rattle.rkt_serve.specs.Looking.{watched_by}
 use Rattle.rkt_serve.specs.Serving.{serving}
 use Rattle.rkt_serve.proofs.working.Worker.serve_given.Goals as goal
 
@@ -32,14 +37,27 @@ end-requires-clause-ran g c run is =
           (subst (λ (w : Option (ℕ × ℕ)). IsWithin w run.moment) c.requires.keeps.holds.clock.window timed.within),
     )
 
+pub end-requires-clause-cut : goal.end-requires-clause-cut
+end-requires-clause-cut g c =
+    let served = c.serve-entry.ensures in
+    subst (λ n. IsCutWithin (g.C.Clock.meaning n.clock.value).window c.serve-entry.result.0.end) (sym c.note_word-back.ensures.name)
+    (subst (λ (w : Option (ℕ × ℕ)). IsCutWithin w c.serve-entry.result.0.end) served.keeps.holds.clock.window (cut_within (watched_by g.C.Clock.meaning c.serve-entry.new.board) c.serve-entry.result.0.end served.cut))
+
 pub end-requires-clause-caused : goal.end-requires-clause-caused
-end-requires-clause-caused g c moment late = (
-  subst (λ n. Caused (serving g.A-Fairing-Requests-RequestCallback.calling g.A.Fairing.Responses.ResponseCallback.calling g.A-Handler-Handler.calling g.A.Catch.CatchHandler.calling g.A.Source.Source.meaning g.A.Stream.Source.meaning g.L.Link.Link.meaning (g.C.Clock.meaning n.clock.value).window) n.served.now.tables.now c.serve-entry.result.0) (sym (c.note_word-back.ensures.name ∙ c.serve-entry.ensures.name))
-      (subst (λ tables. Caused (serving g.A-Fairing-Requests-RequestCallback.calling g.A.Fairing.Responses.ResponseCallback.calling g.A-Handler-Handler.calling g.A.Catch.CatchHandler.calling g.A.Source.Source.meaning g.A.Stream.Source.meaning g.L.Link.Link.meaning (g.C.Clock.meaning c.args.board.now.name.clock.value).window) tables c.serve-entry.result.0) (sym c.requires.tables)
-      (subst (λ (w : Option (ℕ × ℕ)). Caused (serving g.A-Fairing-Requests-RequestCallback.calling g.A.Fairing.Responses.ResponseCallback.calling g.A-Handler-Handler.calling g.A.Catch.CatchHandler.calling g.A.Source.Source.meaning g.A.Stream.Source.meaning g.L.Link.Link.meaning w) c.args.self.now.tables.now c.serve-entry.result.0) c.requires.keeps.holds.clock.window
-      (c.serve-entry.ensures.caused c.requires.given.fresh))),
-  λ run is. saw_trip c.note_word-back.result c.serve-entry.result.1 (events c.note_word-back.new.board.book.marks.items) run.calls c.note_word-back.ensures.unseen c.note_word-back.ensures.trip (c.serve-entry.ensures.words run is),
-)
+end-requires-clause-caused g c moment late =
+    let served = c.serve-entry.ensures in
+    let mid = c.serve-entry.new.board.book.marks.items in
+    let last = c.note_word-back.new.board.book.marks.items in
+    let serves = λ (w : Option (ℕ × ℕ)). serving g.A-Fairing-Requests-RequestCallback.calling g.A.Fairing.Responses.ResponseCallback.calling g.A-Handler-Handler.calling g.A.Catch.CatchHandler.calling g.A.Source.Source.meaning g.A.Stream.Source.meaning g.L.Link.Link.meaning w in
+    let seen : Option ℕ = word_in (trip_of (events last)) in (
+      subst (λ n. Caused (serves (g.C.Clock.meaning n.clock.value).window) n.served.tables.value seen c.serve-entry.result.0) (sym (c.note_word-back.ensures.name ∙ served.name))
+          (subst (λ tables. Caused (serves (g.C.Clock.meaning c.args.board.now.name.clock.value).window) tables seen c.serve-entry.result.0) (sym c.requires.lent.tables)
+          (subst (λ (w : Option (ℕ × ℕ)). Caused (serves w) c.args.self.now.tables.now seen c.serve-entry.result.0) c.requires.keeps.holds.clock.window
+          (caused_wider (serves (g.C.Clock.meaning c.args.board.now.near.clock).window) c.args.self.now.tables.now (word_in (trip_of (events mid))) seen (word_still 0 mid last c.note_word-back.ensures.adds) c.serve-entry.result.0 c.serve-entry.result.0.end
+          (served.caused c.requires.given.fresh)))),
+      cut_behind (watched_by g.C.Clock.meaning c.serve-entry.new.board) (events last) moment c.serve-entry.result.0.end (trips_stay 0 mid last c.note_word-back.ensures.adds) (omega (arith, late, c.note_word-back.ensures.clock.rises)) served.cut,
+      λ run is. saw_trip c.note_word-back.result c.serve-entry.result.1 (events last) run.calls c.note_word-back.ensures.unseen c.note_word-back.ensures.trip (served.words run is),
+    )
 
 pub returns-clause-adds : goal.returns-clause-adds
 returns-clause-adds g c =

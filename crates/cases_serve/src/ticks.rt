@@ -1,0 +1,50 @@
+//! Gates of one moment after another.
+use rkt_data::Gate;
+use rkt_serve::Gates;
+
+const GRACE: u32 = 2;
+
+const MERCY: u32 = 3;
+
+const WORD: u64 = 1;
+
+/// Each Gate is a second later, and shows a trip from its moment on, if there is one.
+#[derive(Drop)]
+pub struct Ticks {
+    pub now: u64,
+    pub trip: Option<u64>,
+}
+
+// The word of a trip, from its moment on.
+fn word_by(trip: Option<u64>, moment: u64) -> Option<u64> {
+    match trip {
+        Some(at) if at <= moment => Some(WORD),
+        _ => None,
+    }
+}
+
+impl Gates for Ticks {
+    ghost use Rattle.cases_serve.specs.Ticking.{TicksOn, ticking, ticks_on, ticks_same, ticks_then};
+
+    ghost keeps = { λ ticks. ⊤ };
+
+    ghost watched = { ticking };
+
+    ghost leads = { TicksOn };
+
+    fn next_gate(&mut self) -> Gate {
+        self.now = self.now.saturating_add(1);
+        Gate {
+            moment: self.now,
+            tripped: word_by(self.trip, self.now),
+            grace: GRACE,
+            mercy: MERCY,
+        }
+    }
+
+    ghost stays = { ticks_same };
+
+    ghost goes_on = { λ f g h keeps. ticks_then f g h };
+
+    ghost tells = { ticks_on };
+}
