@@ -1,4 +1,6 @@
 //! Gates of one moment after another.
+ghost use Rattle.std.specs.Prelude.{◌≡◌, ◌≤◌, ℕ, Some};
+
 use rkt_data::Gate;
 use rkt_serve::Gates;
 
@@ -16,7 +18,9 @@ pub struct Ticks {
 }
 
 // The word of a trip, from its moment on.
-fn word_by(trip: Option<u64>, moment: u64) -> Option<u64> {
+fn word_by(trip: Option<u64>, moment: u64) -> Option<u64>
+    ensures { (word : ℕ) → result ≡ Some word → (at : ℕ) × (trip ≡ Some at) × (at ≤ moment) × (word ≡ 1) }
+{
     match trip {
         Some(at) if at <= moment => Some(WORD),
         _ => None,
@@ -26,7 +30,7 @@ fn word_by(trip: Option<u64>, moment: u64) -> Option<u64> {
 impl Gates for Ticks {
     ghost use Rattle.cases_serve.specs.Ticking.{TicksOn, ticking, ticks_on, ticks_same, ticks_then};
 
-    ghost keeps = { λ ticks. ⊤ };
+    ghost keeps = { λ ticks. Unit {0} };
 
     ghost watched = { ticking };
 
