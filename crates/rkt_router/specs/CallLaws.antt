@@ -1,12 +1,13 @@
 -- How a call begins, goes on and ends.
-use Rattle.std.specs.Prelude.{◌≤◌, ◌<◌, ◌+◌, ◌++◌, ◌∷◌, ◌↔◌, ℕ, List, Bool, true, false, IsTrue, []}
+use Rattle.std.specs.Prelude.{◌≡◌, ◌≢◌, ◌≤◌, ◌<◌, ◌+◌, ◌++◌, ◌∷◌, ◌↔◌, ℕ, List, Bool, true, false, IsTrue, [], length}
 use Rattle.std.specs.List.{All}
-use Rattle.std.proofs.Common.{arith, inl, inr, refl, sym}
+use Rattle.std.proofs.Common.{arith, inl, inr, refl, subst, sym}
 use Rattle.std.proofs.lemmas.Bool.{true≢false}
+use Rattle.std.proofs.lemmas.List.{length_push}
 use Rattle.std.proofs.lemmas.List.Elements.{All-nil, All-push}
 use Rattle.rkt_source.specs.declared.source.Gate.{Gate}
 use Rattle.rkt_router.specs.Calling.{Calling, Starts, Polls, AnswersPoll}
-use Rattle.rkt_router.specs.Calls.{GateRule, GateFits, any_gate, Making, OnceOver, Turned, turn_of}
+use Rattle.rkt_router.specs.Calls.{GateRule, GateFits, any_gate, Gives, GoesOn, Made, Making, OnceOver, Turned, turn_of}
 use Rattle.rkt_router.specs.declared.step.Step.{Step}
 use Rattle.rkt_router.specs.declared.step.Step.TheVariants as step
 use Rattle.rkt_router.specs.declared.turn.Final.{Final}
@@ -28,23 +29,43 @@ module _ {Self Handed Held Answer Task : Type 0} (C : Calling Self Handed Held A
   making_begins {before} some starts = record {
     gates = [];
     within = All-nil (GateFits rule);
+    polls = refl;
     goes = record { begun = starts before; more = some; bounded = omega arith };
   }
 
-  -- what a poll answers of a task that was begun so is a turn
-  made : (before now : Held) (gates : List Gate) (task : Task) (turn : ℕ) (left : Bool) → (IsTrue left ↔ (turn + 1 < turns)) → All (GateFits rule) gates → turn < turns
-      → (answer : Step Answer) → AnswersPoll C callback handed before gates turn answer task now → Turned C rule turns callback handed before (turn_of left answer) task now (turn + 1)
-  made before now gates task turn true is_left fits more step.Pending is = record { gates = gates; within = fits; goes = record { begun = is.1; more = is_left.0 refl; bounded = omega (arith, is.0) } }
-  made before now gates task turn false is_left fits more step.Pending is =
-      let last : ¬ (turn + 1 < turns) = λ more. true≢false (sym (is_left.1 more)) in
-      record { gates = gates; within = fits; ended = grind arith; gives = record { task = task; pended = turn + 1; begun = is.1; cause = inr (omega (arith, is.0, last)) } }
-  made before now gates task turn left is_left fits more (step.Done answer) is = record { gates = gates; within = fits; ended = grind arith; gives = is }
-  made before now gates task turn left is_left fits more step.Fault is = record { gates = gates; within = fits; ended = grind arith; gives = record { task = task; pended = turn; begun = is.1; cause = inl is.0 } }
-  made before now gates task turn left is_left fits more step.Starved is = tt
+  -- what a poll answers of a call that is under way is a turn
+  module _ (before was : Held) (old : Task) (turn : ℕ) (making : Making C rule turns callback handed before old was turn) (gate : Gate) (fits : GateFits rule gate) where
+    within : All (GateFits rule) (making.gates ++ gate ∷ [])
+    within = All-push (GateFits rule) making.gates gate making.within fits
+
+    one_more : length (making.gates ++ gate ∷ []) ≡ turn + 1
+    one_more = let pushed = length_push making.gates gate in let polled = making.polls in omega (arith, pushed, polled)
+
+    over : (reply : Final Answer) (now : Held) → reply ≢ final.Starved → Gives C callback handed turns before (making.gates ++ gate ∷ []) reply now → Made C rule turns callback handed before reply now
+    over reply now ended gives = record {
+      gates = making.gates ++ gate ∷ [];
+      within = within;
+      earlier = making.gates;
+      last = gate;
+      polls = refl;
+      task = old;
+      now = was;
+      goes = subst (λ n. GoesOn C callback handed turns before making.gates old was n) (sym making.polls) making.goes;
+      ended = ended;
+      gives = gives;
+    }
+
+    made : (now : Held) (task : Task) (left : Bool) → (IsTrue left ↔ (turn + 1 < turns)) → (answer : Step Answer)
+        → AnswersPoll C callback handed before (making.gates ++ gate ∷ []) turn answer task now → Turned C rule turns callback handed before (turn_of left answer) task now (turn + 1)
+    made now task true is_left step.Pending is = record { gates = making.gates ++ gate ∷ []; within = within; polls = one_more; goes = record { begun = is.1; more = is_left.0 refl; bounded = omega (arith, is.0) } }
+    made now task false is_left step.Pending is =
+        let last : ¬ (turn + 1 < turns) = λ more. true≢false (sym (is_left.1 more)) in
+        over final.FailedTurn now (grind arith) (record { task = task; pended = turn + 1; begun = is.1; cause = inr (omega (arith, is.0, last)) })
+    made now task left is_left (step.Done answer) is = over (final.Done answer) now (grind arith) is
+    made now task left is_left step.Fault is = over final.FailedTurn now (grind arith) (record { task = task; pended = turn; begun = is.1; cause = inl is.0 })
+    made now task left is_left step.Starved is = tt
 
   -- what a poll gives of a call that is under way is a turn
   pub turn_made : (before was now : Held) (gate : Gate) (old new : Task) (turn : ℕ) (left : Bool) (answer : Step Answer) → (IsTrue left ↔ (turn + 1 < turns)) → GateFits rule gate
       → Making C rule turns callback handed before old was turn → Polls C callback handed old was gate answer new now → Turned C rule turns callback handed before (turn_of left answer) new now (turn + 1)
-  turn_made before was now gate old new turn left answer is_left fits making polls =
-      made before now (making.gates ++ gate ∷ []) new turn left is_left (All-push (GateFits rule) making.gates gate making.within fits) making.goes.more answer
-      (polls before making.gates turn making.goes.begun)
+  turn_made before was now gate old new turn left answer is_left fits making polls = made before was old turn making gate fits now new left is_left answer (polls before making.gates turn making.goes.begun)

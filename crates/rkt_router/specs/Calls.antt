@@ -1,6 +1,6 @@
 -- One call of a callback, from its start to its end: the Gates that it is polled under, what it gives, and what each of its
 -- turns makes of it.
-use Rattle.std.specs.Prelude.{◌≡◌, ◌≢◌, ◌≤◌, ◌<◌, ◌⊎◌, ℕ, List, Bool, true, false, Option, None, IfSome, IsNone, ⊤}
+use Rattle.std.specs.Prelude.{◌≡◌, ◌≢◌, ◌≤◌, ◌<◌, ◌++◌, ◌∷◌, ◌⊎◌, [], ℕ, List, Bool, true, false, Option, None, IfSome, IsNone, length, ⊤}
 use Rattle.std.specs.List.{All}
 use Rattle.rkt_source.specs.declared.source.Gate.{Gate}
 use Rattle.rkt_router.specs.Calling.{Calling}
@@ -74,6 +74,13 @@ module _ {Self Handed Held Answer Task : Type 0} (C : Calling Self Handed Held A
   pub record Made (before : Held) (reply : Final Answer) (after : Held) : Type 0 where
     pub gates : List Gate
     pub within : All (GateFits rule) gates
+    -- its last poll was made with a turn left, behind those before it, each of them Pending
+    pub earlier : List Gate
+    pub last : Gate
+    pub polls : gates ≡ earlier ++ last ∷ []
+    pub task : Task
+    pub now : Held
+    pub goes : GoesOn C callback handed turns before earlier task now (length earlier)
     pub ended : reply ≢ Starved
     pub gives : Gives C callback handed turns before gates reply after
 
@@ -81,6 +88,8 @@ module _ {Self Handed Held Answer Task : Type 0} (C : Calling Self Handed Held A
   pub record Making (before : Held) (task : Task) (now : Held) (n : ℕ) : Type 0 where
     pub gates : List Gate
     pub within : All (GateFits rule) gates
+    -- each turn is one poll
+    pub polls : length gates ≡ n
     pub goes : GoesOn C callback handed turns before gates task now n
 
   -- what a call is after its n-th turn: under way, or whole, or it had no memory

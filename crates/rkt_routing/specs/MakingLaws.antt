@@ -1,6 +1,7 @@
 -- A call that was Pending is under way, and the last of its Gates is the one of that poll.
 use Rattle.std.specs.Prelude.{◌≡◌, ◌+◌, ◌<◌, ◌≤◌, ◌++◌, ◌∷◌, [], ℕ, max}
 use Rattle.std.proofs.Common.{arith, refl}
+use Rattle.std.proofs.lemmas.List.{length_push}
 use Rattle.std.proofs.lemmas.List.Elements.{All-push}
 use Rattle.rkt_source.specs.declared.source.Gate.{Gate}
 use Rattle.rkt_router.specs.Calling.{Calling, Polls}
@@ -22,6 +23,7 @@ module _ {Self Handed Held Answer Task : Type 0} (C : Calling Self Handed Held A
         record {
           gates = making.gates ++ gate ∷ [];
           within = All-push (GateFits rule) making.gates gate making.within fits;
+          polls = let pushed = length_push making.gates gate in let polled = making.polls in omega (arith, pushed, polled);
           goes = record { begun = polled.1; more = more; bounded = omega (arith, polled.0) };
         },
         refl,
