@@ -2,7 +2,7 @@
 ghost use Rattle.rkt_request.specs.Lent.{MayGrow};
 
 use crate::error::CaseError;
-use crate::setting::Pair;
+use crate::setting::Place;
 use rkt_base::{NoMemory, Want};
 use rkt_data::{MemorySource, Source};
 use rkt_http::{InvalidUri, Method, Outcome, Status};
@@ -13,10 +13,11 @@ use rkt_router::{Handler, Route, RouteOutcome, Router, Step};
 use rkt_turn::Reason;
 use std::alloc::Global;
 
-/// Answers with its own text. One that says `stop` notifies the wire, and one that says `wait` is Pending once.
+/// Answers with its own text, once it was Pending so often. One that says `stop` notifies the wire in its first poll.
 #[derive(Drop)]
 pub struct Saying {
     text: String,
+    waits: u32,
 }
 
 /// A plain text.
@@ -58,15 +59,15 @@ impl Handler<Site> for Saying {
         _request: &Request<'_, Site>,
         ctx: &mut Ctx<Site>,
     ) -> Step<RouteOutcome<Site>> {
-        if self.text.as_str() == "wait" && *task == 0 {
-            *task = 1;
+        if *task == 0 {
+            notify(self.text.as_str(), ctx);
+        }
+        if *task < self.waits {
+            *task += 1;
             return Step::Pending;
         }
         match page(alloc, self.text.as_str()) {
-            Ok(response) => {
-                notify(self.text.as_str(), ctx);
-                Step::Done(Outcome::Success(response))
-            }
+            Ok(response) => Step::Done(Outcome::Success(response)),
             Err(_) => Step::Starved,
         }
     }
@@ -119,28 +120,29 @@ type SiteRouter = Router<Saying, DefaultCatcher, ()>;
 /// A route of GET that says its text.
 pub type SiteRoute = Route<Saying, ()>;
 
-fn route_of(alloc: Global, path: &str, text: String) -> Result<SiteRoute, Want<InvalidUri>> {
-    SiteRoute::new(alloc, Method::Get, path, Saying { text })
+fn route_of(alloc: Global, path: &str, saying: Saying) -> Result<SiteRoute, Want<InvalidUri>> {
+    SiteRoute::new(alloc, Method::Get, path, saying)
 }
 
-fn push_route(alloc: Global, routes: &mut Vec<SiteRoute>, pair: &Pair) -> Result<(), CaseError> {
-    let text = pair.right.clone()?;
-    let route = route_of(alloc, pair.left.as_str(), text)?;
+fn push_route(alloc: Global, routes: &mut Vec<SiteRoute>, place: &Place) -> Result<(), CaseError> {
+    let text = place.text.clone()?;
+    let waits = place.waits;
+    let route = route_of(alloc, place.path.as_str(), Saying { text, waits })?;
     Ok(routes.push(route)?)
 }
 
-/// The routes of these pairs.
-pub fn routes_of(alloc: Global, pairs: &[Pair]) -> Result<Vec<SiteRoute>, CaseError> {
+/// The routes of these places.
+pub fn routes_of(alloc: Global, places: &[Place]) -> Result<Vec<SiteRoute>, CaseError> {
     let mut routes = Vec::new(alloc);
-    for pair in pairs {
-        push_route(alloc, &mut routes, pair)?;
+    for place in places {
+        push_route(alloc, &mut routes, place)?;
     }
     Ok(routes)
 }
 
-fn router_of(alloc: Global, pairs: &[Pair]) -> Result<SiteRouter, CaseError> {
+fn router_of(alloc: Global, places: &[Place]) -> Result<SiteRouter, CaseError> {
     let mut router = SiteRouter::new(alloc);
-    for route in routes_of(alloc, pairs)? {
+    for route in routes_of(alloc, places)? {
         router.add_route(route)?;
     }
     Ok(router)
@@ -158,7 +160,7 @@ fn assembled(alloc: Global, router: SiteRouter) -> Result<Rocket<Ignite, Site>, 
 }
 
 /// A rocket with these routes.
-pub fn rocket(alloc: Global, pairs: &[Pair]) -> Result<Rocket<Ignite, Site>, CaseError> {
-    let router = router_of(alloc, pairs)?;
+pub fn rocket(alloc: Global, places: &[Place]) -> Result<Rocket<Ignite, Site>, CaseError> {
+    let router = router_of(alloc, places)?;
     Ok(assembled(alloc, router)?)
 }

@@ -82,7 +82,7 @@ pub fn refused<L: Listener, C: Clock>(error: Error<Site, L, C>) -> CaseError {
     CaseError::NoMemory
 }
 
-/// A launch whose listener failed.
+/// A launch whose listener failed, or which abandoned an exchange.
 fn failed(error: Error<Site, ListListener, ListClock>) -> Result<(Over, bool), CaseError> {
     match error.kind() {
         ErrorKindOf::Shutdown(over) => Ok((over, true)),
@@ -90,7 +90,7 @@ fn failed(error: Error<Site, ListListener, ListClock>) -> Result<(Over, bool), C
     }
 }
 
-/// What a launch leaves, and whether its listener failed.
+/// What a launch leaves, and whether its shutdown failed.
 fn launched<R: Wait + Threads>(
     rt: &R,
     alloc: Global,

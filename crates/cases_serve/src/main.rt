@@ -2,9 +2,9 @@
 //! its answer. `stdout` is the table of cases with the answers that are wanted; `stdin` has its lines up to the arrow.
 //! An empty line and one that begins with `#` are headings. What is no line of these is answered with `? line`.
 //!
-//!     routes PATH=TEXT ..                  from here on the application has these routes of GET, each of which says its
-//!                                          text; one that says `stop` notifies the wire, and one that says `wait` is
-//!                                          Pending once
+//!     routes PATH=TEXT PATH=TEXT*WAITS ..  from here on the application has these routes of GET, each of which says its
+//!                                          text, once it was Pending so often; one that says `stop` notifies the wire in
+//!                                          its first poll
 //!     header NAME: VALUE                   from here on every request has this header; without one, it has none
 //!     faults SENDS POLLS                   from here on these sends of each link fail, and these polls of a listener (from 0)
 //!     exchange MOMENT METHOD TARGET        one exchange at this moment: the status, the content type, the size of the
@@ -15,7 +15,7 @@
 //!                                          a launch: the clock tells these moments, these polls of the listener (from
 //!                                          0) are Pending, and each link asks METHOD TARGET. How many events there
 //!                                          are, each entry, and the moment of the close; in front, what is said of
-//!                                          it where the listener failed
+//!                                          it where the listener failed or an exchange was abandoned
 //!     order POLLS LINK | LINK ..           the events of such a launch, in order, and those of a second launch of the rocket that
 //!                                          comes back, over the same links
 //!     alarm MOMENT MOMENTS POLLS LINK | LINK ..

@@ -6,7 +6,7 @@ use crate::error::CaseError;
 use crate::heads::link_with;
 use crate::setting::Setting;
 use crate::ticks::Ticks;
-use crate::words::{first_word, number, numbers, push_item};
+use crate::words::{count, first_word, number, numbers, push_item};
 use rkt_base::NoMemory;
 use rkt_data::{CancellableIo, MemorySource};
 use rkt_message::{Piece, Response};
@@ -93,13 +93,6 @@ fn send_body<R: Wait>(
     Ok(ended(alloc, end, link.kept())?)
 }
 
-fn turns_of(text: &str) -> Result<u32, CaseError> {
-    match text.parse::<u32>() {
-        Ok(turns) => Ok(turns),
-        Err(_) => Err(CaseError::Line),
-    }
-}
-
 /// The body of `CHUNK READS TEXT`.
 fn source_of(alloc: Global, text: &str) -> Result<MemorySource, CaseError> {
     let (chunk, rest) = first_word(text);
@@ -117,7 +110,7 @@ pub fn send_case<R: Wait>(
     text: &str,
 ) -> Result<String, CaseError> {
     let (turns, rest) = first_word(text);
-    let turns = turns_of(turns)?;
+    let turns = count(turns)?;
     let source = source_of(alloc, rest)?;
     let ticks = Ticks { now: 7, trip: None };
     send_body(rt, alloc, setting, ticks, turns, source)

@@ -1,19 +1,27 @@
 //! What earlier lines have said.
 use crate::error::CaseError;
-use crate::words::{first_word, numbers, unescaped};
+use crate::words::{count, first_word, numbers, unescaped};
 use std::alloc::{AllocError, Global};
 
-/// A route's path and what it says, or a header's name and value.
+/// Two texts, such as a header's name and value.
 #[derive(Drop)]
 pub struct Pair {
     pub left: String,
     pub right: String,
 }
 
+/// A route's path, what it says, and how often it is Pending before.
+#[derive(Drop)]
+pub struct Place {
+    pub path: String,
+    pub text: String,
+    pub waits: u32,
+}
+
 /// The routes of the application, the header of every request, and which sends of a link and which polls of a listener fail.
 #[derive(Drop)]
 pub struct Setting {
-    pub routes: Vec<Pair>,
+    pub routes: Vec<Place>,
     pub header: Option<Pair>,
     pub sends: Vec<u64>,
     pub polls: Vec<u64>,
@@ -44,12 +52,30 @@ fn split_pair(alloc: Global, text: &str, separator: &str) -> Result<Pair, CaseEr
     }
 }
 
-fn push_route(alloc: Global, routes: &mut Vec<Pair>, word: &str) -> Result<(), CaseError> {
-    let route = split_pair(alloc, word, "=")?;
-    Ok(routes.push(route)?)
+/// What stands before the first `*` of a word, and the number behind it, or 0 where there is none.
+fn split_waits(word: &str) -> Result<(&str, u32), CaseError> {
+    match word.split_once('*') {
+        Some((word, waits)) => Ok((word, count(waits)?)),
+        None => Ok((word, 0)),
+    }
 }
 
-fn routes_of(alloc: Global, text: &str) -> Result<Vec<Pair>, CaseError> {
+/// The place of `PATH=TEXT` or `PATH=TEXT*WAITS`.
+fn place_of(alloc: Global, word: &str) -> Result<Place, CaseError> {
+    let (word, waits) = split_waits(word)?;
+    let Pair {
+        left: path,
+        right: text,
+    } = split_pair(alloc, word, "=")?;
+    Ok(Place { path, text, waits })
+}
+
+fn push_route(alloc: Global, routes: &mut Vec<Place>, word: &str) -> Result<(), CaseError> {
+    let place = place_of(alloc, word)?;
+    Ok(routes.push(place)?)
+}
+
+fn routes_of(alloc: Global, text: &str) -> Result<Vec<Place>, CaseError> {
     let mut routes = Vec::new(alloc);
     for word in text.split_ascii_whitespace() {
         push_route(alloc, &mut routes, word)?;
@@ -57,7 +83,7 @@ fn routes_of(alloc: Global, text: &str) -> Result<Vec<Pair>, CaseError> {
     Ok(routes)
 }
 
-/// Sets the routes of `PATH=TEXT ..`.
+/// Sets the routes of `PATH=TEXT PATH=TEXT*WAITS ..`.
 pub fn set_routes(alloc: Global, setting: &mut Setting, text: &str) -> Result<(), CaseError> {
     setting.routes = routes_of(alloc, text)?;
     Ok(())

@@ -17,6 +17,14 @@ pub fn number(text: &str) -> Result<u64, CaseError> {
     }
 }
 
+/// A number that is small.
+pub fn count(text: &str) -> Result<u32, CaseError> {
+    match text.parse::<u32>() {
+        Ok(count) => Ok(count),
+        Err(_) => Err(CaseError::Line),
+    }
+}
+
 fn push_number(numbers: &mut Vec<u64>, text: &str) -> Result<(), CaseError> {
     let number = number(text)?;
     Ok(numbers.push(number)?)

@@ -14,7 +14,7 @@ use Rattle.rkt_board.specs.declared.board.Book.{Book}
 use Rattle.rkt_board.specs.declared.board.Name.{Name}
 use Rattle.rkt_board.specs.declared.board.Near.{Near}
 use Rattle.rkt_board.specs.declared.history.End.{End as Ending}
-use Rattle.rkt_board.specs.declared.history.End.TheVariants.{Answered, Lost, Cut, Failed, Starved}
+use Rattle.rkt_board.specs.declared.history.End.TheVariants.{Answered, Lost, Cut, Failed, Abandoned, Starved}
 use Rattle.rkt_board.specs.declared.history.EventOf.{EventOf}
 use Rattle.rkt_board.specs.declared.history.EventOf.TheVariants.{Lift, Trip, Admit, End, Down, Close}
 use Rattle.rkt_board.specs.declared.mark.MarkOf.{MarkOf}
@@ -39,6 +39,7 @@ IsCutWithin window (Cut saw cut) = IsWithin window saw × IsWithin window cut
 IsCutWithin window Answered = Unit {0}
 IsCutWithin window Lost = Unit {0}
 IsCutWithin window (Failed failure) = Unit {0}
+IsCutWithin window Abandoned = Unit {0}
 IsCutWithin window Starved = Unit {0}
 
 -- the moments of an event, of its run and of how that ended lie in the window

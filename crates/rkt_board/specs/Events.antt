@@ -4,6 +4,8 @@ use Rattle.std.specs.List.{list_any, count_by}
 use Rattle.std.specs.Option.{ForSome}
 use Rattle.rkt_board.specs.After.{AfterFrom}
 use Rattle.rkt_orbit.specs.declared.called.Called.{Called}
+use Rattle.rkt_board.specs.declared.history.End.{End as Ending}
+use Rattle.rkt_board.specs.declared.history.End.TheVariants.{Answered, Lost, Cut, Failed, Abandoned, Starved}
 use Rattle.rkt_board.specs.declared.history.EntryOf.{EntryOf}
 use Rattle.rkt_board.specs.declared.history.EventOf.{EventOf}
 use Rattle.rkt_board.specs.declared.history.EventOf.TheVariants.{Lift, Trip, Admit, End, Down, Close}
@@ -19,6 +21,14 @@ with_first (suc at) entry (place ∷ places) = place ∷ with_first at entry pla
 abbrev pub word_of : Option (ℕ × ℕ) → ℕ
 word_of None = 0
 word_of (Some trip) = trip.0
+
+abbrev pub was_abandoned : Ending → Bool
+was_abandoned Abandoned = true
+was_abandoned Answered = false
+was_abandoned Lost = false
+was_abandoned (Cut saw cut) = false
+was_abandoned (Failed failure) = false
+was_abandoned Starved = false
 
 module _ {C S K : Type 0} where
   abbrev pub is_trip : EventOf C S K → Bool
@@ -36,6 +46,15 @@ module _ {C S K : Type 0} where
   is_admit (End n e m b) = false
   is_admit (Down calls) = false
   is_admit (Close m) = false
+
+  -- it ends an exchange that was abandoned
+  abbrev pub is_abandoned : EventOf C S K → Bool
+  is_abandoned (End n e m b) = was_abandoned e.end
+  is_abandoned (Lift calls) = false
+  is_abandoned (Trip w m) = false
+  is_abandoned (Admit n m b) = false
+  is_abandoned (Down calls) = false
+  is_abandoned (Close m) = false
 
   abbrev pub is_down : EventOf C S K → Bool
   is_down (Down calls) = true

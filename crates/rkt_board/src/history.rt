@@ -3,7 +3,7 @@ ghost use Rattle.std.specs.Prelude.{Some, None, replicate, ◌≡◌, ◌≤◌,
 ghost use Rattle.std.specs.List.{count_by, list_any};
 ghost use Rattle.std.specs.Option.{option_copied};
 ghost use Rattle.rkt_board.specs.declared.history.EventOf.{EventOf};
-ghost use Rattle.rkt_board.specs.Events.{noted, with_first, is_admit, is_trip, admitted, admits, ends, end_of, trip_of, Ordered, IsClosed};
+ghost use Rattle.rkt_board.specs.Events.{noted, with_first, is_admit, is_abandoned, is_trip, admitted, admits, ends, end_of, trip_of, Ordered, IsClosed};
 
 use rkt_base::{NoMemory, Seq};
 use rkt_cancel::CancellableIo;
@@ -35,6 +35,8 @@ pub enum End {
     Cut { saw: u64, cut: u64 },
     /// The response could not be sent, or not to its end.
     Failed(Failure),
+    /// It still waited when the grace and the mercy of a Trip were over, and was left alone.
+    Abandoned,
     /// There was no memory for it.
     Starved,
 }
@@ -128,6 +130,15 @@ fn find_entry<C, S, K>(events: &Seq<EventOf<C, S, K>>, number: u64) -> Option<&E
     None
 }
 
+fn is_abandoned<C, S, K>(event: &EventOf<C, S, K>) -> bool
+    ensures { result ≡ is_abandoned event.now }
+{
+    match event {
+        EventOf::End { entry, .. } => matches!(entry.end, End::Abandoned),
+        _ => false,
+    }
+}
+
 // The word and the moment of the first Trip.
 fn find_trip<C, S, K>(events: &Seq<EventOf<C, S, K>>) -> Option<(u64, u64)>
     ensures { result ≡ trip_of events.now }
@@ -167,6 +178,16 @@ impl<C, S, K> HistoryOf<C, S, K> {
         ensures last { Ordered self.now.events → (front rest : List (EventOf C S K)) → self.now.events ≡ front ++ rest → list_any is_trip front ≡ true → admitted rest ≡ 0 }
     {
         find_trip(&self.events)
+    }
+
+    /// Whether an exchange was abandoned.
+    pub fn abandoned(&self) -> bool
+        ensures { result ≡ list_any is_abandoned self.now.events }
+    {
+        self.events
+            .as_slice()
+            .iter()
+            .any(|event| is_abandoned(event))
     }
 
     /// The entries of the numbers that were admitted, by number, in one walk over the events.

@@ -1,4 +1,8 @@
 //! What a board keeps of an event.
+ghost use Rattle.std.specs.Prelude.{◌≡◌};
+ghost use Rattle.rkt_board.specs.Events.{trip_of};
+ghost use Rattle.rkt_board.specs.Marks.{events};
+
 use crate::EventOf;
 use rkt_request::Types;
 use std::snapshot::Snapshot;
@@ -13,3 +17,15 @@ pub struct MarkOf<C, S, K> {
 
 /// What a board keeps of an event of an application's launch.
 pub type Mark<A, K> = MarkOf<<A as Types>::Cached, <A as Types>::Stream, K>;
+
+/// The word and the moment of the first Trip among these marks, if there is one.
+pub fn marked_trip<C, S, K>(marks: &[MarkOf<C, S, K>]) -> Option<(u64, u64)>
+    ensures { result ≡ trip_of (events marks.now) }
+{
+    for mark in marks {
+        if let EventOf::Trip { word, moment } = &mark.event {
+            return Some((*word, *moment));
+        }
+    }
+    None
+}

@@ -1,6 +1,7 @@
 -- The entries of a launch over the sample tell of the requests that its links ask.
-use Rattle.std.proofs.Common.{◌≡◌, ◌<◌, ◌≤◌, ◌+◌, ◌++◌, ◌⊎◌, inl, inr, ℕ, List, [], ◌∷◌, Bool, true, false, ◌==◌, IsSome, Option, Some, if◌then◌else◌, length, map, min, slice_get, take, refl, ap, ◌∙◌, sym, subst, arith}
+use Rattle.std.proofs.Common.{◌≡◌, ◌<◌, ◌++◌, ◌⊎◌, inl, inr, ℕ, List, [], ◌∷◌, Bool, true, false, ◌==◌, IsSome, Option, Some, if◌then◌else◌, length, map, min, slice_get, take, refl, ap, ◌∙◌, sym, subst, arith}
 use Rattle.std.specs.Option.{ForSome, option_map}
+use Rattle.std.proofs.lemmas.Grind.{common_steps}
 use Rattle.std.proofs.lemmas.List.{length-map, length-take}
 use Rattle.std.proofs.lemmas.Option.{none-some, same_Some, slice_get-map}
 use Rattle.rkt_source.specs.Memory.{SourceInMemory, source_meaning}
@@ -11,12 +12,12 @@ use Rattle.std.specs.List.{list_any}
 use Rattle.rkt_board.specs.After.{AfterFrom}
 use Rattle.rkt_board.specs.Closed.{AllAdmitted}
 use Rattle.rkt_board.specs.Board.{IsCutWithin}
-use Rattle.rkt_board.specs.Events.{is_trip, admitted, end_of, InOrder}
+use Rattle.rkt_board.specs.Events.{is_abandoned, is_trip, was_abandoned, admitted, end_of, InOrder}
 use Rattle.rkt_serve.specs.Headline.{AllTimed, HasEntry}
 use Rattle.rkt_link.specs.Listener.{Settled}
 use Rattle.rkt_link.specs.Memory.{LinkInMemory, ListenerInMemory, asked_of, listener_meaning}
 use Rattle.rkt_board.specs.declared.history.End.{End as Ending}
-use Rattle.rkt_board.specs.declared.history.End.TheVariants.{Answered, Lost, Cut, Failed, Starved}
+use Rattle.rkt_board.specs.declared.history.End.TheVariants.{Answered, Lost, Cut, Failed, Abandoned, Starved}
 use Rattle.rkt_board.specs.declared.history.Failure.TheVariants.{BadHead, BodyFault}
 use Rattle.rkt_board.specs.declared.history.EntryOf.{EntryOf}
 use Rattle.rkt_board.specs.declared.history.EventOf.{EventOf}
@@ -102,6 +103,23 @@ never_fails turns (content.Sized rest size) d at_hand (inr may) = may
 never_fails turns (content.Phantom length size) d at_hand (inl errs) = errs.1
 never_fails turns (content.Phantom length size) d at_hand (inr may) = may
 
+-- where no exchange was abandoned, that of this entry was not
+none_left : (k : ℕ) (es : List (EventOf ℕ SourceInMemory LinkInMemory)) (entry : Kept) → list_any is_abandoned es ≡ false → end_of k es ≡ Some entry → was_abandoned entry.end ≡ false
+none_left k [] entry none found = absurd (cc found)
+none_left k (End n x m b ∷ es) entry none found = by_number (n == k) found (none_left k es entry (grind (arith, common_steps, none)))
+  where
+    first : was_abandoned x.end ≡ false
+    first = grind (arith, common_steps, none)
+
+    by_number : (t : Bool) → (if t then Some x else end_of k es) ≡ Some entry → (end_of k es ≡ Some entry → was_abandoned entry.end ≡ false) → was_abandoned entry.end ≡ false
+    by_number true here later = subst (λ (e : Kept). was_abandoned e.end ≡ false) (same_Some x entry here) first
+    by_number false there later = later there
+none_left k (Lift calls ∷ es) entry none found = none_left k es entry none found
+none_left k (Trip w m ∷ es) entry none found = none_left k es entry none found
+none_left k (Admit n m b ∷ es) entry none found = none_left k es entry none found
+none_left k (Down calls ∷ es) entry none found = none_left k es entry none found
+none_left k (Close m ∷ es) entry none found = none_left k es entry none found
+
 module _ (laws : Spelling) (word : ℕ) (window : Option (ℕ × ℕ)) (table : Table) (tables : SampleTables) (sample : IsSample table tables) where
   -- the response of an entry was made of its request
   made_of : (request : ScriptRequest) (seen : Option ℕ) (entry : Kept) (ended : Ending) (ran : Ran (served_in word window) tables seen entry ended) → ServedFor word window request seen entry → IsMade table word window request ran.first
@@ -113,36 +131,38 @@ module _ (laws : Spelling) (word : ℕ) (window : Option (ℕ × ℕ)) (table : 
     lifecycle = subst (λ (a : Asked). LeadsTo word window tables a ran.run ran.first) served.asks (ran.lifecycle (asked_of entry.link.io) refl);
   }
 
-  section_of_cause : (k : ℕ) (request : ScriptRequest) (seen : Option ℕ) (entry : Kept) (ended : Ending) → CausedAs (served_in word window) tables seen entry ended → IsCutWithin window ended → ServedFor word window request seen entry
+  section_of_cause : (k : ℕ) (request : ScriptRequest) (seen : Option ℕ) (entry : Kept) (ended : Ending) → was_abandoned ended ≡ false → CausedAs (served_in word window) tables seen entry ended → IsCutWithin window ended → ServedFor word window request seen entry
       → IsSection (told_of ended) table word window k request (ended_section k ended entry.link.io.held)
-  section_of_cause k request seen entry Starved caused cut served = refl
-  section_of_cause k request seen entry Answered caused cut served = record {
+  section_of_cause k request seen entry Starved not caused cut served = refl
+  section_of_cause k request seen entry Abandoned not caused cut served = absurd (cc not)
+  section_of_cause k request seen entry Answered not caused cut served = record {
     response = caused.first;
     made = made_of request seen entry Answered caused served;
     told = rw caused.sent.1 (record { pieces = entry.link.io.held; sent = subst (Sent source_meaning caused.first) (sym (caused.held entry.link.io.held refl)) caused.sent; text = refl });
   }
-  section_of_cause k request seen entry (Cut saw at) caused cut served = record {
+  section_of_cause k request seen entry (Cut saw at) not caused cut served = record {
     told = served.told caused.1.tripped;
     tables = tables;
     sample = sample;
     long = λ w is. omega (arith, (cut.0 w is).0, caused.1.grace, (cut.1 w is).1);
     text = refl;
   }
-  section_of_cause k request seen entry Lost caused cut served = absurd (cc (ap (λ (a : Asked). a.never_faults) served.asks, caused.1))
-  section_of_cause k request seen entry (Failed BadHead) caused cut served = record {
+  section_of_cause k request seen entry Lost not caused cut served = absurd (cc (ap (λ (a : Asked). a.never_faults) served.asks, caused.1))
+  section_of_cause k request seen entry (Failed BadHead) not caused cut served = record {
     response = caused.first;
     made = made_of request seen entry (Failed BadHead) caused served;
     told = rw caused.sent.0 refl;
   }
-  section_of_cause k request seen entry (Failed BodyFault) caused cut served =
+  section_of_cause k request seen entry (Failed BodyFault) not caused cut served =
       let made = made_of request seen entry (Failed BodyFault) caused served in
       let one = made_once laws table word word window window request caused.first caused.first made made in
       absurd (never_fails _ caused.first.body.content caused.response.body.content one.1 caused.sent.0)
 
   -- a launch serves a front of what its listener offers
   pub launched_serves : (given : Option (List Asked)) (count : ℕ) (events : List (EventOf ℕ SourceInMemory LinkInMemory)) (requests : List ScriptRequest) → given ≡ Some (take count (map asked_for requests)) → AllAdmitted given events
-      → AllTimed window events → ((k : ℕ) → k < admitted events → HasEntry (served_in word window) tables given events k) → (list_any is_trip events ≡ true → 0 < word) → ServesFront table word window requests events
-  launched_serves given count events requests given_is all timed has word_told =
+      → AllTimed window events → ((k : ℕ) → k < admitted events → HasEntry (served_in word window) tables given events k) → (list_any is_trip events ≡ true → 0 < word) → list_any is_abandoned events ≡ false
+      → ServesFront table word window requests events
+  launched_serves given count events requests given_is all timed has word_told none =
       let asks : List Asked = map asked_for requests in
       let many : admitted events ≡ length (take count asks) = all (take count asks) given_is in
       let front : length (take count asks) ≡ min count (length asks) = length-take count asks in
@@ -158,7 +178,7 @@ module _ (laws : Spelling) (word : ℕ) (window : Option (ℕ × ℕ)) (table : 
               entry.found,
               λ n.
                   let times = timed_end window k events entry.entry timed entry.found in
-                  section_of_cause n request entry.seen entry.entry entry.entry.end entry.caused times.1 (record {
+                  section_of_cause n request entry.seen entry.entry entry.entry.end (none_left k events entry.entry none entry.found) entry.caused times.1 (record {
                     asks = same_Some _ _ asked;
                     timed = times.0;
                     told = λ some. word_told (entry.tripped some);

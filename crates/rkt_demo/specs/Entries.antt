@@ -5,10 +5,10 @@ use Rattle.rkt_message.specs.declared.piece.Piece.{Piece}
 use Rattle.rkt_board.specs.Events.{admitted, end_of}
 use Rattle.rkt_link.specs.Memory.{LinkInMemory}
 use Rattle.rkt_board.specs.declared.history.End.{End}
-use Rattle.rkt_board.specs.declared.history.End.TheVariants.{Answered, Lost, Cut, Failed, Starved}
+use Rattle.rkt_board.specs.declared.history.End.TheVariants.{Answered, Lost, Cut, Failed, Abandoned, Starved}
 use Rattle.rkt_board.specs.declared.history.EntryOf.{EntryOf}
 use Rattle.rkt_board.specs.declared.history.EventOf.{EventOf}
-use Rattle.rkt_demo.specs.Output.{sent_section, lost_section, cut_section, failed_section, starved_section, last_line}
+use Rattle.rkt_demo.specs.Output.{sent_section, lost_section, cut_section, failed_section, abandoned_section, starved_section, last_line}
 
 -- the section of a request that ended so, with what its link holds
 abbrev pub ended_section : ℕ → End → List Piece → List ℕ
@@ -16,6 +16,7 @@ ended_section k Answered pieces = sent_section k pieces
 ended_section k Lost pieces = lost_section k
 ended_section k (Cut saw cut) pieces = cut_section k
 ended_section k (Failed failure) pieces = failed_section k
+ended_section k Abandoned pieces = abandoned_section k
 ended_section k Starved pieces = starved_section k
 
 -- the section of an entry, and none where there is none

@@ -4,7 +4,7 @@ use Rattle.rkt_source.specs.Memory.{SourceInMemory}
 use Rattle.rkt_board.specs.Events.{admitted, end_of}
 use Rattle.rkt_link.specs.Memory.{LinkInMemory}
 use Rattle.rkt_board.specs.declared.history.End.{End}
-use Rattle.rkt_board.specs.declared.history.End.TheVariants.{Answered, Lost, Cut, Failed, Starved}
+use Rattle.rkt_board.specs.declared.history.End.TheVariants.{Answered, Lost, Cut, Failed, Abandoned, Starved}
 use Rattle.rkt_board.specs.declared.history.EntryOf.{EntryOf}
 use Rattle.rkt_board.specs.declared.history.EventOf.{EventOf}
 use Rattle.rkt_demo.specs.Entries.{ended_section}
@@ -18,6 +18,7 @@ told_of Answered = Told.Served
 told_of Lost = Told.Served
 told_of (Cut saw cut) = Told.CutShort
 told_of (Failed failure) = Told.Served
+told_of Abandoned = Told.Served
 told_of Starved = Told.NoMemory
 
 -- whatever its number is, the section of an entry is one of this request

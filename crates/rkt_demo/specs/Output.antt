@@ -44,6 +44,10 @@ lost_section k = label k ++ codes "Lost\n"
 abbrev pub cut_section : ℕ → List ℕ
 cut_section k = label k ++ codes "Cut\n"
 
+-- the section of a request whose exchange was abandoned
+abbrev pub abandoned_section : ℕ → List ℕ
+abandoned_section k = label k ++ codes "Abandoned\n"
+
 -- the section of a request for which there was no memory
 abbrev pub starved_section : ℕ → List ℕ
 starved_section k = label k ++ codes "Starved\n"

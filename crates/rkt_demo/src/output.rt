@@ -3,7 +3,7 @@ ghost use Rattle.std.specs.Prelude.{◌≡◌, ◌++◌, ◌∷◌, [], IfOk, On
 ghost use Rattle.std.specs.Fmt.{decimal};
 ghost use Rattle.std.specs.Option.{option_copied};
 ghost use Rattle.rkt_demo.specs.Entries.{ended_section, entries_text, AreEntries};
-ghost use Rattle.rkt_demo.specs.Output.{header_line, head_text, body_bytes, label, sent_section, lost_section, cut_section, failed_section, starved_section, last_line};
+ghost use Rattle.rkt_demo.specs.Output.{header_line, head_text, body_bytes, label, sent_section, lost_section, cut_section, failed_section, abandoned_section, starved_section, last_line};
 
 use crate::sample::{SampleEntry, SampleHistory};
 use rkt_base::{NoMemory, Text};
@@ -131,6 +131,13 @@ fn push_failed(alloc: Global, out: &mut Vec<u8>, number: usize) -> Result<(), No
     push_text(out, "Failed\n")
 }
 
+fn push_abandoned(alloc: Global, out: &mut Vec<u8>, number: usize) -> Result<(), NoMemory>
+    ensures { OnOk result (out.new.items ≡ out.old.items ++ abandoned_section number) }
+{
+    push_label(alloc, out, number)?;
+    push_text(out, "Abandoned\n")
+}
+
 fn push_starved(alloc: Global, out: &mut Vec<u8>, number: usize) -> Result<(), NoMemory>
     ensures { OnOk result (out.new.items ≡ out.old.items ++ starved_section number) }
 {
@@ -159,6 +166,7 @@ fn push_section(
         End::Lost => push_lost(alloc, out, number),
         End::Cut { .. } => push_cut(alloc, out, number),
         End::Failed(_) => push_failed(alloc, out, number),
+        End::Abandoned => push_abandoned(alloc, out, number),
         End::Starved => push_starved(alloc, out, number),
     }
 }

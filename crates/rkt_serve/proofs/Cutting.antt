@@ -1,18 +1,16 @@
 -- What is known of an End whose link was cut off, and of one that was not.
-use Rattle.std.proofs.Common.{◌≡◌, ◌≤◌, ◌+◌, ◌++◌, ◌⊎◌, inl, inr, ℕ, List, [], ◌∷◌, Option, None, Some, IsSome, true, refl, ap, sym, subst, ◌∙◌, append-nil, append_assoc, arith, rules}
+use Rattle.std.proofs.Common.{◌≡◌, ◌≤◌, ◌++◌, inl, inr, ℕ, List, [], ◌∷◌, Option, None, Some, IsSome, true, refl, ap, sym, subst, ◌∙◌, append-nil, append_assoc, arith, rules}
 use Rattle.std.specs.List.{AllByRecursion, list_any}
-use Rattle.std.proofs.lemmas.Grind.{common_steps}
 use Rattle.rkt_cancel.specs.declared.stage.Stage.{Stage}
 use Rattle.rkt_link.specs.Clock.{ClockMeaning, IsAmid, IsWithin}
 use Rattle.rkt_source.specs.declared.source.Gate.{Gate}
 use Rattle.rkt_lifecycle.specs.Tables.{SeenTables}
-use Rattle.rkt_board.proofs.Pushes.{map_push}
-use Rattle.rkt_board.specs.Board.{BoardAs, IsCutWithin}
+use Rattle.rkt_board.specs.Board.{IsCutWithin}
 use Rattle.rkt_board.specs.Events.{is_trip, latest, trip_of, word_of, Ordered}
 use Rattle.rkt_board.specs.Marks.{events}
 use Rattle.rkt_board.specs.Turns.{mark, ShowsTrip, TripsAs}
 use Rattle.rkt_board.specs.declared.history.End.{End as Ending}
-use Rattle.rkt_board.specs.declared.history.End.TheVariants.{Answered, Lost, Cut, Failed, Starved}
+use Rattle.rkt_board.specs.declared.history.End.TheVariants.{Answered, Lost, Cut, Failed, Abandoned, Starved}
 use Rattle.rkt_board.specs.declared.history.EntryOf.{EntryOf}
 use Rattle.rkt_board.specs.declared.history.EventOf.{EventOf}
 use Rattle.rkt_board.specs.declared.history.EventOf.TheVariants.{Lift, Trip, Admit, End, Down, Close}
@@ -23,11 +21,15 @@ use Rattle.rkt_source.specs.Source.{Meaning}
 use Rattle.rkt_serve.proofs.BodyReads.{reads_more, reads_wider}
 use Rattle.rkt_serve.proofs.Launching.{none_found}
 use Rattle.rkt_serve.proofs.Meanwhile.{trips_then, with_trip}
-use Rattle.rkt_serve.specs.Causes.{Caused, CausedAs, IsCutBehind, Ran, WasCut}
-use Rattle.rkt_serve.specs.Gates.{IsCut, IsCutBy, IsCutOff, IsGateOf, Watched, WatchedOn, word_in}
+use Rattle.rkt_serve.specs.Causes.{CausedAs, IsDueBehind, Ran}
+use Rattle.rkt_serve.specs.Gates.{IsCutBy, IsCutOff, IsGateOf, Watched, WatchedOn, word_in}
 use Rattle.rkt_serve.specs.Looking.{AddsTrips, IsCallersTrip}
 use Rattle.rkt_serve.specs.LookingLaws.{trip_stays}
 use Rattle.rkt_serve.specs.Serving.{Serving}
+use Rattle.rkt_serve.specs.Waiting.{IsLate}
+
+pub some_word : (trip : ℕ × ℕ) → IsSome (word_in (Some trip))
+some_word trip = search rules
 
 -- a trip that a Gate shows is the Trip that is watched
 pub word_shown : (watched : Watched) (gate : Gate) → IsGateOf watched gate → IsSome gate.tripped → IsSome (word_in watched.trip)
@@ -41,9 +43,6 @@ word_shown watched gate is shown = by_trip gate.tripped refl shown
 pub word_stays : (old new : Watched) → WatchedOn old new → IsSome (word_in old.trip) → IsSome (word_in new.trip)
 word_stays old new on shown = by_trip old.trip refl shown
   where
-    some_word : (t : ℕ × ℕ) → IsSome (word_in (Some t))
-    some_word t = search rules
-
     by_trip : (t : Option (ℕ × ℕ)) → old.trip ≡ t → IsSome (word_in t) → IsSome (word_in new.trip)
     by_trip None there some = absurd (cc some)
     by_trip (Some t) there some = subst IsSome (sym (ap word_in (on.trip t there))) (some_word t)
@@ -68,6 +67,7 @@ cut_off_by watched stage (Cut saw cut) off = off.1
 cut_off_by watched stage Answered off = tt
 cut_off_by watched stage Lost off = tt
 cut_off_by watched stage (Failed failure) off = tt
+cut_off_by watched stage Abandoned off = tt
 cut_off_by watched stage Starved off = tt
 
 -- its moments lie in the window
@@ -76,18 +76,22 @@ cut_within watched (Cut saw cut) by = (by.seen.within, by.within)
 cut_within watched Answered by = tt
 cut_within watched Lost by = tt
 cut_within watched (Failed failure) by = tt
+cut_within watched Abandoned by = tt
 cut_within watched Starved by = tt
 
--- and behind the Trip
-pub cut_behind : {C R L : Type 0} (watched : Watched) (before : List (EventOf C R L)) (moment : ℕ) (ended : Ending) → ((trip : ℕ × ℕ) → watched.trip ≡ Some trip → trip_of before ≡ Some trip) → watched.last ≤ moment → IsCutBy watched ended
-    → IsCutBehind before moment ended
-cut_behind watched before moment (Cut saw cut) stays late by =
+-- and behind the Trip; what was abandoned was late then, and is
+pub due_behind : {C R L F H K N V : Type 0} (tables : SeenTables F H K N V) (watched : Watched) (before : List (EventOf C R L)) (moment : ℕ) (ended : Ending) → ((trip : ℕ × ℕ) → watched.trip ≡ Some trip → trip_of before ≡ Some trip) → watched.last ≤ moment
+    → IsCutBy watched ended → (ended ≡ Abandoned → IsLate tables.config.grace tables.config.mercy watched.trip watched.last) → IsDueBehind tables before moment ended
+due_behind tables watched before moment (Cut saw cut) stays later by late =
     let tripped = by.seen.tripped in
-    (tripped.0, stays tripped.0 tripped.1, tripped.2, omega (arith, by.told, late))
-cut_behind watched before moment Answered stays late by = tt
-cut_behind watched before moment Lost stays late by = tt
-cut_behind watched before moment (Failed failure) stays late by = tt
-cut_behind watched before moment Starved stays late by = tt
+    (tripped.0, stays tripped.0 tripped.1, tripped.2, omega (arith, by.told, later))
+due_behind tables watched before moment Abandoned stays later by late =
+    let is = late refl in
+    (is.0, stays is.0 is.1, omega (arith, is.2, later))
+due_behind tables watched before moment Answered stays later by late = tt
+due_behind tables watched before moment Lost stays later by late = tt
+due_behind tables watched before moment (Failed failure) stays later by late = tt
+due_behind tables watched before moment Starved stays later by late = tt
 
 module _ {V S C R F FTask GTask H HTask K KTask L N : Type 0} (served : Serving V S C R F FTask GTask H HTask K KTask L) (tables : SeenTables F H K N V) (seen other : Option ℕ) (wider : IsSome seen → IsSome other) (entry : EntryOf C R L) where
   ran_wider : (ended : Ending) → Ran served tables seen entry ended → Ran served tables other entry ended
@@ -112,6 +116,7 @@ module _ {V S C R F FTask GTask H HTask K KTask L N : Type 0} (served : Serving 
   caused_wider Lost caused = (ran_wider Lost caused.0, caused.1)
   caused_wider (Cut saw cut) caused = (ran_wider (Cut saw cut) caused.0, record { tripped = wider caused.1.tripped; saw_there = caused.1.saw_there; cut_there = caused.1.cut_there; grace = caused.1.grace })
   caused_wider (Failed failure) caused = ran_wider (Failed failure) caused
+  caused_wider Abandoned caused = (wider caused.0, caused.1, caused.2, caused.3)
   caused_wider Starved caused = caused
 
 module _ {C R L : Type 0} where
@@ -156,9 +161,6 @@ module _ {C R L : Type 0} where
   pub word_still : (by : ℕ) (old new : List (MarkOf C R L)) → TripsAs by old new → IsSome (word_in (trip_of (events old))) → IsSome (word_in (trip_of (events new)))
   word_still by old new trips some = by_trip (trip_of (events old)) refl some
     where
-      some_word : (t : ℕ × ℕ) → IsSome (word_in (Some t))
-      some_word t = search rules
-
       by_trip : (t : Option (ℕ × ℕ)) → trip_of (events old) ≡ t → IsSome (word_in t) → IsSome (word_in (trip_of (events new)))
       by_trip None there some = absurd (cc some)
       by_trip (Some t) there some = subst IsSome (sym (ap word_in (trips_stay by old new trips t there))) (some_word t)

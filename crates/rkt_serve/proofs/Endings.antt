@@ -1,5 +1,6 @@
 -- What is known of an exchange with a link that has ended.
 use Rattle.std.proofs.Common.{◌≡◌, ◌≤◌, ℕ, None, Some, Option, Result, arith, refl, sym, subst}
+use Rattle.std.specs.Prelude.{IfSome, IsNone, MatchOption}
 use Rattle.std.specs.List.{All}
 use Rattle.rkt_base.specs.declared.poll.Poll.TheVariants.{Pending}
 use Rattle.rkt_cancel.specs.Cancel.{Cancellable}
@@ -105,3 +106,17 @@ module _ {V S C R F FTask GTask H HTask K KTask N : Type 0} (requests : Calling 
     leads = ends.lifecycle;
     backs = ends.backs;
   }
+
+-- of an exchange that has ended, or waits
+module _ {E : Type 0} where
+  pub if_ended : (ended : Option E) (May : Type 0) (P Q : E → Type 0) → ((e : E) → P e → Q e) → MatchOption ended May P → IfSome ended Q
+  if_ended None May P Q so known = tt
+  if_ended (Some e) May P Q so known = so e known
+
+  pub if_waits : (ended : Option E) (May : Type 0) (P : E → Type 0) → IsNone ended → MatchOption ended May P → May
+  if_waits None May P none known = known
+  if_waits (Some e) May P none known = absurd (cc none)
+
+  pub if_so : (ended : Option E) (P Q R : E → Type 0) → ((e : E) → P e → Q e → R e) → IfSome ended P → IfSome ended Q → IfSome ended R
+  if_so None P Q R so one two = tt
+  if_so (Some e) P Q R so one two = so e one two

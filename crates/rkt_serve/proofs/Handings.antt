@@ -1,11 +1,11 @@
 -- What becomes of a link that a trip may cut off.
-use Rattle.std.proofs.Common.{◌≡◌, ◌≤◌, ◌-◌, ◌+◌, ◌⊎◌, inl, inr, ℕ, Bool, true, false, ◌∷◌, [], Option, None, Some, Result, Ok, Err, if◌then◌else◌, refl, ap, sym, subst, ◌∙◌, arith, MutBor}
+use Rattle.std.proofs.Common.{◌≡◌, ◌≤◌, ◌-◌, ◌+◌, inl, inr, ℕ, Bool, true, false, Option, None, Some, Result, if◌then◌else◌, refl, ap, sym, subst, ◌∙◌, arith, MutBor}
 use Rattle.std.specs.Prelude.{nat_le}
 use Rattle.std.proofs.lemmas.Bool.{leb-true}
 use Rattle.std.specs.Fn.{Once, FnOnceReturnsAtMut}
 use Rattle.rkt_base.specs.declared.poll.Poll.{Poll}
 use Rattle.rkt_base.specs.declared.poll.Poll.TheVariants.{Ready, Pending}
-use Rattle.rkt_cancel.specs.Cancel.{Cancellable, Cancels, Closed, ClosedAt, Ending, advanced, granted, is_open, late, noticed, run_out, withheld}
+use Rattle.rkt_cancel.specs.Cancel.{Cancellable, Cancels, ClosedAt, Ending, advanced, granted, is_open, late, noticed, run_out, withheld}
 use Rattle.rkt_cancel.specs.declared.stage.Refused.{Refused}
 use Rattle.rkt_cancel.specs.declared.stage.Stage.{Stage}
 use Rattle.rkt_cancel.specs.declared.stage.Stage.TheVariants.{Active, Grace, Mercy, Gone}
@@ -14,21 +14,10 @@ use Rattle.rkt_link.specs.Link.{LinkMeaning, AfterHand, ComesBack}
 use Rattle.rkt_link.specs.declared.link.Handed.{Handed}
 use Rattle.rkt_message.specs.declared.piece.Piece.{Piece}
 use Rattle.rkt_source.specs.declared.source.Gate.{Gate}
-use Rattle.rkt_serve.specs.Gates.{IsCut, IsGateOf, IsSeen, IsTrippedBy, MayStand, Watched, WatchedOn}
+use Rattle.rkt_serve.specs.Gates.{IsCut, IsGateOf, IsSeen, MayStand, Watched, WatchedOn}
 use Rattle.rkt_serve.specs.Handing.{HandsOver, IsPast, PutAs, ShutsAs}
 use Rattle.rkt_board.specs.declared.history.End.{End as Ended}
 use Rattle.rkt_board.specs.declared.history.End.TheVariants.{Cut}
-
-pub watched_same : (w : Watched) → WatchedOn w w
-watched_same w = record { rises = omega arith; window = refl; grace = refl; trip = λ trip found. found }
-
-pub watched_then : (u v w : Watched) → WatchedOn u v → WatchedOn v w → WatchedOn u w
-watched_then u v w one two = record {
-  rises = omega (arith, one.rises, two.rises);
-  window = two.window ∙ one.window;
-  grace = two.grace ∙ one.grace;
-  trip = λ trip found. two.trip trip (one.trip trip found);
-}
 
 -- what was seen and cut off then, still was
 pub seen_on : (v w : Watched) (saw : ℕ) → WatchedOn v w → IsSeen v saw → IsSeen w saw

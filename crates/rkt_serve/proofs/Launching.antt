@@ -16,11 +16,12 @@ use Rattle.rkt_turn.specs.Shutdown.{Handle}
 use Rattle.rkt_board.proofs.Core.{found_trip}
 use Rattle.rkt_board.specs.Board.{SoundAs}
 use Rattle.rkt_board.specs.Closed.{AllAdmitted, HasEntry as Entered}
-use Rattle.rkt_board.specs.Events.{is_trip, admitted, trip_of, Ordered, IsClosed, EachEndsOnce}
+use Rattle.rkt_board.specs.Events.{is_abandoned, is_trip, admitted, trip_of, Ordered, IsClosed, EachEndsOnce}
 use Rattle.rkt_board.specs.declared.closing.ClosedOf.{ClosedOf}
 use Rattle.rkt_board.specs.declared.history.EventOf.{EventOf}
 use Rattle.rkt_board.specs.declared.history.EventOf.TheVariants.{Lift, Trip, Admit, End, Down, Close}
 use Rattle.rkt_board.specs.declared.history.HistoryOf.{HistoryOf}
+use Rattle.rkt_serve.proofs.Abandoning.{may_abandon}
 use Rattle.rkt_serve.proofs.Handles.{hands_back_more}
 use Rattle.rkt_serve.specs.Causes.{AllCaused, CauseAt}
 use Rattle.rkt_serve.specs.Gates.{word_in}
@@ -31,6 +32,7 @@ use Rattle.rkt_serve.specs.declared.error.ErrorKindOf.{ErrorKindOf}
 use Rattle.rkt_serve.specs.declared.error.ErrorKindOf.TheVariants.{Ignition, Shutdown, NoMemory}
 use Rattle.rkt_serve.specs.Left.{IsLeft}
 use Rattle.rkt_serve.specs.Serving.{Serving}
+use Rattle.rkt_serve.specs.Waiting.{MayAbandon}
 use Rattle.rkt_serve.specs.declared.error.LaunchedOf.{LaunchedOf}
 
 module _ {V S C R F FTask GTask STask H HTask K KTask L N X Q : Type 0} (allowed : ℕ → Type 0) (shuts : CallingAtShutdown H K N V F STask) (served : Serving V S C R F FTask GTask H HTask K KTask L) (listeners : X → ListenerMeaning) (tables : SeenTables F H K N V)
@@ -82,11 +84,19 @@ module _ {F H K N V X Q C R L : Type 0} (tables : SeenTables F H K N V) (table :
   pub left_sound : (listeners : X → ListenerMeaning) (old : ListenerMeaning) → SoundAs closed.faulted old (listeners closed.listener) → closed.faulted ≡ false → old.faults ≡ 0 → (listeners launched.listener).faults ≡ 0
   left_sound listeners old sound goes none = rw is.listener (subst (λ (b : Bool). SoundAs b old (listeners closed.listener)) goes sound ∙ none)
 
+  pub left_none_abandoned : list_any is_abandoned closed.history.events ≡ false → list_any is_abandoned launched.history.events ≡ false
+  left_none_abandoned none = rw is.history none
+
   -- one that has failed has counted it
   pub left_failed : (listeners : X → ListenerMeaning) (old : ListenerMeaning) → SoundAs closed.faulted old (listeners closed.listener) → closed.faulted ≡ true → 0 < (listeners launched.listener).faults
   left_failed listeners old sound failed =
       let fault = subst (λ (b : Bool). SoundAs b old (listeners closed.listener)) failed sound in
       rw is.listener (omega (arith, fault.0))
+
+  pub left_shut : (listeners : X → ListenerMeaning) (old : ListenerMeaning) → SoundAs closed.faulted old (listeners closed.listener) → (closed.faulted ≡ true) ⊎ (list_any is_abandoned closed.history.events ≡ true)
+      → (0 < (listeners launched.listener).faults) ⊎ (list_any is_abandoned launched.history.events ≡ true)
+  left_shut listeners old sound (inl failed) = inl (left_failed listeners old sound failed)
+  left_shut listeners old sound (inr abandoned) = inr (rw is.history abandoned)
 
   pub left_settled : (listeners : X → ListenerMeaning) (old : ListenerMeaning) → Settled old (listeners closed.listener) → Settled old (listeners launched.listener)
   left_settled listeners old settled = rw is.listener settled
@@ -150,6 +160,13 @@ never_failed true old new sound never = absurd (cc (sound.1, never))
 -- a handle that liftoff had, that was looked at more, and then taken back
 pub back_to : (first lent left closed after : Handle) → lent ≡ first → HandsBack lent left → HandsBack left closed → HandsBack closed after → HandsBack first after
 back_to first lent left closed after same lifted one two = subst (λ (h : Handle). HandsBack h after) same (hands_back_more lent left after lifted (hands_back_more left closed after one two))
+
+-- a listener that never fails has not, so that an exchange was abandoned
+pub left_abandoned : {V S C R F FTask GTask STask H HTask K KTask L N X Q : Type 0} (allowed : ℕ → Type 0) (shuts : CallingAtShutdown H K N V F STask) (served : Serving V S C R F FTask GTask H HTask K KTask L) (tables : SeenTables F H K N V)
+    (table : List (List ℕ × List ℕ)) (closed : ClosedOf X Q Handle (HistoryOf C R L)) (launched : LaunchedOf (SeenRocket F H K N V) X Q (HistoryOf C R L)) → IsLeft tables table closed launched → closed.faulted ≡ false
+    → AllCaused allowed shuts served tables closed.history.events → AllTimed served.window closed.history.events → (closed.faulted ≡ true) ⊎ (list_any is_abandoned closed.history.events ≡ true) → MayAbandon allowed served launched.rocket.tables
+left_abandoned allowed shuts served tables table closed launched is sound caused timed (inl failed) = absurd (cc (failed, sound))
+left_abandoned allowed shuts served tables table closed launched is sound caused timed (inr abandoned) = rw is.tables_are (may_abandon allowed shuts served tables closed.history.events caused timed abandoned)
 
 -- what was lent is of the wire that the handle is of
 pub same_wire : (back : Option Handle) (lent handle closed : Handle) → IfSome back (HandsBack lent) → HandsBack handle closed → lent.wire ≡ handle.wire → IfSome back (λ other. other.wire ≡ closed.wire)

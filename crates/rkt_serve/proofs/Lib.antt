@@ -1,3 +1,4 @@
+pub mod Abandoning
 pub mod Boards
 pub mod Cutting
 pub mod Endings

@@ -1,15 +1,15 @@
 -- What is entered on a board while a link is served.
-use Rattle.std.proofs.Common.{inl, inr, ◌≡◌, ◌<◌, ◌≤◌, ◌+◌, ◌⊎◌, ◌++◌, ℕ, true, false, List, [], ◌∷◌, ap, ◌∙◌, sym, subst, arith}
+use Rattle.std.proofs.Common.{inl, inr, ◌≡◌, ◌<◌, ◌≤◌, ◌+◌, ◌⊎◌, ◌++◌, ℕ, true, false, List, [], ◌∷◌, None, refl, ap, ◌∙◌, sym, subst, arith}
 use Rattle.std.proofs.lemmas.Grind.{common_steps}
 use Rattle.std.specs.List.{list_any}
 use Rattle.rkt_turn.specs.HandsBack.{HandsBack}
 use Rattle.rkt_turn.specs.Shutdown.{Handle}
 use Rattle.rkt_board.proofs.Pushes.{after_last, any_push, map_push}
-use Rattle.rkt_board.specs.Events.{is_trip, is_close, InOrder, Ordered}
+use Rattle.rkt_board.specs.Events.{is_trip, is_close, trip_of, InOrder, Ordered}
 use Rattle.rkt_board.specs.Marks.{events}
 use Rattle.rkt_board.specs.Turns.{mark, TripsAs}
 use Rattle.rkt_board.specs.declared.history.EventOf.{EventOf}
-use Rattle.rkt_board.specs.declared.history.EventOf.TheVariants.{Trip}
+use Rattle.rkt_board.specs.declared.history.EventOf.TheVariants.{Lift, Trip, Admit, End, Down, Close}
 use Rattle.rkt_board.specs.declared.mark.MarkOf.{MarkOf}
 
 -- a handle has looked at the wire, or it has seen no word
@@ -31,6 +31,16 @@ module _ {C R L : Type 0} where
   still_unclosed by old new (inr (word, moment, is)) unclosed =
       let e : EventOf C R L = Trip word moment in
       ap (list_any is_close) (with_trip by word moment old new is) ∙ (any_push is_close (events old) e ∙ grind (arith, common_steps, unclosed))
+
+  -- where there is no Trip, none is found
+  pub no_trip : (es : List (EventOf C R L)) → list_any is_trip es ≡ false → trip_of es ≡ None
+  no_trip [] none = refl
+  no_trip (Trip w m ∷ es) none = absurd (cc none)
+  no_trip (Lift calls ∷ es) none = no_trip es none
+  no_trip (Admit n m b ∷ es) none = no_trip es none
+  no_trip (End n x m b ∷ es) none = no_trip es none
+  no_trip (Down calls ∷ es) none = no_trip es none
+  no_trip (Close m ∷ es) none = no_trip es none
 
   -- there is no second Trip
   trips_once : (by : ℕ) (old mid new : List (MarkOf C R L)) (word moment again later : ℕ) → Ordered (events new) → mid ≡ old ++ mark by (Trip word moment) ∷ [] → new ≡ mid ++ mark by (Trip again later) ∷ [] → ⊥

@@ -1,5 +1,5 @@
 -- What a link holds, piece by piece.
-use Rattle.std.proofs.Common.{◌≡◌, ◌≤◌, ◌+◌, ◌++◌, ℕ, false, IsSome, rules, arith, subst, List, [], Option, Some, None, option_map, Result, Ok, Err, IfOk, ap, ◌∙◌, sym, refl, append_assoc, append-nil}
+use Rattle.std.proofs.Common.{◌≡◌, ◌≤◌, ◌+◌, ◌++◌, ℕ, false, IsSome, arith, subst, List, [], Option, Some, None, option_map, Result, Ok, Err, IfOk, ap, ◌∙◌, sym, refl, append_assoc, append-nil}
 use Rattle.std.proofs.lemmas.Grind.{common_steps}
 use Rattle.std.specs.Option.{ForSome}
 use Rattle.rkt_source.specs.Source.{Meaning}
@@ -11,7 +11,7 @@ use Rattle.rkt_message.specs.Response.{ResponseOf}
 use Rattle.rkt_message.specs.Sending.{ReadOn}
 use Rattle.rkt_message.specs.declared.piece.Piece.{Piece}
 use Rattle.rkt_routing.specs.Routed.{turns_of}
-use Rattle.rkt_source.specs.Memory.{counted}
+use Rattle.rkt_serve.proofs.Cutting.{some_word}
 use Rattle.rkt_serve.specs.Causes.{CausedAs, Caused, Ran}
 use Rattle.rkt_serve.specs.Gates.{IsCutOff, Watched, word_in}
 use Rattle.rkt_serve.specs.Lifecycle.{Lifecycle}
@@ -19,7 +19,7 @@ use Rattle.rkt_link.specs.Link.{LinkMeaning, with_taken}
 use Rattle.rkt_serve.specs.Sent.{IsSentAs, LeftBy, fault_count}
 use Rattle.rkt_serve.specs.Serving.{Serving, callbacks_of}
 use Rattle.rkt_board.specs.declared.history.End.{End as Ending}
-use Rattle.rkt_board.specs.declared.history.End.TheVariants.{Answered, Lost, Cut, Failed, Starved}
+use Rattle.rkt_board.specs.declared.history.End.TheVariants.{Answered, Lost, Cut, Failed, Abandoned, Starved}
 use Rattle.rkt_board.specs.declared.history.EntryOf.{EntryOf}
 
 taken_none : (h : Option (List Piece)) → option_map (λ held. held ++ []) h ≡ h
@@ -47,6 +47,7 @@ left_asked Answered old new taken left = ap (λ (m : LinkMeaning). m.asked) left
 left_asked Lost old new taken left = ap (λ (m : LinkMeaning). m.asked) left.only
 left_asked (Cut saw cut) old new taken left = ap (λ (m : LinkMeaning). m.asked) left
 left_asked (Failed failure) old new taken left = ap (λ (m : LinkMeaning). m.asked) left
+left_asked Abandoned old new taken left = ap (λ (m : LinkMeaning). m.asked) left
 left_asked Starved old new taken left = ap (λ (m : LinkMeaning). m.asked) left
 
 left_held : (ended : Ending) (old new : LinkMeaning) (taken : List Piece) → LeftBy ended old taken new → new.held ≡ (with_taken old taken).held
@@ -54,6 +55,7 @@ left_held Answered old new taken left = ap (λ (m : LinkMeaning). m.held) left
 left_held Lost old new taken left = ap (λ (m : LinkMeaning). m.held) left.only
 left_held (Cut saw cut) old new taken left = ap (λ (m : LinkMeaning). m.held) left
 left_held (Failed failure) old new taken left = ap (λ (m : LinkMeaning). m.held) left
+left_held Abandoned old new taken left = ap (λ (m : LinkMeaning). m.held) left
 left_held Starved old new taken left = ap (λ (m : LinkMeaning). m.held) left
 
 -- a link that had not failed has failed once where it lost its response
@@ -62,14 +64,12 @@ left_faults Answered old new taken left none = ap (λ (m : LinkMeaning). m.fault
 left_faults Lost old new taken left none = omega (arith, left.once, none)
 left_faults (Cut saw cut) old new taken left none = ap (λ (m : LinkMeaning). m.faults) left ∙ none
 left_faults (Failed failure) old new taken left none = ap (λ (m : LinkMeaning). m.faults) left ∙ none
+left_faults Abandoned old new taken left none = ap (λ (m : LinkMeaning). m.faults) left ∙ none
 left_faults Starved old new taken left none = ap (λ (m : LinkMeaning). m.faults) left ∙ none
 
 -- one that was lost does not say that it never fails
 lost_may : (old new : LinkMeaning) (taken : List Piece) → LeftBy Lost old taken new → new.never_faults ≡ false
 lost_may old new taken left = ap (λ (m : LinkMeaning). m.never_faults) left.only ∙ left.may
-
-some_word : (trip : ℕ × ℕ) → IsSome (word_in (Some trip))
-some_word trip = search rules
 
 module _ {V S C R F FTask GTask H HTask K KTask L N : Type 0} (served : Serving V S C R F FTask GTask H HTask K KTask L) (tables : SeenTables F H K N V) (seen : Option ℕ) (entry : EntryOf C R L) (old : LinkMeaning) (run : RunOf C) (first response : ResponseOf R) where
   -- a run whose response was sent on a fresh link, and that is kept
@@ -95,6 +95,7 @@ module _ {V S C R F FTask GTask H HTask K KTask L N : Type 0} (served : Serving 
   caused_at : (ended : Ending) (taken : List Piece) → Ran served tables seen entry ended → IsSentAs served.streams (turns_of (table_of tables)) first response ended taken → LeftBy ended old taken (served.links entry.link.io)
       → (watched : Watched) → word_in watched.trip ≡ seen → watched.grace ≡ tables.config.grace → IsCutOff watched entry.link.stage ended → CausedAs served tables seen entry ended
   caused_at Starved taken ran sent left watched word grace cut = absurd sent
+  caused_at Abandoned taken ran sent left watched word grace cut = absurd sent
   caused_at Answered taken ran sent left watched word grace cut = ran
   caused_at Lost taken ran sent left watched word grace cut = (ran, lost_may old (served.links entry.link.io) taken left)
   caused_at (Failed failure) taken ran sent left watched word grace cut = ran

@@ -21,8 +21,9 @@ use Rattle.rkt_serve.specs.Lifecycle.{Lifecycle}
 use Rattle.rkt_serve.specs.Lifted.{view_of}
 use Rattle.rkt_serve.specs.Sent.{IsSentAs, fault_count}
 use Rattle.rkt_serve.specs.Serving.{Serving, callbacks_of}
+use Rattle.rkt_serve.specs.Waiting.{IsLate, MayBePending}
 use Rattle.rkt_board.specs.declared.history.End.{End as Ending}
-use Rattle.rkt_board.specs.declared.history.End.TheVariants.{Answered, Lost, Cut, Failed, Starved}
+use Rattle.rkt_board.specs.declared.history.End.TheVariants.{Answered, Lost, Cut, Failed, Abandoned, Starved}
 use Rattle.rkt_board.specs.declared.history.EntryOf.{EntryOf}
 use Rattle.rkt_board.specs.declared.history.EventOf.{EventOf}
 use Rattle.rkt_board.specs.declared.history.EventOf.TheVariants.{Lift, Trip, Admit, End, Down, Close}
@@ -56,24 +57,28 @@ module _ {V S C R F FTask GTask H HTask K KTask L N : Type 0} (served : Serving 
     pub cut_there : cut_of entry.link.stage ≡ Some cut
     pub grace : saw + tables.config.grace ≤ cut
 
-  -- Answered, Lost, Cut and Failed: with a run and a response; Lost only on a link that does not say that it never fails, Cut only behind a Trip and its grace. Starved: nothing is kept
+  -- Answered, Lost, Cut and Failed: with a run and a response; Lost only on a link that does not say that it never fails, Cut only behind a Trip and its grace. Abandoned and Starved: nothing is kept; Abandoned only behind a Trip, where an exchange
+  -- may be Pending
   abbrev pub CausedAs : Option ℕ → EntryOf C R L → Ending → Type 0
   CausedAs seen entry Answered = Ran seen entry Answered
   CausedAs seen entry Lost = Ran seen entry Lost × ((served.links entry.link.io).never_faults ≡ false)
   CausedAs seen entry (Cut saw cut) = Ran seen entry (Cut saw cut) × WasCut seen entry saw cut
   CausedAs seen entry (Failed failure) = Ran seen entry (Failed failure)
+  CausedAs seen entry Abandoned = IsSome seen × (entry.run ≡ None) × (entry.response ≡ None) × MayBePending (callbacks_of served tables) served.sources tables
   CausedAs seen entry Starved = (entry.run ≡ None) × (entry.response ≡ None)
 
   abbrev pub Caused : Option ℕ → EntryOf C R L → Type 0
   Caused seen entry = CausedAs seen entry entry.end
 
--- a link was cut off that had seen the Trip, which stands before, and it was so by this moment
-abbrev pub IsCutBehind : {C R L : Type 0} → List (EventOf C R L) → ℕ → Ending → Type 0
-IsCutBehind before moment (Cut saw cut) = (trip : ℕ × ℕ) × (trip_of before ≡ Some trip) × (trip.1 ≤ saw) × (cut ≤ moment)
-IsCutBehind before moment Answered = Unit {0}
-IsCutBehind before moment Lost = Unit {0}
-IsCutBehind before moment (Failed failure) = Unit {0}
-IsCutBehind before moment Starved = Unit {0}
+-- a link was cut off that had seen the Trip, which stands before, and it was so by this moment; an exchange was abandoned when
+-- the grace and the mercy of that Trip were over
+abbrev pub IsDueBehind : {C R L F H K N V : Type 0} → SeenTables F H K N V → List (EventOf C R L) → ℕ → Ending → Type 0
+IsDueBehind tables before moment (Cut saw cut) = (trip : ℕ × ℕ) × (trip_of before ≡ Some trip) × (trip.1 ≤ saw) × (cut ≤ moment)
+IsDueBehind tables before moment Abandoned = IsLate tables.config.grace tables.config.mercy (trip_of before) moment
+IsDueBehind tables before moment Answered = Unit {0}
+IsDueBehind tables before moment Lost = Unit {0}
+IsDueBehind tables before moment (Failed failure) = Unit {0}
+IsDueBehind tables before moment Starved = Unit {0}
 
 -- a word that a call recorded is that of a Trip before
 abbrev pub SawTrip : {C R L : Type 0} → List (EventOf C R L) → Call → Type 0
@@ -85,7 +90,7 @@ module _ {V S C R F FTask GTask STask H HTask K KTask L N : Type 0} (allowed : �
   CauseAt before (Lift calls) = Unit {0}
   CauseAt before (Trip word moment) = allowed word
   CauseAt before (Admit number moment by) = Unit {0}
-  CauseAt before (End number entry moment by) = Caused served tables (word_in (trip_of before)) entry × IsCutBehind before moment entry.end × ForSome entry.run (λ run. All (SawTrip before) run.calls)
+  CauseAt before (End number entry moment by) = Caused served tables (word_in (trip_of before)) entry × IsDueBehind tables before moment entry.end × ForSome entry.run (λ run. All (SawTrip before) run.calls)
   CauseAt before (Down calls) = ShutsDown shuts (view_of tables) tables.fairings calls
   CauseAt before (Close moment) = Unit {0}
 

@@ -1,12 +1,11 @@
 -- Under which Gates a response is sent, and when its link may be cut off.
 use Rattle.std.specs.Prelude.{◌≡◌, ◌≤◌, ◌+◌, ℕ, Option, Some, option_map}
-use Rattle.std.specs.Option.{ForSome}
 use Rattle.rkt_cancel.specs.declared.stage.Stage.{Stage}
 use Rattle.rkt_cancel.specs.declared.stage.Stage.TheVariants.{Active, Grace, Mercy, Gone}
 use Rattle.rkt_link.specs.Clock.{IsWithin}
 use Rattle.rkt_source.specs.declared.source.Gate.{Gate}
 use Rattle.rkt_board.specs.declared.history.End.{End as Ending}
-use Rattle.rkt_board.specs.declared.history.End.TheVariants.{Answered, Lost, Cut, Failed, Starved}
+use Rattle.rkt_board.specs.declared.history.End.TheVariants.{Answered, Lost, Cut, Failed, Abandoned, Starved}
 
 -- what is watched between two sends
 pub record Watched : Type 0 where
@@ -67,12 +66,14 @@ IsCutBy watched (Cut saw cut) = IsCut watched saw cut
 IsCutBy watched Answered = Unit {0}
 IsCutBy watched Lost = Unit {0}
 IsCutBy watched (Failed failure) = Unit {0}
+IsCutBy watched Abandoned = Unit {0}
 IsCutBy watched Starved = Unit {0}
 
--- and then the link that has come so far is gone since then
+-- and then the link that has come so far is gone since then; nothing that is sent is abandoned
 abbrev pub IsCutOff : Watched → Stage → Ending → Type 0
 IsCutOff watched stage (Cut saw cut) = (stage ≡ Gone saw cut) × IsCut watched saw cut
 IsCutOff watched stage Answered = Unit {0}
 IsCutOff watched stage Lost = Unit {0}
 IsCutOff watched stage (Failed failure) = Unit {0}
+IsCutOff watched stage Abandoned = ⊥
 IsCutOff watched stage Starved = Unit {0}

@@ -11,7 +11,7 @@ use Rattle.rkt_link.specs.declared.link.Handed.{Handed}
 use Rattle.rkt_message.specs.declared.piece.Piece.{Piece}
 use Rattle.rkt_source.specs.declared.source.Gate.{Gate}
 use Rattle.rkt_board.specs.declared.history.End.{End as Ending}
-use Rattle.rkt_board.specs.declared.history.End.TheVariants.{Answered, Lost, Cut, Failed, Starved}
+use Rattle.rkt_board.specs.declared.history.End.TheVariants.{Answered, Lost, Cut, Failed, Abandoned, Starved}
 use Rattle.rkt_serve.specs.Gates.{Watched, IsCutOff, MayStand}
 
 -- the grace was over at `cut`
@@ -41,4 +41,5 @@ module _ {K : Type 0} (links : K → LinkMeaning) where
   PutAs watched old piece new (Some (Cut saw cut)) = (links new.io ≡ links old.io) × IsCutOff watched new.stage (Cut saw cut)
   PutAs watched old piece new (Some Answered) = ⊥
   PutAs watched old piece new (Some (Failed failure)) = ⊥
+  PutAs watched old piece new (Some Abandoned) = ⊥
   PutAs watched old piece new (Some Starved) = ⊥

@@ -15,3 +15,4 @@ pub mod Rest
 pub mod Said
 pub mod Sent
 pub mod Serving
+pub mod Waiting

@@ -1,5 +1,5 @@
 -- A rocket that was lifted off.
-use Rattle.std.specs.Prelude.{◌≡◌, ◌<◌, ◌≤◌, ◌+◌, ℕ, List}
+use Rattle.std.specs.Prelude.{◌≡◌, ◌<◌, ◌≤◌, ◌+◌, List}
 use Rattle.rkt_board.specs.Events.{admitted, lift_calls}
 use Rattle.rkt_board.specs.declared.history.EventOf.{EventOf}
 use Rattle.rkt_fairing.specs.Life.{SeenView}

@@ -2,7 +2,7 @@
 use Rattle.std.proofs.Common.{◌≡◌, ◌++◌, ◌∙◌, ℕ, List, [], ◌∷◌, Some, arith, refl, ap, sym, append-nil, append_assoc}
 use Rattle.std.proofs.lemmas.List.{map-append}
 use Rattle.std.specs.List.{AllByRecursion}
-use Rattle.rkt_link.specs.Clock.{ClockMeaning, TellsOn}
+use Rattle.rkt_link.specs.Clock.{ClockMeaning}
 use Rattle.rkt_lifecycle.specs.Tables.{SeenTables}
 use Rattle.rkt_board.specs.Board.{BoardAs}
 use Rattle.rkt_board.specs.Events.{trip_of}

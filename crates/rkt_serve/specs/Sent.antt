@@ -9,7 +9,7 @@ use Rattle.rkt_message.specs.Sending.{MayWait}
 use Rattle.rkt_message.specs.Sent.{Sent, has_head}
 use Rattle.rkt_message.specs.declared.piece.Piece.{Piece}
 use Rattle.rkt_board.specs.declared.history.End.{End as Ending}
-use Rattle.rkt_board.specs.declared.history.End.TheVariants.{Answered, Lost, Cut, Failed, Starved}
+use Rattle.rkt_board.specs.declared.history.End.TheVariants.{Answered, Lost, Cut, Failed, Abandoned, Starved}
 use Rattle.rkt_board.specs.declared.history.Failure.TheVariants.{BadHead, BodyFault}
 
 -- the pieces are such ones without the last or more of them
@@ -27,6 +27,7 @@ IsSentAs stream turns first last Lost pieces = IsProperFront (Sent stream first)
 IsSentAs stream turns first last (Cut saw cut) pieces = IsProperFront (Sent stream first) pieces
 IsSentAs stream turns first last (Failed BadHead) pieces = (has_head first ≡ false) × (pieces ≡ [])
 IsSentAs stream turns first last (Failed BodyFault) pieces = BodyFails stream turns first last × IsProperFront (Sent stream first) pieces × (pieces ≢ [])
+IsSentAs stream turns first last Abandoned pieces = ⊥
 IsSentAs stream turns first last Starved pieces = ⊥
 
 -- how often a link has failed that was served so: once where the response was lost
@@ -35,6 +36,7 @@ fault_count Answered = 0
 fault_count Lost = 1
 fault_count (Cut saw cut) = 0
 fault_count (Failed failure) = 0
+fault_count Abandoned = 0
 fault_count Starved = 0
 
 -- how a link is left that took these pieces: where the response was lost, it has failed behind them
@@ -43,4 +45,5 @@ LeftBy Answered old pieces new = new ≡ with_taken old pieces
 LeftBy Lost old pieces new = Faults (with_taken old pieces) new
 LeftBy (Cut saw cut) old pieces new = new ≡ with_taken old pieces
 LeftBy (Failed failure) old pieces new = new ≡ with_taken old pieces
+LeftBy Abandoned old pieces new = new ≡ with_taken old pieces
 LeftBy Starved old pieces new = new ≡ with_taken old pieces

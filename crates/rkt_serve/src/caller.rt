@@ -31,24 +31,26 @@ use rkt_turn::Shutdown;
 use std::alloc::Global;
 use std::sync::Wait;
 
-// Gives a handle that has seen a word to the board, which then has its Trip, or hands it back.
+// Gives a handle that has seen a word to the board, which then has its Trip, or hands it back. An exchange that was left alone
+// keeps its own.
 fn note_word<A: App, L: Listener, C: Clock>(
     board: &mut BoardOf<A, LentBy<A>, L, C>,
-    handle: Shutdown<A::Reason>,
+    handle: Option<Shutdown<A::Reason>>,
 ) -> Option<Shutdown<A::Reason>>
 where
     L::Link: Link<Source = A::Source>,
     requires keeps { Keeps L.Link.meaning L.meaning C.meaning (cause_of A.Reason.allowed A.Fairing.Shuts.calling A.Fairing.Requests.calling A.Fairing.Responses.calling A.Handler.calling A.Catch.calling A.Source.meaning A.Stream.meaning L.Link.meaning) board.old }
-    requires wire { handle.wire ≡ board.old.name.handle.value.wire }
+    requires wire { IfSome handle (λ h. h.wire ≡ board.old.name.handle.value.wire) }
     requires unclosed { list_any is_close (events board.old.book.marks.items) ≡ false }
     ensures name { board.new.name ≡ board.old.name }
-    ensures unseen { IfSome result (λ back. (back ≡ handle) × (back.seen ≡ 0)) }
-    ensures trip { IfNone result (ShowsTrip (Some handle.seen) (events board.new.book.marks.items)) }
+    ensures unseen { IfSome result (λ back. (handle ≡ Some back) × (back.seen ≡ 0)) }
+    ensures trip { IfNone result (IfSome handle (λ h. ShowsTrip (Some h.seen) (events board.new.book.marks.items))) }
     ensures adds { TripsAs 0 board.old.book.marks.items board.new.book.marks.items }
     ensures stays { StaysOpen L.Link.meaning board.old.book.marks.items board.new.book.marks.items }
     ensures clock { TellsOn (C.meaning board.old.near.clock) (C.meaning board.new.near.clock) }
     ensures keeps { Keeps L.Link.meaning L.meaning C.meaning (cause_of A.Reason.allowed A.Fairing.Shuts.calling A.Fairing.Requests.calling A.Fairing.Responses.calling A.Handler.calling A.Catch.calling A.Source.meaning A.Stream.meaning L.Link.meaning) board.new }
 {
+    let handle = handle?;
     if handle.seen() == 0 {
         return Some(handle);
     }

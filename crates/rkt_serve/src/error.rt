@@ -28,7 +28,7 @@ pub enum ErrorKindOf<M, L, C> {
         listener: L,
         clock: C,
     },
-    /// The listener failed. What was begun is closed and handed back.
+    /// The listener failed, or an exchange was abandoned. What was begun is closed and handed back.
     Shutdown(M),
     /// There was no memory. What was begun is closed and handed back; it is lost only where nothing was begun.
     NoMemory {

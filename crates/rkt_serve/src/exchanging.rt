@@ -1,8 +1,8 @@
 //! One exchange, from what a link asks to its end.
-ghost use Rattle.std.specs.Prelude.{◌≡◌, ◌<◌, ◌+◌, false, IfErr, IfOk, IsSome};
+ghost use Rattle.std.specs.Prelude.{◌≡◌, ◌<◌, ◌+◌, ◌↔◌, ℕ, Some, false, IfErr, IfOk, IfSome, IsNone, IsSome, IsTrue, MatchOption};
 ghost use Rattle.std.specs.List.{list_any, All};
 ghost use Rattle.rkt_board.specs.Board.{Keeps};
-ghost use Rattle.rkt_board.specs.Events.{is_close};
+ghost use Rattle.rkt_board.specs.Events.{is_close, trip_of};
 ghost use Rattle.rkt_board.specs.Marks.{events};
 ghost use Rattle.rkt_board.specs.Turns.{TripsAs};
 ghost use Rattle.rkt_cancel.specs.Cancel.{Cancellable};
@@ -19,12 +19,13 @@ ghost use Rattle.rkt_link.specs.Clock.{IsAmid, TellsOn};
 ghost use Rattle.rkt_serve.specs.Lent.{cause_of};
 ghost use Rattle.rkt_serve.specs.Lifecycle.{Lifecycle};
 ghost use Rattle.rkt_serve.specs.Serving.{callbacks_with, gates_of};
+ghost use Rattle.rkt_serve.specs.Waiting.{IsLate, MayBePending};
 
 use crate::causes::LentBy;
 use crate::working::CALLER;
 use crate::{Clock, Link, Listener};
 use rkt_base::Poll;
-use rkt_board::{BoardOf, look};
+use rkt_board::{BoardOf, look, marked_trip};
 use rkt_data::{CancellableIo, Data, Gate};
 use rkt_life::{App, Ended, EndedOf, Exchange, Tables};
 use rkt_request::{Head, Request};
@@ -96,14 +97,43 @@ where
     gate_with(moment, grace, mercy)
 }
 
-// Polls an exchange to its end, each time under the Gate of the next moment. Before each poll it looks at the wire.
+// At this moment the grace and the mercy of a Trip are over.
+fn is_late(trip: Option<(u64, u64)>, moment: u64, grace: u32, mercy: u32) -> bool
+    ensures { IsTrue result ↔ IsLate grace mercy trip moment }
+{
+    match trip {
+        Some((_, at)) => moment.saturating_sub(at) > u64::from(grace) + u64::from(mercy),
+        None => false,
+    }
+}
+
+// The Trip of a board, which is looked for once where there is one.
+fn known_trip<A: App, L: Listener, C: Clock>(
+    board: &BoardOf<A, LentBy<A>, L, C>,
+    known: Option<(u64, u64)>,
+) -> Option<(u64, u64)>
+where
+    L::Link: Link<Source = A::Source>,
+    requires keeps { Keeps L.Link.meaning L.meaning C.meaning (cause_of A.Reason.allowed A.Fairing.Shuts.calling A.Fairing.Requests.calling A.Fairing.Responses.calling A.Handler.calling A.Catch.calling A.Source.meaning A.Stream.meaning L.Link.meaning) board.now }
+    requires known { (trip : ℕ × ℕ) → known ≡ Some trip → trip_of (events board.now.book.marks.items) ≡ Some trip }
+    ensures { result ≡ trip_of (events board.now.book.marks.items) }
+{
+    match known {
+        Some(trip) => Some(trip),
+        None if board.book.tripped => marked_trip(board.book.marks.as_slice()),
+        None => None,
+    }
+}
+
+// Polls an exchange to its end, each time under the Gate of the next moment. Before each poll it looks at the wire. One that
+// still waits when the grace and the mercy of a Trip are over is left alone.
 fn to_end<A: App, R: Wait, L: Listener, C: Clock>(
     rt: &R,
     exchange: &mut Exchange<'_, A>,
     grace: u32,
     mercy: u32,
     board: &mut BoardOf<A, LentBy<A>, L, C>,
-) -> Ended<A>
+) -> Option<Ended<A>>
 where
     L::Link: Link<Source = A::Source>,
     requires going { IsSome exchange.old.phase }
@@ -113,24 +143,31 @@ where
     // Whatever rule all Gates fit that it may be polled under.
     ensures ends { (rule : GateRule) (first : Beginning A.Value (Body (Cancellable A.Source)) A.Cached) → AllFit rule grace mercy (C.meaning board.old.near.clock) (C.meaning board.new.near.clock)
         → StandsFor (callbacks_with A.Source.meaning A.Fairing.Requests.calling A.Fairing.Responses.calling A.Handler.calling A.Catch.calling rule) first exchange.old.tables exchange.old.phase
-        → EndsSo (callbacks_with A.Source.meaning A.Fairing.Requests.calling A.Fairing.Responses.calling A.Handler.calling A.Catch.calling rule) first exchange.old.tables result }
+        → MatchOption result (MayBePending (callbacks_with A.Source.meaning A.Fairing.Requests.calling A.Fairing.Responses.calling A.Handler.calling A.Catch.calling rule) A.Source.meaning exchange.old.tables)
+        (EndsSo (callbacks_with A.Source.meaning A.Fairing.Requests.calling A.Fairing.Responses.calling A.Handler.calling A.Catch.calling rule) first exchange.old.tables) }
+    ensures late { IsNone result → IsLate grace mercy (trip_of (events board.new.book.marks.items)) (C.meaning board.new.near.clock).last }
     ensures clock { TellsOn (C.meaning board.old.near.clock) (C.meaning board.new.near.clock) }
     ensures looked { board.old.near.handle.seen ≡ 0 → board.old.near.handle.looked < board.new.near.handle.looked }
     ensures adds { TripsAs 0 board.old.book.marks.items board.new.book.marks.items }
     ensures keeps { Keeps L.Link.meaning L.meaning C.meaning (cause_of A.Reason.allowed A.Fairing.Shuts.calling A.Fairing.Requests.calling A.Fairing.Responses.calling A.Handler.calling A.Catch.calling A.Source.meaning A.Stream.meaning L.Link.meaning) board.new }
 {
+    let mut trip = None;
     for _ in rt.forever() {
         let gate = next_gate::<A, L, C>(grace, mercy, board);
         match exchange.poll(gate) {
-            Poll::Ready(ended) => return ended,
+            Poll::Ready(ended) => return Some(ended),
             Poll::Pending => {}
+        }
+        trip = known_trip::<A, L, C>(board, trip);
+        if is_late(trip, gate.moment, grace, mercy) {
+            return None;
         }
     }
     unreachable!()
 }
 
-/// The exchange of what a head asks, with the body that a source gives. It begins at this moment. Before each poll of it the wire
-/// is looked at, which may enter a Trip.
+/// The exchange of what a head asks, with the body that a source gives, unless it still waits when the grace and the mercy of a
+/// Trip are over. It begins at this moment. Before each poll of it the wire is looked at, which may enter a Trip.
 pub(crate) fn run_exchange<A: App, R: Wait, L: Listener, C: Clock>(
     rt: &R,
     alloc: Global,
@@ -140,18 +177,20 @@ pub(crate) fn run_exchange<A: App, R: Wait, L: Listener, C: Clock>(
     shutdown: Shutdown<A::Reason>,
     moment: u64,
     board: &mut BoardOf<A, LentBy<A>, L, C>,
-) -> Ended<A>
+) -> Option<Ended<A>>
 where
     L::Link: Link<Source = A::Source>,
     requires keeps { Keeps L.Link.meaning L.meaning C.meaning (cause_of A.Reason.allowed A.Fairing.Shuts.calling A.Fairing.Requests.calling A.Fairing.Responses.calling A.Handler.calling A.Catch.calling A.Source.meaning A.Stream.meaning L.Link.meaning) board.old }
     requires unclosed { list_any is_close (events board.old.book.marks.items) ≡ false }
     ensures name { board.new.name ≡ board.old.name }
     ensures lifecycle { (asked : Asked) → asked.head ≡ head.now → IsUntouched (A.Source.meaning source) → GivesBody asked (A.Source.meaning source)
-        → IfFinished result (Lifecycle (callbacks_with A.Source.meaning A.Fairing.Requests.calling A.Fairing.Responses.calling A.Handler.calling A.Catch.calling (gates_of (C.meaning board.old.near.clock).window tables.now)) tables.now A.Source.meaning asked) }
-    ensures moment { IfFinished result (λ run response. IsAmid (C.meaning board.old.near.clock) (C.meaning board.new.near.clock) run.moment) }
-    ensures handle { HandsBack shutdown (handle_of result) }
+        → IfSome result (λ ended. IfFinished ended (Lifecycle (callbacks_with A.Source.meaning A.Fairing.Requests.calling A.Fairing.Responses.calling A.Handler.calling A.Catch.calling (gates_of (C.meaning board.old.near.clock).window tables.now)) tables.now A.Source.meaning asked)) }
+    ensures waits { IsNone result → MayBePending (callbacks_with A.Source.meaning A.Fairing.Requests.calling A.Fairing.Responses.calling A.Handler.calling A.Catch.calling (gates_of (C.meaning board.old.near.clock).window tables.now)) A.Source.meaning tables.now }
+    ensures late { IsNone result → IsLate tables.now.config.grace tables.now.config.mercy (trip_of (events board.new.book.marks.items)) (C.meaning board.new.near.clock).last }
+    ensures moment { IfSome result (λ ended. IfFinished ended (λ run response. IsAmid (C.meaning board.old.near.clock) (C.meaning board.new.near.clock) run.moment)) }
+    ensures handle { IfSome result (λ ended. HandsBack shutdown (handle_of ended)) }
     // A word that a call of the run recorded is the one that the handle has seen which comes back.
-    ensures words { IfFinished result (λ run response. All (Sees (handle_of result)) run.calls) }
+    ensures words { IfSome result (λ ended. IfFinished ended (λ run response. All (Sees (handle_of ended)) run.calls)) }
     ensures clock { TellsOn (C.meaning board.old.near.clock) (C.meaning board.new.near.clock) }
     ensures adds { TripsAs 0 board.old.book.marks.items board.new.book.marks.items }
     ensures keeps { Keeps L.Link.meaning L.meaning C.meaning (cause_of A.Reason.allowed A.Fairing.Shuts.calling A.Fairing.Requests.calling A.Fairing.Responses.calling A.Handler.calling A.Catch.calling A.Source.meaning A.Stream.meaning L.Link.meaning) board.new }
@@ -164,6 +203,6 @@ where
             drop(exchange);
             ended
         }
-        Err(shutdown) => EndedOf::Starved { shutdown },
+        Err(shutdown) => Some(EndedOf::Starved { shutdown }),
     }
 }

@@ -21,8 +21,10 @@ pub trait Gates {
         ensures leads { leads self.old self.new }
         ensures gate { IsGateOf (watched self.new) result };
 
+    /// One that was not asked is as it was.
     ghost stays: { (g : Self) → leads g g };
 
+    /// What it becomes behind what it became, it may have become.
     ghost goes_on: { (f g h : Self) → keeps h → leads f g → leads g h → leads f h };
 
     /// Its moments never fall, and a Trip stays.

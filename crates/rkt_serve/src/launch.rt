@@ -12,15 +12,16 @@ ghost use Rattle.rkt_turn.specs.Shutdown.{Handle, fresh};
 ghost use Rattle.rkt_serve.specs.Causes.{AllCaused};
 ghost use Rattle.rkt_board.specs.Board.{IsBlank};
 ghost use Rattle.rkt_board.specs.Closed.{AllAdmitted};
-ghost use Rattle.rkt_board.specs.Events.{is_trip, admitted, trip_of, Ordered, IsClosed, EachEndsOnce};
+ghost use Rattle.rkt_board.specs.Events.{is_abandoned, is_trip, admitted, trip_of, Ordered, IsClosed, EachEndsOnce};
 ghost use Rattle.rkt_serve.specs.Headline.{GoesOn, HasEntry, AllTimed, IsCallers, IsLegal, IsOver};
-ghost use Rattle.rkt_serve.specs.Kept.{GivesBack, IfKept, IfShutdown, IfUnlit, IfWanting, IsLit, IsWant};
+ghost use Rattle.rkt_serve.specs.Kept.{GivesBack, IfKept, IfShutdown, IfUnlit, IfWanting, IsLit};
 ghost use Rattle.rkt_serve.specs.Left.{IsLeft};
 ghost use Rattle.rkt_serve.specs.Lifted.{IsLifted, LiftsOff, view_of};
 ghost use Rattle.rkt_orbit.specs.Lifts.{Lifts};
 ghost use Rattle.rkt_orbit.specs.declared.called.Called.{Called};
 ghost use Rattle.rkt_link.specs.Listener.{IsFresh, Settled};
 ghost use Rattle.rkt_serve.specs.Serving.{serving};
+ghost use Rattle.rkt_serve.specs.Waiting.{MayAbandon};
 
 use crate::caller::serve_to_close;
 use crate::orbit::lift_tables;
@@ -75,6 +76,7 @@ pub trait Launch<A: App>: Sized {
         ensures closed { IfOk result (λ l. IsClosed l.history.events) }
         ensures ended { IfOk result (λ l. IsOver (L.meaning l.listener) l.history.events) }
         ensures sound { IfOk result (λ l. (L.meaning l.listener).faults ≡ 0) }
+        ensures none_abandoned { IfOk result (λ l. list_any is_abandoned l.history.events ≡ false) }
         ensures requests { IfOk result (λ l. AllAdmitted (L.meaning l.listener).given l.history.events) }
         // What the listener says of itself is as it was.
         ensures settled { IfOk result (λ l. Settled (L.meaning listener) (L.meaning l.listener)) }
@@ -94,17 +96,20 @@ pub trait Launch<A: App>: Sized {
         ensures kept_legal { IfErr result (λ e. IfKept e (λ l.
             IsLegal A.Reason.allowed A.Fairing.Shuts.calling (serving A.Fairing.Requests.calling A.Fairing.Responses.calling A.Handler.calling A.Catch.calling A.Source.meaning A.Stream.meaning L.Link.meaning (C.meaning clock).window) l.rocket.tables (L.meaning l.listener).given l.history.events)) }
         ensures kept_sound { IfErr result (λ e. IfWanting e (λ l. (L.meaning l.listener).faults ≡ 0)) }
+        ensures kept_none_abandoned { IfErr result (λ e. IfWanting e (λ l. list_any is_abandoned l.history.events ≡ false)) }
         ensures kept_settled { IfErr result (λ e. IfKept e (λ l. Settled (L.meaning listener) (L.meaning l.listener))) }
         // What is kept for want of memory has come neither to the listener's end nor to a Trip.
         ensures kept_goes_on { IfErr result (λ e. IfWanting e (λ l. GoesOn (L.meaning l.listener) l.history.events)) }
         ensures kept_word { IfErr result (λ e. IfKept e (λ l. ForSome (trip_of l.history.events) (λ trip. l.rocket.handle.seen ≡ trip.0))) }
         ensures kept_still { IfErr result (λ e. IfKept e (λ l. 0 < seen self → admitted l.history.events ≡ 0)) }
         ensures kept_window { IfErr result (λ e. IfKept e (λ l. (C.meaning l.clock).window ≡ (C.meaning clock).window)) }
-        // It fails only where it does not ignite, where its listener has failed, or for want of memory.
+        // It fails only where it does not ignite, where its listener has failed or an exchange was abandoned, or for want of memory.
         ensures refused { IfErr result (λ e. IfUnlit e (λ fault. refuses self fault)) }
-        ensures shutdown { IfErr result (λ e. IfShutdown e (λ l. 0 < (L.meaning l.listener).faults)) }
+        ensures shutdown { IfErr result (λ e. IfShutdown e (λ l. (0 < (L.meaning l.listener).faults) ⊎ (list_any is_abandoned l.history.events ≡ true))) }
         ensures outside { IfErr result (λ e. GivesBack listener clock e) }
-        ensures complete { valid self → (L.meaning listener).never_faults ≡ true → IfErr result (λ e. IsWant e) };
+        // Where no exchange can be abandoned, that leaves want of memory alone.
+        ensures complete { valid self → (L.meaning listener).never_faults ≡ true → IfErr result (λ e. IsLit e × IfShutdown e (λ l.
+            MayAbandon A.Reason.allowed (serving A.Fairing.Requests.calling A.Fairing.Responses.calling A.Handler.calling A.Catch.calling A.Source.meaning A.Stream.meaning L.Link.meaning (C.meaning clock).window) l.rocket.tables)) };
 }
 
 // What a launch has before its Lift: room for what happens, the handle of the exchanges, and how the calls at liftoff ended.
@@ -166,6 +171,15 @@ fn is_over<C, S, K>(over: bool, history: &HistoryOf<C, S, K>) -> bool
     over || history.trip().is_some()
 }
 
+// The listener has failed, or an exchange was abandoned.
+fn has_failed<C, S, K>(faulted: bool, history: &HistoryOf<C, S, K>) -> bool
+    ensures failed { IsTrue result → (faulted ≡ true) ⊎ (list_any is_abandoned history.now.events ≡ true) }
+    ensures sound { result ≡ false → faulted ≡ false }
+    ensures none_abandoned { result ≡ false → list_any is_abandoned history.now.events ≡ false }
+{
+    faulted || history.abandoned()
+}
+
 // What a launch answers that is closed.
 fn answered<A: App, L: Listener, C: Clock>(
     tables: Tables<A>,
@@ -175,12 +189,13 @@ fn answered<A: App, L: Listener, C: Clock>(
     ensures ok { IfOk result (IsLeft tables table closed) }
     ensures over { IfOk result (λ l. (closed.over ≡ true) ⊎ (list_any is_trip closed.history.events ≡ true)) }
     ensures sound { IfOk result (λ l. closed.faulted ≡ false) }
+    ensures none_abandoned { IfOk result (λ l. list_any is_abandoned closed.history.events ≡ false) }
     ensures kept { IfErr result (λ e. IfKept e (IsLeft tables table closed)) }
     ensures kept_sound { IfErr result (λ e. IfWanting e (λ l. closed.faulted ≡ false)) }
+    ensures kept_none_abandoned { IfErr result (λ e. IfWanting e (λ l. list_any is_abandoned closed.history.events ≡ false)) }
     ensures kept_goes_on { IfErr result (λ e. IfWanting e (λ l. (closed.over ≡ false) × (list_any is_trip closed.history.events ≡ false))) }
-    ensures shutdown { IfErr result (λ e. IfShutdown e (λ l. closed.faulted ≡ true)) }
+    ensures shutdown { IfErr result (λ e. IfShutdown e (λ l. (closed.faulted ≡ true) ⊎ (list_any is_abandoned closed.history.events ≡ true))) }
     ensures lit { IfErr result (λ e. IsLit e) }
-    ensures want { closed.faulted ≡ false → IfErr result (λ e. IsWant e) }
 {
     let ClosedOf {
         listener,
@@ -191,13 +206,14 @@ fn answered<A: App, L: Listener, C: Clock>(
         history,
     } = closed;
     let over = is_over(over, &history);
+    let failed = has_failed(faulted, &history);
     let launched = LaunchedOf {
         rocket: Rocket::<Orbit, A>::from_parts(tables, table, handle).into_ignite(),
         listener,
         clock,
         history,
     };
-    if faulted {
+    if failed {
         return Err(Error::new(ErrorKindOf::Shutdown(launched)));
     }
     if over {

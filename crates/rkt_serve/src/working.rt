@@ -1,5 +1,5 @@
 //! What serves a link: one exchange with it, and the sending of its response.
-ghost use Rattle.std.specs.Prelude.{◌≡◌, ℕ, [], Option, None, Some, false};
+ghost use Rattle.std.specs.Prelude.{◌≡◌, ◌≢◌, ℕ, [], Option, None, Some, false, IfSome, IsSomeAnd};
 ghost use Rattle.std.specs.List.{list_any, All};
 ghost use Rattle.std.specs.Option.{ForSome};
 ghost use Rattle.rkt_routing.specs.Backs.{Sees};
@@ -8,6 +8,7 @@ ghost use Rattle.rkt_board.specs.Board.{Keeps};
 ghost use Rattle.rkt_board.specs.Events.{is_close, trip_of};
 ghost use Rattle.rkt_board.specs.Marks.{events};
 ghost use Rattle.rkt_board.specs.Turns.{TripsAs};
+ghost use Rattle.rkt_board.specs.declared.history.End.TheVariants.{Abandoned};
 ghost use Rattle.rkt_serve.specs.Causes.{Caused};
 ghost use Rattle.rkt_link.specs.Clock.{IsAmid, TellsOn};
 ghost use Rattle.rkt_serve.specs.Gates.{IsCutBy, word_in};
@@ -17,6 +18,7 @@ ghost use Rattle.rkt_serve.specs.Lifecycle.{Lifecycle};
 ghost use Rattle.rkt_serve.specs.Looking.{watched_by};
 ghost use Rattle.rkt_link.specs.Link.{IsFreshLink};
 ghost use Rattle.rkt_serve.specs.Serving.{serving, callbacks_of};
+ghost use Rattle.rkt_serve.specs.Waiting.{IsLate};
 
 use crate::causes::LentBy;
 use crate::exchanging::run_exchange;
@@ -41,15 +43,15 @@ pub(crate) struct Worker<'a, A: App, R> {
     pub(crate) tables: &'a Tables<A>,
 }
 
-// What is kept of an exchange for which there was no memory.
-fn starved<C, S, K>(link: CancellableIo<K>) -> EntryOf<C, S, K>
-    ensures { result ≡ record { link = link; run = None; response = None; end = End.Starved } }
+// What is kept of an exchange that came to no response.
+fn unanswered<C, S, K>(link: CancellableIo<K>, end: End) -> EntryOf<C, S, K>
+    ensures { result ≡ record { link = link; run = None; response = None; end = end } }
 {
     EntryOf {
         link,
         run: None,
         response: None,
-        end: End::Starved,
+        end,
     }
 }
 
@@ -82,6 +84,7 @@ where
         → ForSome (L.Link.meaning link).asked (λ asked. Lifecycle (callbacks_of (serving A.Fairing.Requests.calling A.Fairing.Responses.calling A.Handler.calling A.Catch.calling A.Source.meaning A.Stream.meaning L.Link.meaning window) tables) tables A.Source.meaning asked run response)
         → Caused (serving A.Fairing.Requests.calling A.Fairing.Responses.calling A.Handler.calling A.Catch.calling A.Source.meaning A.Stream.meaning L.Link.meaning window) tables (word_in (trip_of (events board.new.book.marks.items))) result }
     ensures cut { IsCutBy (watched_by C.meaning board.new) result.end }
+    ensures ended { result.end ≢ Abandoned }
     ensures moment { ForSome result.run (λ kept. kept.moment ≡ run.moment) }
     ensures calls { ForSome result.run (λ kept. kept.calls ≡ run.calls) }
     ensures clock { TellsOn (C.meaning board.old.near.clock) (C.meaning board.new.near.clock) }
@@ -93,13 +96,13 @@ where
         rt, alloc, board, &mut io, response, turns,
     );
     let Ok(ended) = sent else {
-        return starved(io);
+        return unanswered(io, End::Starved);
     };
     let Ok(run) = Boxed::new(alloc, run) else {
-        return starved(io);
+        return unanswered(io, End::Starved);
     };
     let Ok(response) = Boxed::new(alloc, response) else {
-        return starved(io);
+        return unanswered(io, End::Starved);
     };
     EntryOf {
         link: io,
@@ -110,15 +113,15 @@ where
 }
 
 impl<'a, A: App, R: Wait> Worker<'a, A, R> {
-    // One exchange from a moment on, kept with its end, and the handle that it was given. A link that is fresh has its
-    // source.
+    // One exchange from a moment on, kept with its end, and the handle that it was given, which one that is abandoned keeps.
+    // A link that is fresh has its source.
     pub(crate) fn serve<L: Listener, C: Clock>(
         &self,
         mut link: L::Link,
         shutdown: Shutdown<A::Reason>,
         moment: u64,
         board: &mut BoardOf<A, LentBy<A>, L, C>,
-    ) -> (Entry<A, L::Link>, Shutdown<A::Reason>)
+    ) -> (Entry<A, L::Link>, Option<Shutdown<A::Reason>>)
     where
         L::Link: Link<Source = A::Source>,
         requires keeps { Keeps L.Link.meaning L.meaning C.meaning (cause_of A.Reason.allowed A.Fairing.Shuts.calling A.Fairing.Requests.calling A.Fairing.Responses.calling A.Handler.calling A.Catch.calling A.Source.meaning A.Stream.meaning L.Link.meaning) board.old }
@@ -130,14 +133,18 @@ impl<'a, A: App, R: Wait> Worker<'a, A, R> {
             → Caused (serving A.Fairing.Requests.calling A.Fairing.Responses.calling A.Handler.calling A.Catch.calling A.Source.meaning A.Stream.meaning L.Link.meaning (C.meaning board.old.near.clock).window) self.now.tables.now (word_in (trip_of (events board.new.book.marks.items))) result.0 }
         ensures cut { IsCutBy (watched_by C.meaning board.new) result.0.end }
         ensures moment { ForSome result.0.run (λ run. IsAmid (C.meaning board.old.near.clock) (C.meaning board.new.near.clock) run.moment) }
-        ensures words { ForSome result.0.run (λ run. All (Sees result.1) run.calls) }
-        ensures handle { HandsBack shutdown result.1 }
+        ensures late { result.0.end ≡ Abandoned → IsLate self.now.tables.now.config.grace self.now.tables.now.config.mercy (trip_of (events board.new.book.marks.items)) (C.meaning board.new.near.clock).last }
+        ensures words { ForSome result.0.run (λ run. IsSomeAnd result.1 (λ handle. All (Sees handle) run.calls)) }
+        ensures handle { IfSome result.1 (HandsBack shutdown) }
         ensures clock { TellsOn (C.meaning board.old.near.clock) (C.meaning board.new.near.clock) }
         ensures adds { TripsAs 0 board.old.book.marks.items board.new.book.marks.items }
         ensures keeps { Keeps L.Link.meaning L.meaning C.meaning (cause_of A.Reason.allowed A.Fairing.Shuts.calling A.Fairing.Requests.calling A.Fairing.Responses.calling A.Handler.calling A.Catch.calling A.Source.meaning A.Stream.meaning L.Link.meaning) board.new }
     {
         let Some(source) = link.take_source() else {
-            return (starved(CancellableIo::new(link)), shutdown);
+            return (
+                unanswered(CancellableIo::new(link), End::Starved),
+                Some(shutdown),
+            );
         };
         let ended = run_exchange::<A, R, L, C>(
             self.rt,
@@ -149,6 +156,9 @@ impl<'a, A: App, R: Wait> Worker<'a, A, R> {
             moment,
             board,
         );
+        let Some(ended) = ended else {
+            return (unanswered(CancellableIo::new(link), End::Abandoned), None);
+        };
         match ended {
             EndedOf::Finished {
                 run,
@@ -159,9 +169,12 @@ impl<'a, A: App, R: Wait> Worker<'a, A, R> {
                 let entry = answer::<A, R, L, C>(
                     self.rt, self.alloc, board, link, run, response, turns,
                 );
-                (entry, shutdown)
+                (entry, Some(shutdown))
             }
-            EndedOf::Starved { shutdown } => (starved(CancellableIo::new(link)), shutdown),
+            EndedOf::Starved { shutdown } => (
+                unanswered(CancellableIo::new(link), End::Starved),
+                Some(shutdown),
+            ),
         }
     }
 }

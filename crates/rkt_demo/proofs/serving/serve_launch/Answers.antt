@@ -17,7 +17,7 @@ returns-in-Ok-clause-serves g c table sampled =
     let given = given_front c.in_ok-listener.listener c.in-Ok.launched.listener (map asked_for c.args.requests.items) launched.settled c.in_ok-listener.ensures.offers in
     rw c.into_served.ensures.history
     (launched_serves laws word window table c.in-Ok.launched.rocket.tables sample (listener_meaning c.in-Ok.launched.listener).given c.in-Ok.launched.listener.given c.in-Ok.launched.history.events c.args.requests.items given
-    launched.requests launched.moments launched.entries (trip_told _ _ word word window c.in-Ok.launched.rocket.tables g.met.Q.StopReason.alone [] c.in-Ok.launched.history.events launched.caused launched.ordered))
+    launched.requests launched.moments launched.entries (trip_told _ _ word word window c.in-Ok.launched.rocket.tables g.met.Q.StopReason.alone [] c.in-Ok.launched.history.events launched.caused launched.ordered) launched.none_abandoned)
 
 pub returns-in-Ok-clause-all : goal.returns-in-Ok-clause-all
 returns-in-Ok-clause-all g c none =

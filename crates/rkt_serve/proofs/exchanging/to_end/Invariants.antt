@@ -1,10 +1,12 @@
-use Rattle.std.specs.Prelude.{◌≡◌, IsSome}
+use Rattle.std.specs.Prelude.{◌≡◌, ℕ, Some, IsSome}
 use Rattle.rkt_cancel.specs.Cancel.{Cancellable}
 use Rattle.rkt_data.specs.Body.{Body}
 use Rattle.rkt_lifecycle.specs.Stands.{StandsFor}
 use Rattle.rkt_router.specs.Calls.{GateRule}
 use Rattle.rkt_routing.specs.Beginning.{Beginning}
 use Rattle.rkt_board.specs.Board.{Keeps}
+use Rattle.rkt_board.specs.Events.{trip_of}
+use Rattle.rkt_board.specs.Marks.{events}
 use Rattle.rkt_board.specs.Turns.{TripsAs}
 use Rattle.rkt_serve.specs.Begun.{AllFit}
 use Rattle.rkt_serve.specs.Lent.{cause_of}
@@ -27,3 +29,4 @@ invariant-loop g l =
     × (l.board.name ≡ l.initial.board.name)
     × TripsAs 0 l.initial.board.book.marks.items l.board.book.marks.items
     × (l.initial.board.near.handle.seen ≡ 0 → Looks l.initial.board.near.handle l.board.near.handle)
+    × ((trip : ℕ × ℕ) → l.trip ≡ Some trip → trip_of (events l.board.book.marks.items) ≡ Some trip)

@@ -17,3 +17,6 @@ returns-then-over-clause-ok g c =
 
 pub returns-then-over-clause-over : goal.returns-then-over-clause-over
 returns-then-over-clause-over g c = c.is_over-over.ensures.found c.if-over.true
+
+pub returns-then-failed-clause-shutdown : goal.returns-then-failed-clause-shutdown
+returns-then-failed-clause-shutdown g c = rw c.new.ensures (c.has_failed-failed.ensures.failed c.if-failed.true)

@@ -3,7 +3,7 @@ use Rattle.rkt_link.specs.Link.{LinkMeaning, with_taken}
 use Rattle.rkt_serve.proofs.Pieces.{with_taken-nil, with_taken-with_taken}
 use Rattle.rkt_serve.proofs.BodyReads.{reads_none}
 use Rattle.rkt_serve.proofs.Cutting.{reads_both}
-use Rattle.rkt_serve.proofs.Sendings.{sent_nothing, sent_front, sent_more, sent_all}
+use Rattle.rkt_serve.proofs.Sendings.{sent_nothing, sent_more, sent_all}
 use Rattle.rkt_serve.proofs.sending.put_all.Goals as goal
 
 pub loop-init : goal.loop-init

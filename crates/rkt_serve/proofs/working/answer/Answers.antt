@@ -1,6 +1,7 @@
 use Rattle.std.proofs.Common.{ℕ, max, ap, refl, subst, sym, ◌∙◌}
 use Rattle.rkt_serve.proofs.Cutting.{adds_trip, cut_off_by}
 use Rattle.rkt_serve.proofs.Pieces.{caused_sent}
+use Rattle.rkt_serve.specs.Gates.{IsCutOff}
 use Rattle.rkt_serve.specs.Looking.{watched_by}
 use Rattle.rkt_serve.specs.Sent.{IsSentAs, LeftBy}
 use Rattle.rkt_serve.specs.Serving.{serving}
@@ -32,3 +33,6 @@ returns-in_default-new-2-clause-adds g c = adds_trip c.args.board.now.book.marks
 
 pub returns-clause-adds : goal.returns-clause-adds
 returns-clause-adds g c = adds_trip c.args.board.now.book.marks.items c.send-response.new.gates.book.marks.items c.send-response.ensures.leads.adds c.send-response.ensures.keeps.keeps.legal.ordered
+
+pub returns-clause-ended : goal.returns-clause-ended
+returns-clause-ended g c is = subst (IsCutOff (watched_by g.C.Clock.meaning c.send-response.new.gates) _) is (rw c.in-Ok.is at c.send-response.ensures.cut)

@@ -4,7 +4,8 @@ use Rattle.rkt_board.proofs.Core.{tripped_word}
 use Rattle.rkt_board.specs.Events.{trip_of}
 use Rattle.rkt_serve.specs.Serving.{serving}
 use Rattle.rkt_serve.proofs.Lifting.{lifted_off}
-use Rattle.rkt_serve.proofs.Launching.{back_to, if_both, left_back, left_goes_on, left_legal, left_offers, left_over, left_failed, left_settled, left_sound, left_still, left_window, left_word, never_failed, same_wire, unlit_lit, gives_lit}
+use Rattle.rkt_serve.proofs.Launching.{back_to, if_both, left_abandoned, left_back, left_goes_on, left_legal, left_offers, left_over, left_none_abandoned, left_settled, left_shut, left_sound, left_still, left_window, left_word, never_failed, same_wire, unlit_lit, gives_lit}
+use Rattle.rkt_serve.proofs.Abandoning.{lit_and}
 use Rattle.rkt_serve.proofs.Lighting.{if_kept, if_shutdown, if_wanting}
 use Rattle.rkt_serve.proofs.launch.RocketIgniteLaunch.launch.Goals as goal
 
@@ -37,7 +38,9 @@ returns g c =
       kept_handle = IfErr-weaker c.answered.result _ _ (if_kept _ _ (λ l is. back_to c.args.self.handle c.into_parts-tables.result.2 c.begin.new.handle closed.handle l.rocket.handle same c.in-Ok.ensures.handle known.handle is.handle)) kept;
       sound = if_both c.answered.result _ _ _ (λ l is none. left_sound tables table closed l is g.L.Listener.meaning (g.L.Listener.meaning c.args.listener) known.sound none c.requires.fresh.no_fault) ok c.answered.ensures.sound;
       kept_sound = if_wanting _ _ _ (λ l is none. left_sound tables table closed l is g.L.Listener.meaning (g.L.Listener.meaning c.args.listener) known.sound none c.requires.fresh.no_fault) c.answered.result kept c.answered.ensures.kept_sound;
-      shutdown = if_shutdown _ _ _ (λ l is failed. left_failed tables table closed l is g.L.Listener.meaning (g.L.Listener.meaning c.args.listener) known.sound failed) c.answered.result kept c.answered.ensures.shutdown;
+      none_abandoned = if_both c.answered.result _ _ _ (λ l is none. left_none_abandoned tables table closed l is none) ok c.answered.ensures.none_abandoned;
+      kept_none_abandoned = if_wanting _ _ _ (λ l is none. left_none_abandoned tables table closed l is none) c.answered.result kept c.answered.ensures.kept_none_abandoned;
+      shutdown = if_shutdown _ _ _ (λ l is failed. left_shut tables table closed l is g.L.Listener.meaning (g.L.Listener.meaning c.args.listener) known.sound failed) c.answered.result kept c.answered.ensures.shutdown;
       settled = IfOk-weaker c.answered.result _ _ (λ l is. left_settled tables table closed l is g.L.Listener.meaning (g.L.Listener.meaning c.args.listener) known.settled) ok;
       kept_settled = IfErr-weaker c.answered.result _ _ (if_kept _ _ (λ l is. left_settled tables table closed l is g.L.Listener.meaning (g.L.Listener.meaning c.args.listener) known.settled)) kept;
       window = IfOk-weaker c.answered.result _ _ (λ l is. left_window tables table closed l is g.C.Clock.meaning (g.C.Clock.meaning c.args.clock) known.clock) ok;
@@ -60,5 +63,6 @@ returns g c =
       offers = if_both c.answered.result _ _ _ (λ l is over. left_offers tables table closed l is g.L.Listener.meaning (g.L.Listener.meaning c.args.listener).offers known.offers over) ok c.answered.ensures.over;
       refused = IfErr-weaker c.answered.result _ _ (λ e lit. unlit_lit _ e lit) c.answered.ensures.lit;
       outside = IfErr-weaker c.answered.result _ _ (λ e lit. gives_lit c.args.listener c.args.clock e lit) c.answered.ensures.lit;
-      complete = λ valid never. c.answered.ensures.want (never_failed closed.faulted (g.L.Listener.meaning c.args.listener) (g.L.Listener.meaning closed.listener) known.sound never);
+      complete = λ valid never. lit_and _ c.answered.result c.answered.ensures.lit (if_shutdown _ _ _ (λ l is failed. left_abandoned g.A.Reason.Reason.allowed g.A.Fairing.Shuts.ShutdownCallback.calling (serving g.A-Fairing-Requests-RequestCallback.calling g.A.Fairing.Responses.ResponseCallback.calling g.A-Handler-Handler.calling g.A.Catch.CatchHandler.calling g.A.Source.Source.meaning g.A.Stream.Source.meaning g.L.Link.Link.meaning (g.C.Clock.meaning c.args.clock).window) tables table closed l is
+          (never_failed closed.faulted (g.L.Listener.meaning c.args.listener) (g.L.Listener.meaning closed.listener) known.sound never) known.legal.caused known.legal.timed failed) c.answered.result kept c.answered.ensures.shutdown);
     }

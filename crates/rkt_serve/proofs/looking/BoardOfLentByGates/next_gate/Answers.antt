@@ -1,4 +1,4 @@
-use Rattle.std.proofs.Common.{◌≤◌, ℕ, Option, sym, subst, refl, arith}
+use Rattle.std.proofs.Common.{ℕ, Option, sym, subst, refl, arith}
 use Rattle.rkt_link.specs.Clock.{IsWithin}
 use Rattle.rkt_board.specs.Marks.{events}
 use Rattle.rkt_serve.proofs.Cutting.{gate_shown, trips_added}

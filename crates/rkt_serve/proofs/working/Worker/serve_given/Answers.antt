@@ -5,17 +5,17 @@ use Rattle.rkt_board.specs.Board.{IsCutWithin}
 use Rattle.rkt_board.specs.Events.{trip_of}
 use Rattle.rkt_board.specs.Marks.{events}
 use Rattle.rkt_board.specs.Turns.{IsOpen}
-use Rattle.rkt_serve.proofs.Boards.{saw_trip, until_later}
-use Rattle.rkt_serve.proofs.Cutting.{caused_wider, cut_behind, cut_within, trips_stay, word_still}
+use Rattle.rkt_serve.proofs.Boards.{saw_trip, still_back, until_later, wire_back}
+use Rattle.rkt_serve.proofs.Cutting.{caused_wider, due_behind, cut_within, trips_stay, word_still}
 use Rattle.rkt_serve.proofs.Meanwhile.{still_unclosed, trips_then}
-use Rattle.rkt_serve.specs.Causes.{Caused}
+use Rattle.rkt_serve.specs.Causes.{Caused, IsDueBehind}
 use Rattle.rkt_serve.specs.Gates.{word_in}
 use Rattle.rkt_serve.specs.Looking.{watched_by}
 use Rattle.rkt_serve.specs.Serving.{serving}
 use Rattle.rkt_serve.proofs.working.Worker.serve_given.Goals as goal
 
 pub note_word-back-requires-clause-wire : goal.note_word-back-requires-clause-wire
-note_word-back-requires-clause-wire g c = c.serve-entry.ensures.handle.wire ∙ (c.requires.wire ∙ sym (ap (λ n. n.handle.value.wire) c.serve-entry.ensures.name))
+note_word-back-requires-clause-wire g c = wire_back c.serve-entry.result.1 c.args.shutdown c.serve-entry.new.board.name.handle.value c.serve-entry.ensures.handle (c.requires.wire ∙ sym (ap (λ n. n.handle.value.wire) c.serve-entry.ensures.name))
 
 pub note_word-back-requires-clause-unclosed : goal.note_word-back-requires-clause-unclosed
 note_word-back-requires-clause-unclosed g c = still_unclosed 0 c.args.board.now.book.marks.items c.serve-entry.new.board.book.marks.items c.serve-entry.ensures.adds c.requires.unclosed
@@ -55,7 +55,9 @@ end-requires-clause-caused g c moment late =
           (subst (λ (w : Option (ℕ × ℕ)). Caused (serves w) c.args.self.now.tables.now seen c.serve-entry.result.0) c.requires.keeps.holds.clock.window
           (caused_wider (serves (g.C.Clock.meaning c.args.board.now.near.clock).window) c.args.self.now.tables.now (word_in (trip_of (events mid))) seen (word_still 0 mid last c.note_word-back.ensures.adds) c.serve-entry.result.0 c.serve-entry.result.0.end
           (served.caused c.requires.given.fresh)))),
-      cut_behind (watched_by g.C.Clock.meaning c.serve-entry.new.board) (events last) moment c.serve-entry.result.0.end (trips_stay 0 mid last c.note_word-back.ensures.adds) (omega (arith, late, c.note_word-back.ensures.clock.rises)) served.cut,
+      subst (λ n. IsDueBehind n.served.tables.value (events last) moment c.serve-entry.result.0.end) (sym (c.note_word-back.ensures.name ∙ served.name))
+          (subst (λ tables. IsDueBehind tables (events last) moment c.serve-entry.result.0.end) (sym c.requires.lent.tables)
+          (due_behind c.args.self.now.tables.now (watched_by g.C.Clock.meaning c.serve-entry.new.board) (events last) moment c.serve-entry.result.0.end (trips_stay 0 mid last c.note_word-back.ensures.adds) (omega (arith, late, c.note_word-back.ensures.clock.rises)) served.cut served.late)),
       λ run is. saw_trip c.note_word-back.result c.serve-entry.result.1 (events last) run.calls c.note_word-back.ensures.unseen c.note_word-back.ensures.trip (served.words run is),
     )
 
@@ -63,3 +65,6 @@ pub returns-clause-adds : goal.returns-clause-adds
 returns-clause-adds g c =
     let trips = trips_then 0 c.args.board.now.book.marks.items c.serve-entry.new.board.book.marks.items c.note_word-back.new.board.book.marks.items c.note_word-back.ensures.keeps.legal.ordered c.serve-entry.ensures.adds c.note_word-back.ensures.adds in
     (c.serve-entry.result.0, c.end.ensures.adds.0, c.note_word-back.new.board.book.marks.items, trips, c.end.ensures.adds.1)
+
+pub returns-clause-handle : goal.returns-clause-handle
+returns-clause-handle g c = still_back c.note_word-back.result c.serve-entry.result.1 c.args.shutdown c.note_word-back.ensures.unseen c.serve-entry.ensures.handle
