@@ -1,5 +1,6 @@
 use crate::error::CaseError;
 use crate::events::events;
+use crate::fails::fails;
 use crate::running::{Run, outcome, sink, summary};
 use crate::words::{first_word, numbers, script, words};
 use rkt_data::MemorySource;
@@ -68,6 +69,7 @@ pub fn answer<R: Wait + Threads>(rt: &R, alloc: Global, line: &str) -> Result<St
     match (command, rest.parse::<u32>()) {
         ("run", _) => run_case(rt, alloc, rest),
         ("events", _) => events(rt, alloc, rest),
+        ("fails", _) => fails(rt, alloc, rest),
         ("long", Ok(count)) => long_case(rt, alloc, count as usize),
         _ => Err(CaseError::Line),
     }

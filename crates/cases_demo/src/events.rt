@@ -48,7 +48,8 @@ fn history_text(alloc: Global, history: &SampleHistory) -> Result<String, AllocE
     Ok(out)
 }
 
-fn requests(alloc: Global, text: &str) -> Result<Vec<ScriptRequest>, CaseError> {
+/// The requests of a script.
+pub fn requests(alloc: Global, text: &str) -> Result<Vec<ScriptRequest>, CaseError> {
     let script = script(alloc, text)?;
     match parse_script(alloc, script.as_bytes()) {
         Ok(requests) => Ok(requests),

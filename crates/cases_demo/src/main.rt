@@ -8,15 +8,23 @@
 //!                                     and how many bytes were written
 //!     events SCRIPT                   the sample is launched once, over the reason of a handler, with the requests of
 //!                                     the script: the events, with how the callbacks of liftoff and shutdown ended
+//!     fails LINK SENDS READS POLLS SCRIPT
+//!                                     the same launch, in which these sends to the link of this number and these reads of
+//!                                     its body fail, and these polls of the listener (all from 0): what the launch
+//!                                     answers, and for each entry its end, and how many pieces its link holds and which
 //!
-//! WORDS are parted by commas, READS and WRITES are numbers parted by commas, each or `-` for none. In a script, `\n` is
-//! a line feed and `\r` a carriage return. A read gives four bytes at most, and a write takes seven at most.
+//! WORDS are parted by commas; READS, WRITES, SENDS and POLLS are numbers parted by commas; each or `-` for none. In a
+//! script, `\n` is a line feed and `\r` a carriage return. A read gives four bytes at most, and a write takes seven at most.
 #![tactic(auto)]
 
 mod answer;
 mod error;
 mod events;
+mod fails;
+mod pieces;
 mod running;
+mod sourced_link;
+mod sourced_listener;
 mod trickle;
 mod words;
 

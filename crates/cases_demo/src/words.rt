@@ -10,11 +10,17 @@ pub fn first_word(line: &str) -> (&str, &str) {
     }
 }
 
-fn push_number(numbers: &mut Vec<u64>, text: &str) -> Result<(), CaseError> {
+/// The number that a text says.
+pub fn number(text: &str) -> Result<u64, CaseError> {
     match text.parse::<u64>() {
-        Ok(number) => Ok(numbers.push(number)?),
+        Ok(number) => Ok(number),
         Err(_) => Err(CaseError::Line),
     }
+}
+
+fn push_number(numbers: &mut Vec<u64>, text: &str) -> Result<(), CaseError> {
+    let number = number(text)?;
+    Ok(numbers.push(number)?)
 }
 
 /// The numbers of `N,N,..`, or none where the text is `-`.
