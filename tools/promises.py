@@ -19,7 +19,7 @@ def rows(page):
     """The cells of each promise, with the line that it stands in."""
     for number, line in enumerate(page.read_text().splitlines(), 1):
         cells = [cell.strip() for cell in line.strip().strip("|").split("|")]
-        if len(cells) == 4 and re.fullmatch(r"`rkt_[a-z]+`", cells[1]):
+        if len(cells) == 4 and re.fullmatch(r"`[a-z]+_[a-z]+`", cells[1]):
             yield number, cells[1].strip("`"), cells[2].strip("`"), re.findall(r"`([^`]+)`", cells[3])
 
 
