@@ -120,8 +120,8 @@ pub record Exhausts {S : Type 0} (meaning : S → Meaning) (s t : Sending S) : T
 abbrev pub GivesUp : {S : Type 0} → (S → Meaning) → Sending S → Sending S → Type 0
 GivesUp meaning s t = ((e : SourceError) × StreamErrs meaning e s.response.body.content t.response.body.content) ⊎ Exhausts meaning s t
 
--- the source of the body was asked once, under this Gate, and the poll tells its answer: so many bytes as are in a chunk, none at
--- the end, and of a fault of the body a refusal or Pending; a head is formed without it
+-- the source of the body was asked once, under this Gate, and this was its answer: as many bytes as a chunk has, none at the end,
+-- Pending, and of a fault of the body Pending or a refusal; for a head, a bad one and want of memory it was not asked
 abbrev pub PieceByGate : {S : Type 0} → (S → Gate → Poll (Result ℕ SourceError) → S → Type 0) → Gate → Poll (Result Piece PieceError) → Content S → Content S → Type 0
 PieceByGate polled gate Pending c d = Asked polled gate Pending c d
 PieceByGate polled gate (Ready (Ok (Head status headers))) c d = LeftAlone c d
