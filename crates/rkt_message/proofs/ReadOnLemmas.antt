@@ -6,27 +6,38 @@ use Rattle.rkt_base.specs.declared.poll.Poll.{Poll}
 use Rattle.rkt_base.specs.declared.poll.Poll.TheVariants.{Ready}
 use Rattle.rkt_source.specs.declared.source.Gate.{Gate}
 use Rattle.rkt_source.specs.declared.source.SourceError.{SourceError}
-use Rattle.rkt_message.specs.Reading.{Follows, ReadsOn, StreamWaits, Takes}
+use Rattle.rkt_message.specs.Reading.{Follows, LeftAlone, ReadsOn, StreamWaits, Takes}
 use Rattle.rkt_message.specs.Response.{ResponseOf}
 use Rattle.rkt_message.specs.Sending.{Answers, HasWaited, IsSending, PieceByGate, ReadOn, ReadsOnUnder, Sending}
 use Rattle.rkt_message.specs.declared.content.Content.{Content}
 use Rattle.rkt_message.specs.declared.content.Content.TheVariants as content
 use Rattle.rkt_message.specs.declared.piece.Piece.{Piece}
+use Rattle.rkt_message.specs.declared.piece.Piece.TheVariants.{Head, Chunk, End}
 use Rattle.rkt_message.specs.declared.piece.PieceError.{PieceError}
 use Rattle.rkt_message.specs.declared.piece.PieceError.TheVariants as error
 use Rattle.rkt_message.specs.declared.stage.Stage.TheVariants as stage
-use Rattle.rkt_message.proofs.Readings.{ByGate-refl, ReadsOn-refl, ReadsOn-trans}
+use Rattle.rkt_message.proofs.Readings.{ReadsOn-refl, ReadsOn-trans}
 
 -- a response that is left alone is read on
 pub reads_nothing : {S : Type 0} (meaning : S → Meaning) (trip : Option ℕ) (p : ResponseOf S) → ReadsOnUnder meaning trip p p
 reads_nothing meaning trip p = record { status = refl; headers = refl; body = record { content = ReadsOn-refl meaning trip p.body.content; chunk = refl }; size = inl refl }
 
+-- the source of a body that is as it was
+pub left_alone : {S : Type 0} (c : Content S) → LeftAlone c c
+left_alone content.None = tt
+left_alone content.UnsizedNone = tt
+left_alone (content.Sized rest size) = tt
+left_alone (content.Phantom length size) = tt
+left_alone (content.Streamed s) = refl
+
 -- the head is formed without a read of the body
 pub head_asks : {S : Type 0} (meaning : S → Meaning) (polled : S → Gate → Poll (Result ℕ SourceError) → S → Type 0) (gate : Gate) (s t : Sending S) (answer : Result Piece PieceError) (c : Content S) → s.stage ≡ stage.Head → Answers meaning s t (Ready answer) → PieceByGate polled gate (Ready answer) c c
-head_asks meaning polled gate s t (Ok piece) c at h = ByGate-refl polled gate c
-head_asks meaning polled gate s t (Err error.BadHead) c at h = ByGate-refl polled gate c
+head_asks meaning polled gate s t (Ok (Head status headers)) c at h = left_alone c
+head_asks meaning polled gate s t (Ok (Chunk bytes)) c at h = absurd (h.head.1 at)
+head_asks meaning polled gate s t (Ok End) c at h = absurd (h.head.1 at)
+head_asks meaning polled gate s t (Err error.BadHead) c at h = left_alone c
 head_asks meaning polled gate s t (Err error.BodyFault) c at h = absurd (cc (h.0))
-head_asks meaning polled gate s t (Err error.NoMemory) c at h = ByGate-refl polled gate c
+head_asks meaning polled gate s t (Err error.NoMemory) c at h = left_alone c
 
 pub takes_nothing : {S : Type 0} (meaning : S → Meaning) (c : Content S) → Takes meaning c c 0
 takes_nothing meaning content.None = tt

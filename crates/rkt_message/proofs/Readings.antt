@@ -56,7 +56,7 @@ left_of-resized meaning (content.Sized rest size) z = refl
 left_of-resized meaning (content.Phantom length size) z = refl
 left_of-resized meaning (content.Streamed s) z = refl
 
-pub ByGate-refl : {S : Type 0} (polled : S → Gate → Poll (Result ℕ SourceError) → S → Type 0) (gate : Gate) (c : Content S) → ByGate polled gate (Ready (Ok tt)) c c
+ByGate-refl : {S : Type 0} (polled : S → Gate → Poll (Result ℕ SourceError) → S → Type 0) (gate : Gate) (c : Content S) → ByGate polled gate (Ready (Ok tt)) c c
 ByGate-refl polled gate content.None = tt
 ByGate-refl polled gate content.UnsizedNone = tt
 ByGate-refl polled gate (content.Sized rest size) = tt

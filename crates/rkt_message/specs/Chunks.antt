@@ -1,9 +1,10 @@
 -- How a chunk of a body is read.
 use Rattle.std.specs.Option.{ForSome}
-use Rattle.std.specs.Prelude.{◌≡◌, ⊤, ◌≤◌, ◌++◌, ℕ, List, [], length, min, Some, Ok, Err}
+use Rattle.std.specs.Prelude.{◌≡◌, ⊤, ◌<◌, ◌≤◌, ◌++◌, ℕ, List, [], length, min, Some, Result, Ok, Err}
+use Rattle.rkt_base.specs.declared.poll.Poll.{Poll}
 use Rattle.rkt_base.specs.declared.poll.Poll.TheVariants.{Ready, Pending}
-use Rattle.rkt_data.specs.Tap.{Ending}
 use Rattle.rkt_source.specs.Source.{Meaning}
+use Rattle.rkt_source.specs.declared.source.SourceError.{SourceError}
 use Rattle.rkt_message.specs.Body.{BodyOf, left_of}
 use Rattle.rkt_message.specs.Reading.{StreamErrs, StreamWaits, Takes}
 use Rattle.rkt_message.specs.Sent.{IsChunk, IsFull}
@@ -16,9 +17,10 @@ use Rattle.rkt_message.specs.declared.chunk.ChunkRead.TheVariants as chunk_read
 abbrev pub IsAtEnd : {S : Type 0} → (S → Meaning) → BodyOf S → Type 0
 IsAtEnd meaning body = ForSome (left_of meaning body.content) (λ left. left ≡ [])
 
--- there is room for all bytes of a body, as far as a chunk may hold them
+-- there is room for all bytes of a body, as far as a chunk may hold them, and for some of a source
 abbrev pub FillsRoom : {S : Type 0} → Content S → ℕ → ℕ → Type 0
 FillsRoom (content.Sized rest size) most room = room ≡ min (length rest) most
+FillsRoom (content.Streamed s) most room = 0 < room
 FillsRoom _ most room = ⊤
 
 -- this much room is no more than a chunk may hold, and there is none only where nothing is left
@@ -38,9 +40,9 @@ ReadsChunk meaning a b chunk_read.End = IsAtEnd meaning a × Takes meaning a.con
 ReadsChunk meaning a b chunk_read.Waiting = StreamWaits meaning a.content b.content × (left_of meaning b.content ≡ left_of meaning a.content) × Takes meaning a.content b.content 0
 ReadsChunk meaning a b (chunk_read.Refused e) = StreamErrs meaning e a.content b.content
 
--- how the read has ended then
-abbrev pub chunk_end : ChunkRead → Ending
-chunk_end (chunk_read.Bytes bytes) = Ready (Ok tt)
-chunk_end chunk_read.End = Ready (Ok tt)
-chunk_end chunk_read.Waiting = Pending
-chunk_end (chunk_read.Refused e) = Ready (Err e)
+-- what the read was answered then
+abbrev pub chunk_answer : ChunkRead → Poll (Result ℕ SourceError)
+chunk_answer (chunk_read.Bytes bytes) = Ready (Ok (length bytes))
+chunk_answer chunk_read.End = Ready (Ok 0)
+chunk_answer chunk_read.Waiting = Pending
+chunk_answer (chunk_read.Refused e) = Ready (Err e)

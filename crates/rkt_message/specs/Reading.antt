@@ -30,6 +30,16 @@ abbrev pub ByGate : {S : Type 0} → (S → Gate → Poll (Result ℕ SourceErro
 ByGate polled gate how (content.Streamed s) (content.Streamed t) = PollsTo polled gate how s t
 ByGate polled gate how _ _ = ⊤
 
+-- its source, where it has one, was asked once, under this Gate, and answered so
+abbrev pub Asked : {S : Type 0} → (S → Gate → Poll (Result ℕ SourceError) → S → Type 0) → Gate → Poll (Result ℕ SourceError) → Content S → Content S → Type 0
+Asked polled gate answer (content.Streamed s) d = (t : _) × (d ≡ content.Streamed t) × polled s gate answer t
+Asked polled gate answer _ d = ⊤
+
+-- its source, where it has one, was not asked
+abbrev pub LeftAlone : {S : Type 0} → Content S → Content S → Type 0
+LeftAlone (content.Streamed s) d = d ≡ content.Streamed s
+LeftAlone _ d = ⊤
+
 -- it has a source, which was Pending
 abbrev pub StreamWaits : {S : Type 0} → (S → Meaning) → Content S → Content S → Type 0
 StreamWaits meaning (content.Streamed s) (content.Streamed t) = Waits (meaning s) (meaning t)

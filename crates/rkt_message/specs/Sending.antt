@@ -6,7 +6,7 @@ use Rattle.rkt_source.specs.Source.{Meaning}
 use Rattle.rkt_source.specs.declared.source.SourceError.{SourceError}
 use Rattle.rkt_message.specs.Body.{BodyOf, preset_of, size_of}
 use Rattle.rkt_source.specs.declared.source.Gate.{Gate}
-use Rattle.rkt_message.specs.Reading.{ByGate, Follows, StreamErrs, StreamWaits, Takes}
+use Rattle.rkt_message.specs.Reading.{Asked, Follows, LeftAlone, StreamErrs, StreamWaits, Takes}
 use Rattle.rkt_message.specs.Response.{ResponseOf}
 use Rattle.rkt_message.specs.Sent.{IsFull, Sent, SentBody, has_head}
 use Rattle.rkt_message.specs.declared.content.Content.{Content}
@@ -120,14 +120,16 @@ pub record Exhausts {S : Type 0} (meaning : S → Meaning) (s t : Sending S) : T
 abbrev pub GivesUp : {S : Type 0} → (S → Meaning) → Sending S → Sending S → Type 0
 GivesUp meaning s t = ((e : SourceError) × StreamErrs meaning e s.response.body.content t.response.body.content) ⊎ Exhausts meaning s t
 
--- the source of the body was called under this Gate alone: of a fault of the body its last read was refused or Pending, and of
--- a piece none was
+-- the source of the body was asked once, under this Gate, and this was its answer: as many bytes as a chunk has, none at the end,
+-- Pending, and of a fault of the body Pending or a refusal; for a head, a bad one and want of memory it was not asked
 abbrev pub PieceByGate : {S : Type 0} → (S → Gate → Poll (Result ℕ SourceError) → S → Type 0) → Gate → Poll (Result Piece PieceError) → Content S → Content S → Type 0
-PieceByGate polled gate Pending c d = ByGate polled gate Pending c d
-PieceByGate polled gate (Ready (Ok piece)) c d = ByGate polled gate (Ready (Ok tt)) c d
-PieceByGate polled gate (Ready (Err error.BadHead)) c d = ByGate polled gate (Ready (Ok tt)) c d
-PieceByGate polled gate (Ready (Err error.BodyFault)) c d = ByGate polled gate Pending c d ⊎ ((e : SourceError) × ByGate polled gate (Ready (Err e)) c d)
-PieceByGate polled gate (Ready (Err error.NoMemory)) c d = ByGate polled gate (Ready (Ok tt)) c d
+PieceByGate polled gate Pending c d = Asked polled gate Pending c d
+PieceByGate polled gate (Ready (Ok (Head status headers))) c d = LeftAlone c d
+PieceByGate polled gate (Ready (Ok (Chunk bytes))) c d = Asked polled gate (Ready (Ok (length bytes))) c d
+PieceByGate polled gate (Ready (Ok End)) c d = Asked polled gate (Ready (Ok 0)) c d
+PieceByGate polled gate (Ready (Err error.BadHead)) c d = LeftAlone c d
+PieceByGate polled gate (Ready (Err error.BodyFault)) c d = Asked polled gate Pending c d ⊎ ((e : SourceError) × Asked polled gate (Ready (Err e)) c d)
+PieceByGate polled gate (Ready (Err error.NoMemory)) c d = LeftAlone c d
 
 -- what a poll answers
 abbrev pub Answers : {S : Type 0} → (S → Meaning) → Sending S → Sending S → Poll (Result Piece PieceError) → Type 0

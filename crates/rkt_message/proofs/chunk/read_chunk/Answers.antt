@@ -26,19 +26,3 @@ returns-clause-reads g c =
           rw w.result-is read.0
       | in-Pending w ↦ rw w.result-is w.in-Pending.ensures.answer
     ])
-
-pub returns-clause-by_gate : goal.returns-clause-by_gate
-returns-clause-by_gate g c =
-    let body : c.response.inside.body ≡ c.args.response.now.body = ap (λ r. r.body) c.response.view_is in
-    rw (← body) (elim c.match-poll_read.branch [
-      | in-Ready-Ok-eq0 w ↦
-          let asks = rw w.in-Ready-Ok-eq0.field-0-is at w.in-Ready-Ok-eq0.ensures.by_gate in
-          rw w.result-is asks
-      | in-Ready-Ok w ↦
-          let asks = rw w.in-Ready-Ok.field-0-is at w.in-Ready-Ok.ensures.by_gate in
-          rw w.result-is asks
-      | in-Ready-Err w ↦
-          let asks = rw w.in-Ready-Err.field-0-is at w.in-Ready-Err.ensures.by_gate in
-          rw w.result-is asks
-      | in-Pending w ↦ rw w.result-is w.in-Pending.ensures.by_gate
-    ])

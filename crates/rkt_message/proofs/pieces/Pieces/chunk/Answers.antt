@@ -5,8 +5,7 @@ use Rattle.rkt_message.specs.Reading.{Follows}
 use Rattle.rkt_message.specs.Response.{ResponseOf}
 use Rattle.rkt_message.specs.Sending.{ReadsOnUnder}
 use Rattle.rkt_message.specs.declared.stage.Stage.TheVariants as stage
-use Rattle.rkt_message.proofs.ReadOnLemmas.{never_waited, reads_more, sends_on, waited_more, waited_still}
-use Rattle.rkt_message.proofs.Readings.{ByGate-refl}
+use Rattle.rkt_message.proofs.ReadOnLemmas.{left_alone, never_waited, reads_more, sends_on, waited_more, waited_still}
 use Rattle.rkt_message.proofs.SendingLemmas.{gives_chunk, takes_full}
 use Rattle.rkt_message.proofs.pieces.Pieces.chunk.Goals as goal
 
@@ -14,7 +13,7 @@ reads_under : {S : Type 0} (meaning : S → Meaning) (trip : Option ℕ) (p q : 
 reads_under meaning trip p q status headers follows preset = record { status = status; headers = headers; body = follows; size = inl preset }
 
 pub returns-in-Err-clause-by_gate : goal.returns-in-Err-clause-by_gate
-returns-in-Err-clause-by_gate g c = rw (c.in-Err.ensures.err, ← c.self.view_is) (ByGate-refl _ _ _)
+returns-in-Err-clause-by_gate g c = rw (c.in-Err.ensures.err, ← c.self.view_is) (left_alone _)
 
 pub returns-in-Bytes-clause-by_gate : goal.returns-in-Bytes-clause-by_gate
 returns-in-Bytes-clause-by_gate g c = let asks = rw c.in-Bytes.is at c.in-Ok.ensures.by_gate in rw (← c.self.view_is) asks
