@@ -68,6 +68,8 @@ fn begin<'a, A: App>(
         return Err(shutdown);
     };
     let Ok(body) = Data::from_source(alloc, CancellableIo::new(source)) else {
+        // By a call, in which that is proved once for its type.
+        drop(incoming);
         return Err(shutdown);
     };
     Ok(Exchange::new(alloc, tables, incoming, body, shutdown, gate))

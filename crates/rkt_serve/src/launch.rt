@@ -248,6 +248,10 @@ impl<A: App> Launch<A> for Rocket<Ignite, A> {
     {
         let (mut tables, table, mut handle) = self.into_orbit().into_parts();
         let Ok(begun) = begin::<A, L::Link>(alloc, &mut tables, &mut handle) else {
+            // By calls, in which that is proved once for each type.
+            drop(tables);
+            drop(table);
+            drop(handle);
             return Err(Error::new(ErrorKindOf::NoMemory { kept: None }));
         };
         let Begun {

@@ -95,13 +95,18 @@ where
     let (response, sent) = send::<R, BoardOf<A, LentBy<A>, L, C>, L::Link, A::Stream>(
         rt, alloc, board, &mut io, response, turns,
     );
+    // What is let go is by a call, in which that is proved once for its type.
     let Ok(ended) = sent else {
+        drop(run);
+        drop(response);
         return unanswered(io, End::Starved);
     };
     let Ok(run) = Boxed::new(alloc, run) else {
+        drop(response);
         return unanswered(io, End::Starved);
     };
     let Ok(response) = Boxed::new(alloc, response) else {
+        drop(run);
         return unanswered(io, End::Starved);
     };
     EntryOf {
