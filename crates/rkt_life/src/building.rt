@@ -34,11 +34,17 @@ impl<A: App> RocketOf<AppBuilding<A>, A> {
     {
         let shield = Shield::default(alloc)?;
         let mut state = BuildingOf::new(alloc, table);
-        state.attach(Slot::Shield(shield))?;
-        Ok(RocketOf {
-            state,
-            app: PhantomData,
-        })
+        match state.attach(Slot::Shield(shield)) {
+            Ok(()) => Ok(RocketOf {
+                state,
+                app: PhantomData,
+            }),
+            Err(error) => {
+                // By a call, in which that is proved once for its type.
+                drop(state);
+                Err(error)
+            }
+        }
     }
 
     /// Takes another table in place of its own.

@@ -12,7 +12,7 @@ use rkt_lifecycle::Tables;
 use rkt_request::{Config, ConfigTable};
 use rkt_route::{Catcher, Route};
 use rkt_turn::{Shutdown, TripWire};
-use std::alloc::Global;
+use std::alloc::{AllocError, Global};
 use std::marker::{Model, PhantomData};
 
 /// An application A, in a phase in which its rocket is made of S.
@@ -109,7 +109,12 @@ impl<A: App> RocketOf<Igniting<A>, A> {
         ensures table { IfOk result (λ rocket. rocket.table ≡ table) }
         ensures fresh { IfOk result (λ rocket. rocket.handle ≡ fresh rocket.handle.wire) }
     {
-        let (_wire, handle) = TripWire::new(alloc)?;
+        let Ok((_wire, handle)) = TripWire::new(alloc) else {
+            // By calls, in which that is proved once for each type.
+            drop(tables);
+            drop(table);
+            return Err(AllocError);
+        };
         Ok(Rocket::<Orbit, A>::from_parts(tables, table, handle).into_ignite())
     }
 
