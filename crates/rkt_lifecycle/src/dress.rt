@@ -63,16 +63,15 @@ pub(crate) fn dress<T: Types>(
     ctx: &mut Ctx<T>,
     ident: &str,
     moment: u64,
-    mut response: Response<T::Stream>,
-) -> Result<Response<T::Stream>, NoMemory>
-    ensures response { IfOk result (λ r. r ≡ with_server ident.now (with_cookies response (pending_cookies ctx.old.kept moment))) }
-    ensures kept { IfOk result (λ r. ctx.new.kept ≡ settled ctx.old.kept) }
+    response: &mut Response<T::Stream>,
+) -> Result<(), NoMemory>
+    ensures response { OnOk result (response.new ≡ with_server ident.now (with_cookies response.old (pending_cookies ctx.old.kept moment))) }
+    ensures kept { OnOk result (ctx.new.kept ≡ settled ctx.old.kept) }
     ensures shutdown { ctx.new.kept.shutdown ≡ ctx.old.kept.shutdown }
 {
     let cookies = take_cookies(ctx, moment)?;
-    adjoin_cookies(alloc, &mut response, cookies.as_slice())?;
-    name_server(&mut response, ident)?;
-    Ok(response)
+    adjoin_cookies(alloc, response, cookies.as_slice())?;
+    name_server(response, ident)
 }
 
 fn remove_content<S: Source>(response: &mut Response<S>)

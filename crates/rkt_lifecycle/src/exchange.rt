@@ -167,13 +167,13 @@ fn dress_found<T: Types>(
     ident: &str,
     moment: u64,
     calls: Seq<Call>,
-    response: Response<T::Stream>,
+    mut response: Response<T::Stream>,
 ) -> Result<(Response<T::Stream>, Seq<Call>), NoMemory>
     ensures dressed { IfOk result (λ r. record { request = live.new.request; at = record { response = r.0; kept = live.new.ctx.kept } } ≡ dressed ident.now moment (found_of live.old response)) }
     ensures calls { IfOk result (λ r. r.1 ≡ calls ++ live.old.calls) }
     ensures shutdown { live.new.ctx.kept.shutdown ≡ live.old.ctx.kept.shutdown }
 {
-    let response = dress(alloc, &mut live.ctx, ident, moment, response)?;
+    dress(alloc, &mut live.ctx, ident, moment, &mut response)?;
     let between = mem::replace(&mut live.calls, Seq::new(alloc));
     let calls = joined(calls, between)?;
     Ok((response, calls))
