@@ -100,7 +100,10 @@ fn launched_with<R: Wait + Threads>(
 ) -> Result<Over, CaseError>
     requires { IsFresh (listener_meaning listener) }
 {
-    let (handle, other) = handles(&mut rocket)?;
+    let Ok((handle, other)) = handles(&mut rocket) else {
+        drop(rocket);
+        return Err(CaseError::NoMemory);
+    };
     let bell = Bell { listener, handle };
     let alarm = AlarmClock {
         clock,
@@ -112,21 +115,23 @@ fn launched_with<R: Wait + Threads>(
 
 fn links_left(over: Over) -> usize {
     let LaunchedOf {
-        rocket: _rocket,
+        rocket,
         listener,
-        clock: _clock,
-        history: _history,
+        clock,
+        history,
     } = over;
-    let Bell {
-        listener,
-        handle: _handle,
-    } = listener;
+    drop(rocket);
+    drop(clock);
+    drop(history);
+    let Bell { listener, handle } = listener;
+    drop(handle);
     count_links(listener)
 }
 
 fn over_text(alloc: Global, over: Over) -> Result<String, CaseError> {
-    let events = events_text(alloc, &over.history)?;
-    Ok(format!(in alloc; "{events}; {} links left", links_left(over))?)
+    let events = events_text(alloc, &over.history);
+    let left = links_left(over);
+    Ok(format!(in alloc; "{}; {left} links left", events?)?)
 }
 
 /// The events of a launch of `MOMENT MOMENTS POLLS LINK | LINK ..`, and how many links are left.

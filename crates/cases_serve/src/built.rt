@@ -104,10 +104,14 @@ fn kind_text(
 fn listener_back(kind: ErrorKind<Site, ListListener, ListClock>) -> Option<ListListener> {
     match kind {
         ErrorKindOf::Ignition {
-            fault: _fault,
+            fault,
             listener,
-            clock: _clock,
-        } => Some(listener),
+            clock,
+        } => {
+            drop(fault);
+            drop(clock);
+            Some(listener)
+        }
         ErrorKindOf::Shutdown(launched) => {
             drop(launched);
             None
@@ -151,7 +155,11 @@ pub fn ignite<R: Wait + Threads>(
     text: &str,
 ) -> Result<String, CaseError> {
     match launched_by(rt, alloc, setting, text)? {
-        Ok(over) => Ok(over_text(alloc, &over)?),
+        Ok(over) => {
+            let text = over_text(alloc, &over);
+            drop(over);
+            Ok(text?)
+        }
         Err(error) => unlit(alloc, error.kind()),
     }
 }
@@ -164,7 +172,10 @@ pub fn told<R: Wait + Threads>(
     text: &str,
 ) -> Result<String, CaseError> {
     match launched_by(rt, alloc, setting, text)? {
-        Ok(_) => Ok(String::from_str(alloc, "launched")?),
+        Ok(over) => {
+            drop(over);
+            Ok(String::from_str(alloc, "launched")?)
+        }
         Err(error) => Ok(String::from_str(alloc, error.pretty_print())?),
     }
 }

@@ -142,7 +142,9 @@ pub fn exchange(alloc: Global, setting: &Setting, text: &str) -> Result<String, 
     let moment = number(moment)?;
     let head = head_of(alloc, setting, asked)?;
     let mut rocket = rocket(alloc, setting.routes.as_slice())?;
-    exchanged(alloc, &mut rocket, &head, moment)
+    let text = exchanged(alloc, &mut rocket, &head, moment);
+    drop(rocket);
+    text
 }
 
 /// How many routes a rocket has that was taken apart and put together, and whether it has a managed value.
@@ -152,5 +154,6 @@ pub fn parted(alloc: Global, setting: &Setting) -> Result<String, CaseError> {
     let rocket = Rocket::<Orbit, Site>::from_parts(tables, table, handle);
     let routes = rocket.tables().router.routes().len();
     let managed = rocket.tables().managed.get(Key(0)).is_some();
+    drop(rocket);
     Ok(format!(in alloc; "{routes} routes, managed {managed}")?)
 }

@@ -86,7 +86,10 @@ pub fn refused<L: Listener, C: Clock>(error: Error<Site, L, C>) -> CaseError {
 fn failed(error: Error<Site, ListListener, ListClock>) -> Result<(Over, bool), CaseError> {
     match error.kind() {
         ErrorKindOf::Shutdown(over) => Ok((over, true)),
-        _ => Err(CaseError::NoMemory),
+        kind => {
+            drop(kind);
+            Err(CaseError::NoMemory)
+        }
     }
 }
 

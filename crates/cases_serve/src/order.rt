@@ -8,7 +8,7 @@ use crate::launch::{Over, listener, refused};
 use crate::setting::Setting;
 use crate::words::push_item;
 use rkt_life::{Ignite, Rocket};
-use rkt_serve::{Event, EventOf, History, Launch, ListClock, ListListener, MemoryLink};
+use rkt_serve::{Event, EventOf, History, Launch, LaunchedOf, ListClock, ListListener, MemoryLink};
 use std::alloc::{AllocError, Global};
 use std::sync::Wait;
 use std::thread::Threads;
@@ -60,6 +60,20 @@ fn launched<R: Wait + Threads>(
     }
 }
 
+/// The rocket that comes back.
+fn rocket_of(over: Over) -> Rocket<Ignite, Site> {
+    let LaunchedOf {
+        rocket,
+        listener,
+        clock,
+        history,
+    } = over;
+    drop(listener);
+    drop(clock);
+    drop(history);
+    rocket
+}
+
 /// Launches a rocket: what happened, and the rocket that comes back.
 fn launched_once<R: Wait + Threads>(
     rt: &R,
@@ -70,12 +84,32 @@ fn launched_once<R: Wait + Threads>(
     requires { IsFresh (listener_meaning listener) }
 {
     let over = launched(rt, alloc, rocket, listener)?;
-    let events = events_text(alloc, &over.history)?;
-    Ok((events, over.rocket))
+    match events_text(alloc, &over.history) {
+        Ok(events) => Ok((events, rocket_of(over))),
+        Err(_) => {
+            drop(over);
+            Err(CaseError::NoMemory)
+        }
+    }
 }
 
 fn both(alloc: Global, first: &str, again: &str) -> Result<String, CaseError> {
     Ok(format!(in alloc; "{first}; again {again}")?)
+}
+
+/// Launches a rocket: what happened.
+fn launched_last<R: Wait + Threads>(
+    rt: &R,
+    alloc: Global,
+    rocket: Rocket<Ignite, Site>,
+    listener: ListListener,
+) -> Result<String, CaseError>
+    requires { IsFresh (listener_meaning listener) }
+{
+    let over = launched(rt, alloc, rocket, listener)?;
+    let events = events_text(alloc, &over.history);
+    drop(over);
+    Ok(events?)
 }
 
 /// Launches a rocket, and then the one that comes back.
@@ -90,7 +124,7 @@ fn launched_twice<R: Wait + Threads>(
     requires again { IsFresh (listener_meaning again) }
 {
     let (first, rocket) = launched_once(rt, alloc, rocket, first)?;
-    let (again, _rocket) = launched_once(rt, alloc, rocket, again)?;
+    let again = launched_last(rt, alloc, rocket, again)?;
     both(alloc, first.as_str(), again.as_str())
 }
 

@@ -79,6 +79,20 @@ fn sent<R: Wait>(
     ended
 }
 
+fn send_over<R: Wait>(
+    rt: &R,
+    alloc: Global,
+    ticks: &mut Ticks,
+    link: &mut CancellableIo<MemoryLink>,
+    response: Response<MemorySource>,
+    turns: u32,
+) -> Result<String, CaseError>
+    requires { link.old.stage ≡ Stage.Active }
+{
+    let end = sent(rt, alloc, ticks, link, response, turns)?;
+    Ok(ended(alloc, end, link.kept())?)
+}
+
 fn send_body<R: Wait>(
     rt: &R,
     alloc: Global,
@@ -87,10 +101,12 @@ fn send_body<R: Wait>(
     turns: u32,
     source: MemorySource,
 ) -> Result<String, CaseError> {
-    let mut link = CancellableIo::new(link_with(alloc, setting, "GET /", "")?);
     let response = response(alloc, setting, source)?;
-    let end = sent(rt, alloc, &mut ticks, &mut link, response, turns)?;
-    Ok(ended(alloc, end, link.kept())?)
+    let link = link_with(alloc, setting, "GET /", "")?;
+    let mut link = CancellableIo::new(link);
+    let text = send_over(rt, alloc, &mut ticks, &mut link, response, turns);
+    drop(link);
+    text
 }
 
 /// The body of `CHUNK READS TEXT`.
