@@ -112,7 +112,10 @@ fn over_text<Q: StopReason>(
 fn failed_text<Q: StopReason>(alloc: Global, error: Refusal<Q>) -> Result<String, CaseError> {
     match error.kind() {
         ErrorKindOf::Shutdown(over) => over_text(alloc, "Shutdown", over),
-        _ => Err(CaseError::NoMemory),
+        kind => {
+            drop(kind);
+            Err(CaseError::NoMemory)
+        }
     }
 }
 
