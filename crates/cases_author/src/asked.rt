@@ -4,6 +4,7 @@ ghost use Rattle.std.specs.Prelude.{◌≡◌, IfOk, codes};
 use crate::author::{Depth, Hex, Loud, NoPoint, Point, Site, Stopped, Token};
 use crate::callbacks::Motto;
 use cases::{CaseError, plain, written};
+use rkt_answers::Answers;
 use rkt_base::{NoMemory, Poll, Want};
 use rkt_cookie::CookieJar;
 use rkt_data::{Data, Gate, MemorySource};
@@ -12,7 +13,6 @@ use rkt_request::{
     Body0, Config, Ctx, DataOutcome, FromData, Managed, Parsed, Request, TextError, Types,
 };
 use rkt_response::{Responder, Response};
-use rkt_router::Answers;
 use rkt_turn::TripWire;
 use std::alloc::Global;
 

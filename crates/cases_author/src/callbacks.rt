@@ -1,11 +1,11 @@
 //! Handlers and catchers as an author writes them who says nothing of them to the prover.
 use crate::author::{Point, Site, Token};
+use rkt_answers::{Answers, AnswersIf, AnswersWith, Catches, CatchesWith};
 use rkt_base::NoMemory;
 use rkt_cookie::Cookie;
 use rkt_http::{Outcome, Status};
 use rkt_life::{AnswersData, PlainText};
 use rkt_request::{Ctx, Parsed, Request, Types};
-use rkt_router::{Answers, AnswersIf, AnswersWith, Catches, CatchesWith};
 use std::alloc::Global;
 
 /// Greets who is named by the first segment, where there is one.

@@ -36,10 +36,10 @@ use crate::callbacks::{Greets, Motto, Notes, Says, Shows, Visits};
 use crate::called::{push_caught, push_handled, push_taken};
 use crate::question::{Callback, Question, parse_line};
 use cases::{Answers, CaseError, answer_lines_if_made, written};
+use rkt_answers::{Answering, AnsweringIf, AnsweringWith};
 use rkt_base::NoMemory;
 use rkt_http::Status;
 use rkt_request::{Ctx, Request};
-use rkt_router::{Answering, AnsweringIf, AnsweringWith};
 use std::alloc::Global;
 use std::io;
 

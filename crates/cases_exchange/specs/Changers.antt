@@ -2,7 +2,8 @@
 use Rattle.std.specs.Prelude.{◌≡◌, ℕ, ⊤}
 use Rattle.rkt_request.specs.Seen.{Seen}
 use Rattle.rkt_router.specs.Calling.{Calling}
-use Rattle.rkt_fairing.specs.Callbacks.{KeepsRequest, KeepsResponse, RequestAt, RequestGrows, ResponseAt}
+use Rattle.rkt_router.specs.Callbacks.{RequestAt}
+use Rattle.rkt_fairing.specs.Callbacks.{KeepsRequest, KeepsResponse, RequestGrows, ResponseAt}
 use Rattle.rkt_fairing.specs.Changes.{response_grows}
 use Rattle.cases_exchange.specs.declared.changer.Changer.{Changer}
 

@@ -2,6 +2,7 @@
 use crate::named::Named;
 use crate::site::{Site, Sorry, Stopped};
 use cases::{CaseError, first_word, parsed};
+use rkt_answers::Answering;
 use rkt_base::NoMemory;
 use rkt_fairing::{
     AdHoc, Attach, Building, BuildingOf, Callback, ChangesBuilding, OnIgnite, OnLiftoff,
@@ -9,7 +10,7 @@ use rkt_fairing::{
 };
 use rkt_http::Key;
 use rkt_request::{Config, ConfigTable, Managed};
-use rkt_router::{Answering, Dummy, Router, Step};
+use rkt_router::{Dummy, Router, Step};
 use rkt_turn::{Shutdown, TripWire};
 use std::alloc::{AllocError, Global};
 

@@ -1,10 +1,11 @@
 //! The application whose rocket ad hoc changes are made of.
+use rkt_answers::{Answering, Catches};
 use rkt_base::NoMemory;
 use rkt_data::MemorySource;
 use rkt_fairing::Parts;
 use rkt_http::Status;
 use rkt_request::{Request, Types};
-use rkt_router::{Answering, Catches, Dummy};
+use rkt_router::Dummy;
 use rkt_turn::Reason;
 use std::alloc::Global;
 

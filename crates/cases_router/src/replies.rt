@@ -1,12 +1,13 @@
 //! Answers of handlers and of catchers.
 use crate::words::status;
 use cases::{CaseError, first_word, written};
+use rkt_answers::{from, try_from};
 use rkt_base::NoMemory;
 use rkt_data::{Data, MemorySource};
 use rkt_http::{Outcome, Status};
 use rkt_request::{Body0, Ctx, Request};
 use rkt_response::Response;
-use rkt_router::route::{error, forward, from, try_from};
+use rkt_router::route::{error, forward};
 use rkt_router::{RouteOutcome, Step};
 use sample_app::Sample;
 use std::alloc::{AllocError, Global};

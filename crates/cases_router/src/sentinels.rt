@@ -5,7 +5,7 @@ use rkt_base::{NoMemory, Want};
 use rkt_http::Key;
 use rkt_request::{Config, Managed, State};
 use rkt_response::Debug;
-use rkt_router::{Aborts, Asks, Ignited, Sentinel};
+use rkt_sentinel::{Aborts, Asks, Ignited, Sentinel};
 use sample_app::Sample;
 use std::alloc::Global;
 

@@ -3,8 +3,8 @@ use Rattle.std.proofs.Common.{zero, suc, ◌≡◌, ◌<◌, ◌≤◌, ◌+◌,
 use Rattle.std.specs.List.{onto_first}
 use Rattle.std.proofs.lemmas.Bool.{cases_lt}
 use Rattle.std.proofs.lemmas.Grind.{common_steps}
-use Rattle.rkt_demo.specs.Script.{lines_of, content_of, add_line, AreGood, IsFirstBad}
-use Rattle.rkt_demo.specs.declared.script.ScriptRequest.{ScriptRequest}
+use Rattle.rkt_script.specs.Script.{lines_of, content_of, add_line, AreGood, IsFirstBad}
+use Rattle.rkt_script.specs.declared.script.ScriptRequest.{ScriptRequest}
 
 -- the first line of a text, and what is left of it in each front of the text
 record FirstLine (text : List ℕ) : Type 0 where

@@ -40,8 +40,8 @@ use Rattle.rkt_demo.specs.Entries.{ended_section}
 use Rattle.rkt_demo.specs.Launched.{ServesFront, told_of}
 use Rattle.rkt_demo.specs.Sample.{IsSample, SampleTables}
 use Rattle.rkt_demo.specs.Shown.{IsMade, IsSection, LeadsTo, asked_for, served_in}
-use Rattle.rkt_demo.specs.Words.{Table}
-use Rattle.rkt_demo.specs.declared.script.ScriptRequest.{ScriptRequest}
+use Rattle.rkt_script.specs.Words.{Table}
+use Rattle.rkt_script.specs.declared.script.ScriptRequest.{ScriptRequest}
 
 abbrev Kept : Type 0
 Kept = EntryOf ℕ SourceInMemory LinkInMemory

@@ -24,14 +24,14 @@ use Rattle.rkt_life.specs.declared.no_fairing.NoFairing.{NoFairing}
 use Rattle.rkt_route.specs.Collisions.{AreCollisions, CatchersCollide, CollidesAt, RoutesCollide}
 use Rattle.rkt_route.specs.declared.catcher.Catcher.{Catcher}
 use Rattle.rkt_route.specs.declared.route.Route.{Route}
-use Rattle.rkt_router.specs.Sentinels.{SeenIgnited}
+use Rattle.rkt_sentinel.specs.Sentinels.{SeenIgnited}
 use Rattle.rkt_sample.specs.Mounted.{sample_catchers, sample_routes}
 use Rattle.rkt_sample.specs.declared.catcher.SampleCatcher.{SampleCatcher}
 use Rattle.rkt_sample.specs.declared.route.SampleRoute.{SampleRoute}
 use Rattle.rkt_demo.proofs.Apart.{no_catchers_collide, no_routes_collide}
 use Rattle.rkt_demo.specs.Program.{IsAccepted}
 use Rattle.rkt_demo.specs.Sample.{IsSample, shield_alone}
-use Rattle.rkt_demo.specs.Words.{Table}
+use Rattle.rkt_script.specs.Words.{Table}
 
 abbrev pub Built : Type 0
 Built = SeenBuilding SampleRoute SampleCatcher (Unit {0}) ℕ NoFairing

@@ -2,18 +2,14 @@ pub mod Apart
 pub mod Choices
 pub mod Cookies
 pub mod Cuts
-pub mod Headers
 pub mod Histories
 pub mod Igniting
 pub mod Lifted
-pub mod Lines
 pub mod LivesOnce
 pub mod Mounting
-pub mod Offered
 pub mod Once
 pub mod Opened
 pub mod Places
-pub mod Requests
 pub mod RoutedOnce
 pub mod Runs
 pub mod SampleCalls
@@ -21,5 +17,3 @@ pub mod SectionsOnce
 pub mod Shielding
 pub mod Showing
 pub mod Stops
-pub mod StreamLemmas
-pub mod WordLemmas

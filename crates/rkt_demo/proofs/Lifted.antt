@@ -18,7 +18,7 @@ use Rattle.rkt_serve.specs.Lifted.{LiftsOff}
 use Rattle.rkt_shield.specs.Shield.{default_headers}
 use Rattle.rkt_turn.specs.Shutdown.{Handle}
 use Rattle.rkt_demo.specs.Sample.{IsSample, shield_alone}
-use Rattle.rkt_demo.specs.Words.{Table}
+use Rattle.rkt_script.specs.Words.{Table}
 
 module _ {Task : Type 0} (calling : CallingAtLiftoff SampleRoute SampleCatcher (Unit {0}) ℕ NoFairing Task) (view : SeenView SampleRoute SampleCatcher (Unit {0}) ℕ) (handle : Handle) where
   shield_left : (called : Called) (slot left : Slot NoFairing) (after : Handle) → Some (Shield default_headers) ≡ Some slot → CalledAtLiftoff calling view slot handle called left after → left ≡ Shield default_headers

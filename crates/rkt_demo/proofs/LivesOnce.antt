@@ -3,7 +3,7 @@ use Rattle.std.proofs.Common.{◌≡◌, ◌==◌, ◌||◌, ℕ, List, [], ◌�
 use Rattle.std.proofs.lemmas.Option.{same_Some}
 use Rattle.std.specs.Prelude.{unwrap_or}
 use Rattle.rkt_cookie.specs.Cookie.{Parts}
-use Rattle.rkt_fairing.specs.Callbacks.{RequestAt}
+use Rattle.rkt_router.specs.Callbacks.{RequestAt}
 use Rattle.rkt_fairing.specs.InSlot.{shielded}
 use Rattle.rkt_http.specs.Headers.{group_of}
 use Rattle.rkt_http.specs.declared.status.Status.{Status}
@@ -42,8 +42,8 @@ use Rattle.rkt_demo.proofs.SampleCalls.{BodiesAlike, Body, HasNoSource, IsAtHand
 use Rattle.rkt_demo.proofs.Shielding.{answered_shielded, asked_nothing}
 use Rattle.rkt_demo.specs.Sample.{IsSample, SampleTables}
 use Rattle.rkt_demo.specs.Shown.{IsMade, LeadsTo, asked_for, served_in}
-use Rattle.rkt_demo.specs.Words.{Table}
-use Rattle.rkt_demo.specs.declared.script.ScriptRequest.{ScriptRequest}
+use Rattle.rkt_script.specs.Words.{Table}
+use Rattle.rkt_script.specs.declared.script.ScriptRequest.{ScriptRequest}
 
 -- what is found is dressed, shielded, and kept to the body rule
 abbrev finished : List ℕ → Bool → List Parts → Response → Response

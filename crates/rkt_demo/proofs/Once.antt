@@ -23,7 +23,7 @@ use Rattle.rkt_uri.specs.Host.{SpellsHost, SpellsOneHost}
 use Rattle.rkt_uri.specs.Origin.{SaysWhatItSpells, Spells, Target}
 use Rattle.rkt_uri.specs.declared.origin_place.Profile.TheVariants.{Request}
 use Rattle.rkt_demo.specs.Sample.{IsSample, SampleTables}
-use Rattle.rkt_demo.specs.Words.{Table}
+use Rattle.rkt_script.specs.Words.{Table}
 
 -- what a text is read as, where it spells one thing at most
 read_once : {X : Type 0} (Spells : List ℕ → X → Type 0) → ((text : List ℕ) (a b : X) → Spells text a → Spells text b → a ≡ b)

@@ -3,7 +3,6 @@
 use Rattle.std.proofs.Common.{◌≡◌, ℕ, List, [], ◌∷◌, Bool, true, false, Option, Some, None, Result, Ok, Err, refl, ◌∙◌, sym, subst}
 use Rattle.std.specs.Prelude.{◌==◌, MatchBool, MatchOption}
 use Rattle.std.proofs.lemmas.Option.{same_Some}
-use Rattle.rkt_fairing.specs.Callbacks.{RequestAt}
 use Rattle.rkt_http.specs.declared.method.Method.TheVariants.{Get}
 use Rattle.rkt_http.specs.declared.outcome.Outcome.TheVariants.{Success, Error, Forward}
 use Rattle.rkt_http.specs.declared.status.Status.{Status}
@@ -15,7 +14,7 @@ use Rattle.rkt_route.specs.declared.catcher.Catcher.{Catcher}
 use Rattle.rkt_route.specs.declared.catcher.Catching.{Catching}
 use Rattle.rkt_route.specs.declared.catcher.Catching.TheVariants.{Rocket, App}
 use Rattle.rkt_route.specs.declared.route.Route.{Route}
-use Rattle.rkt_router.specs.Callbacks.{Refused, Reply}
+use Rattle.rkt_router.specs.Callbacks.{Refused, Reply, RequestAt}
 use Rattle.rkt_router.specs.Calls.{Made}
 use Rattle.rkt_router.specs.Page.{IsDefaultPage}
 use Rattle.rkt_router.specs.Tries.{IsNextTry}

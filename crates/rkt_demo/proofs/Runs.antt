@@ -4,11 +4,11 @@ use Rattle.std.specs.Option.{ForSome}
 use Rattle.rkt_source.specs.Source.{Meaning}
 use Rattle.rkt_demo.proofs.Cuts.{bad_front, good_front}
 use Rattle.rkt_demo.specs.Program.{IsScript, IsGoodScript}
-use Rattle.rkt_demo.specs.Script.{lines_of, content_of, add_line, AreGood, IsFirstBad, requests_of}
+use Rattle.rkt_script.specs.Script.{lines_of, content_of, add_line, AreGood, IsFirstBad, requests_of}
 use Rattle.rkt_demo.specs.Shown.{ShowsRequests}
-use Rattle.rkt_demo.specs.Words.{Table}
-use Rattle.rkt_demo.specs.declared.script.ScriptRequest.{ScriptRequest}
-use Rattle.rkt_demo.specs.declared.script.TheConstants.{SCRIPT_LIMIT}
+use Rattle.rkt_script.specs.Words.{Table}
+use Rattle.rkt_script.specs.declared.script.ScriptRequest.{ScriptRequest}
+use Rattle.rkt_script.specs.declared.script.TheConstants.{SCRIPT_LIMIT}
 
 -- the front of a script that is read
 abbrev pub IsRead : Option (List ℕ) → ℕ → ℕ → List ℕ → Type 0

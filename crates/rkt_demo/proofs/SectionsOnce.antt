@@ -13,10 +13,10 @@ use Rattle.rkt_demo.proofs.LivesOnce.{made_once}
 use Rattle.rkt_demo.proofs.Once.{Spelling}
 use Rattle.rkt_demo.proofs.SampleCalls.{IsAtHand, Response}
 use Rattle.rkt_demo.specs.Output.{answered_section, body_bytes, failed_section, head_text, sent_section}
-use Rattle.rkt_demo.specs.Script.{lines_of, requests_of}
+use Rattle.rkt_script.specs.Script.{lines_of, requests_of}
 use Rattle.rkt_demo.specs.Shown.{IsAnswered, IsSection, IsServed, ShownFrom, ShownOnce, Told}
-use Rattle.rkt_demo.specs.Words.{Table}
-use Rattle.rkt_demo.specs.declared.script.ScriptRequest.{ScriptRequest}
+use Rattle.rkt_script.specs.Words.{Table}
+use Rattle.rkt_script.specs.declared.script.ScriptRequest.{ScriptRequest}
 
 heads_of_chunks : (chunks : List (List ℕ)) → flat_map head_text (map Chunk chunks ++ End ∷ []) ≡ []
 heads_of_chunks [] = refl

@@ -1,6 +1,7 @@
 -- What the fairings of the sample do: none is called for a request, and the shield for a response.
 use Rattle.std.proofs.Common.{◌≡◌, ◌≤◌, ◌⊎◌, inl, inr, ℕ, max, List, [], ◌∷◌, refl, subst, arith}
-use Rattle.rkt_fairing.specs.Callbacks.{RequestAt, ResponseAt, quiet}
+use Rattle.rkt_router.specs.Callbacks.{RequestAt}
+use Rattle.rkt_fairing.specs.Callbacks.{ResponseAt, quiet}
 use Rattle.rkt_fairing.specs.Fairings.{SeenFairings}
 use Rattle.rkt_fairing.specs.InSlot.{shielded, slot_request, slot_response}
 use Rattle.rkt_fairing.specs.declared.slot.Slot.TheVariants.{Shield}

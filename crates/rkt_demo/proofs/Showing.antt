@@ -14,9 +14,9 @@ use Rattle.rkt_demo.proofs.Stops.{may_serve, none_at}
 use Rattle.rkt_demo.specs.Entries.{ended_section, entry_section, entries_text, AreEntries}
 use Rattle.rkt_demo.specs.Launched.{ServesFront, TellsOf, told_of}
 use Rattle.rkt_demo.specs.Shown.{IsSection, ShownFrom, ShowsRequests, Told}
-use Rattle.rkt_demo.specs.Stopping.{FollowsWord, IsStop, StandBefore}
-use Rattle.rkt_demo.specs.Words.{Table}
-use Rattle.rkt_demo.specs.declared.script.ScriptRequest.{ScriptRequest}
+use Rattle.rkt_script.specs.Stopping.{FollowsWord, IsStop, StandBefore}
+use Rattle.rkt_script.specs.Words.{Table}
+use Rattle.rkt_script.specs.declared.script.ScriptRequest.{ScriptRequest}
 
 abbrev Kept : Type 0
 Kept = EntryOf ℕ SourceInMemory LinkInMemory

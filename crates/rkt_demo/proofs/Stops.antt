@@ -2,8 +2,8 @@
 use Rattle.std.proofs.Common.{zero, suc, ◌≡◌, ◌<◌, ◌≤◌, ℕ, List, [], ◌∷◌, Some, length, slice_get, take, refl, arith, subst, ltb, Bool, true, false, ◌⊎◌, inl, inr, None, get_or}
 use Rattle.std.proofs.lemmas.Option.{same_Some, slice_get_cases}
 use borrow.Author.Tests.{ltb-true, ltb-false}
-use Rattle.rkt_demo.specs.Stopping.{IsStop, MayServe, NoneStops, StandBefore}
-use Rattle.rkt_demo.specs.declared.script.ScriptRequest.{ScriptRequest}
+use Rattle.rkt_script.specs.Stopping.{IsStop, MayServe, NoneStops, StandBefore}
+use Rattle.rkt_script.specs.declared.script.ScriptRequest.{ScriptRequest}
 
 -- none of some requests stands for `/stop` at a place among them
 pub none_at : (requests : List ScriptRequest) (n k : ℕ) (request : ScriptRequest) → NoneStops (take n requests) → k < n → slice_get requests k ≡ Some request → ¬ IsStop request

@@ -9,8 +9,8 @@ use Rattle.rkt_board.specs.declared.history.EntryOf.{EntryOf}
 use Rattle.rkt_board.specs.declared.history.EventOf.{EventOf}
 use Rattle.rkt_demo.specs.Entries.{ended_section}
 use Rattle.rkt_demo.specs.Shown.{IsSection, Told}
-use Rattle.rkt_demo.specs.Words.{Table}
-use Rattle.rkt_demo.specs.declared.script.ScriptRequest.{ScriptRequest}
+use Rattle.rkt_script.specs.Words.{Table}
+use Rattle.rkt_script.specs.declared.script.ScriptRequest.{ScriptRequest}
 
 -- what is told of what ended so
 abbrev pub told_of : End → Told

@@ -3,8 +3,4 @@ pub mod Launched
 pub mod Output
 pub mod Program
 pub mod Sample
-pub mod Script
 pub mod Shown
-pub mod Stopping
-pub mod Streams
-pub mod Words

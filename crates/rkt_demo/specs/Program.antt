@@ -4,12 +4,12 @@ use Rattle.std.specs.Fmt.{decimal}
 use Rattle.std.specs.Option.{ForSome}
 use Rattle.rkt_config.specs.Config.{first_bad}
 use Rattle.rkt_source.specs.Source.{Meaning}
-use Rattle.rkt_demo.specs.declared.script.TheConstants.{SCRIPT_LIMIT}
-use Rattle.rkt_demo.specs.Script.{lines_of, AreGood, IsFirstBad}
+use Rattle.rkt_script.specs.declared.script.TheConstants.{SCRIPT_LIMIT}
+use Rattle.rkt_script.specs.Script.{lines_of, AreGood, IsFirstBad}
 use Rattle.rkt_demo.specs.Shown.{Shown, Told}
-use Rattle.rkt_demo.specs.Stopping.{IsCount}
-use Rattle.rkt_demo.specs.Streams.{IsReadTo}
-use Rattle.rkt_demo.specs.Words.{Commands, Table}
+use Rattle.rkt_script.specs.Stopping.{IsCount}
+use Rattle.rkt_script.specs.Streams.{IsReadTo}
+use Rattle.rkt_script.specs.Words.{Commands, Table}
 
 -- a fact of what the words set, where they are a command
 abbrev pub OfCommand : List (List ℕ) → (Table → Type 0) → Type 0

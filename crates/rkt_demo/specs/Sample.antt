@@ -9,7 +9,7 @@ use Rattle.rkt_lifecycle.specs.Tables.{SeenTables}
 use Rattle.rkt_sample.specs.Mounted.{sample_catchers, sample_routes}
 use Rattle.rkt_sample.specs.declared.catcher.SampleCatcher.{SampleCatcher}
 use Rattle.rkt_sample.specs.declared.route.SampleRoute.{SampleRoute}
-use Rattle.rkt_demo.specs.Words.{Table}
+use Rattle.rkt_script.specs.Words.{Table}
 use Rattle.rkt_shield.specs.Shield.{default_headers}
 
 abbrev pub SampleTables : Type 0

@@ -21,10 +21,10 @@ use Rattle.rkt_serve.specs.Serving.{Serving, callbacks_of, serving}
 use Rattle.rkt_source.specs.Memory.{SourceInMemory, source_meaning}
 use Rattle.rkt_demo.specs.Output.{cut_section, failed_section, last_line, sent_section, starved_section}
 use Rattle.rkt_demo.specs.Sample.{IsSample, SampleTables}
-use Rattle.rkt_demo.specs.Script.{lines_of, requests_of}
-use Rattle.rkt_demo.specs.Stopping.{FollowsWord, MayServe}
-use Rattle.rkt_demo.specs.Words.{Table}
-use Rattle.rkt_demo.specs.declared.script.ScriptRequest.{ScriptRequest}
+use Rattle.rkt_script.specs.Script.{lines_of, requests_of}
+use Rattle.rkt_script.specs.Stopping.{FollowsWord, MayServe}
+use Rattle.rkt_script.specs.Words.{Table}
+use Rattle.rkt_script.specs.declared.script.ScriptRequest.{ScriptRequest}
 
 -- the sample, served over links in memory in this window of moments, where `/stop` tells this word
 abbrev pub served_in : ℕ → Option (ℕ × ℕ) → Serving ℕ SourceInMemory ℕ SourceInMemory NoFairing (Unit {0}) (Unit {0}) SampleRoute (Option (SampleBody SourceInMemory)) SampleCatcher Status LinkInMemory

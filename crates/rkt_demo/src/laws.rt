@@ -1,6 +1,5 @@
-//! Laws of what the program reads and writes. Their functions do nothing.
+//! A law of what the program writes. Its function does nothing.
 ghost use Rattle.rkt_demo.specs.Shown.{ShownOnce};
-ghost use Rattle.rkt_demo.specs.Words.{SetsOnce};
 
 use rkt_http::{says_what_it_spells, spells_one_host, spells_one_media_type};
 
@@ -13,8 +12,3 @@ pub fn shown_once()
     spells_one_host();
     spells_one_media_type();
 }
-
-/// A law of commands: each sets one table.
-pub fn sets_once()
-    ensures { SetsOnce }
-{}

@@ -4,16 +4,16 @@ ghost use Rattle.rkt_base.specs.Counts.{Rose};
 ghost use Rattle.rkt_source.specs.Sink.{Gains};
 ghost use Rattle.rkt_demo.specs.Program.{OfCommand, IsAccepted, OfScript, IsScript, IsGoodScript, IsFirstBadLine, IsText, IsAllRead, refusal};
 ghost use Rattle.rkt_demo.specs.Shown.{Shown, Told};
-ghost use Rattle.rkt_demo.specs.Stopping.{IsCount};
-ghost use Rattle.rkt_demo.specs.Streams.{GainsFront, GainsUnlessRefused};
-ghost use Rattle.rkt_demo.specs.Words.{Commands, IsCommand, IsStatus, Table};
+ghost use Rattle.rkt_script.specs.Stopping.{IsCount};
+ghost use Rattle.rkt_script.specs.Streams.{GainsFront, GainsUnlessRefused};
+ghost use Rattle.rkt_script.specs.Words.{Commands, IsCommand, IsStatus, Table};
 
-use crate::script::{SCRIPT_LIMIT, parse_script};
 use crate::serving::serve_with;
-use crate::stream::{StreamError, read_all, write_all};
-use crate::words::{USAGE, read_command};
 use rkt_base::Want;
 use rkt_data::{Sink, Source};
+use rkt_script::{
+    SCRIPT_LIMIT, StreamError, USAGE, parse_script, read_all, read_command, sets_once, write_all,
+};
 use rkt_serve::Clock;
 use std::alloc::Global;
 use std::sync::Wait;
@@ -136,6 +136,7 @@ pub fn run<R: Wait + Threads, S: Source, K: Sink, C: Clock>(
     ensures bound { (S.meaning source.new).taken ≤ (S.meaning source.old).taken + SCRIPT_LIMIT + 1 }
     ensures unwarned { (S.meaning source.new).warned ≡ false }
 {
+    sets_once();
     let table = match read_command(alloc, words) {
         Ok(table) => table,
         Err(Want::Refused(_)) => return refuse_words(rt, sink),

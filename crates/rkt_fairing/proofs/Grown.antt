@@ -2,7 +2,8 @@
 use Rattle.std.proofs.Common.{◌≡◌, ◌∙◌, ap, ⊎_elim}
 use Rattle.rkt_request.specs.Lent.{Grows, Lent, MayGrow}
 use Rattle.rkt_request.specs.LentLaws.{grows_again, grows_same}
-use Rattle.rkt_fairing.specs.Callbacks.{RequestAt, RequestGrows}
+use Rattle.rkt_router.specs.Callbacks.{RequestAt}
+use Rattle.rkt_fairing.specs.Callbacks.{RequestGrows}
 
 pub kept_grows : {C : Type 0} (before after : Lent C) → MayGrow before after → Grows before.kept after.kept
 kept_grows before after grows =

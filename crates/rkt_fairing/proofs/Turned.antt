@@ -6,7 +6,8 @@ use Rattle.rkt_router.specs.Calling.{Calling, AnswersPoll, Polls}
 use Rattle.rkt_router.specs.Calls.{GateRule, Making}
 use Rattle.rkt_router.specs.declared.step.Step.{Step}
 use Rattle.rkt_router.specs.declared.step.Step.TheVariants as step
-use Rattle.rkt_fairing.specs.Callbacks.{KeepsRequest, KeepsResponse, RequestAt, RequestGrows, ResponseAt}
+use Rattle.rkt_router.specs.Callbacks.{RequestAt}
+use Rattle.rkt_fairing.specs.Callbacks.{KeepsRequest, KeepsResponse, RequestGrows, ResponseAt}
 
 module _ {F H Held A Task : Type 0} (C : Calling F H Held A Task) (fairing : F) (handed : H) (Law : Held → Held → Type 0)
     (done : (before after : Held) (gates : List Gate) (answer : A) → C.may fairing handed before gates answer after → Law before after)

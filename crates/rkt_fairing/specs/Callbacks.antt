@@ -5,17 +5,11 @@ use Rattle.rkt_message.specs.Response.{ResponseOf}
 use Rattle.rkt_request.specs.Lent.{Kept, Grows}
 use Rattle.rkt_request.specs.LentLaws.{grows_same}
 use Rattle.rkt_request.specs.Seen.{Seen}
-use Rattle.rkt_router.specs.Callbacks.{at_once}
+use Rattle.rkt_router.specs.Callbacks.{RequestAt, at_once}
 use Rattle.rkt_router.specs.Calling.{Calling}
 use Rattle.rkt_source.specs.declared.source.Gate.{Gate}
 
 -- V is the type of managed values, B that of bodies, C that of cached values, S that of streams
-
--- what a callback for requests may change
-pub record RequestAt (V B C : Type 0) : Type 0 where
-  pub request : Seen V
-  pub body : B
-  pub kept : Kept C
 
 -- what a callback for responses may change
 pub record ResponseAt (S C : Type 0) : Type 0 where

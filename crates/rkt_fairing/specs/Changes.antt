@@ -3,7 +3,8 @@ use Rattle.std.specs.Prelude.{◌≡◌}
 use Rattle.rkt_request.specs.Lent.{Grows}
 use Rattle.rkt_request.specs.Seen.{Seen}
 use Rattle.rkt_router.specs.Calling.{Calling}
-use Rattle.rkt_fairing.specs.Callbacks.{KeepsRequest, KeepsResponse, RequestAt, RequestGrows, ResponseAt}
+use Rattle.rkt_router.specs.Callbacks.{RequestAt}
+use Rattle.rkt_fairing.specs.Callbacks.{KeepsRequest, KeepsResponse, RequestGrows, ResponseAt}
 
 -- A call that is done at the first poll that finds memory: Grown says what the polls before it may leave, and Made what that
 -- one makes of it. It is never Pending and answers no Fault.

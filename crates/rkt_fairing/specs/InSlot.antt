@@ -5,12 +5,12 @@ use Rattle.rkt_message.specs.Response.{ResponseOf, with_headers}
 use Rattle.rkt_request.specs.Lent.{Grows}
 use Rattle.rkt_request.specs.LentLaws.{grows_same}
 use Rattle.rkt_request.specs.Seen.{Seen}
-use Rattle.rkt_router.specs.Callbacks.{at_once}
+use Rattle.rkt_router.specs.Callbacks.{RequestAt, at_once}
 use Rattle.rkt_router.specs.Calling.{Calling}
 use Rattle.rkt_shield.specs.Shield.{applied}
 use Rattle.rkt_source.specs.declared.source.Gate.{Gate}
 use Rattle.std.proofs.Common.{ap}
-use Rattle.rkt_fairing.specs.Callbacks.{KeepsRequest, KeepsResponse, RequestAt, RequestGrows, ResponseAt, quiet, request_same}
+use Rattle.rkt_fairing.specs.Callbacks.{KeepsRequest, KeepsResponse, RequestGrows, ResponseAt, quiet, request_same}
 use Rattle.rkt_fairing.specs.declared.slot.Slot.{Slot}
 use Rattle.rkt_fairing.specs.declared.slot.Slot.TheVariants.{Shield, App}
 

@@ -1,13 +1,13 @@
 //! Fairings of one kind, each over a change that the caller made.
 ghost use Rattle.std.specs.Prelude.{◌≡◌, ⊤};
 ghost use Rattle.rkt_request.specs.Lent.{MayGrow};
-ghost use Rattle.rkt_router.specs.Answers.{StepsTo};
+ghost use Rattle.rkt_router.specs.Steps.{StepsTo};
 
 use crate::{AtOnce, Attach, ChangesRequest, ChangesResponse, Fairing, Info, Kind, Parts, Quiet};
 use rkt_base::NoMemory;
 use rkt_http::Key;
+use rkt_message::Response;
 use rkt_request::{Body0, Ctx, Request, Types};
-use rkt_response::Response;
 use rkt_router::Step;
 use std::alloc::Global;
 

@@ -1,6 +1,6 @@
 //! Fairings of one kind of a rocket's life, each over a change that the caller made.
 ghost use Rattle.std.specs.Prelude.{◌≡◌, IfOk, None, Ok, OnOk, Some, ⊤};
-ghost use Rattle.rkt_router.specs.Answers.{StepsTo};
+ghost use Rattle.rkt_router.specs.Steps.{StepsTo};
 ghost use Rattle.rkt_turn.specs.HandsBack.{HandsBack};
 ghost use Rattle.rkt_fairing.specs.LifeChanges.{once, tried_once};
 

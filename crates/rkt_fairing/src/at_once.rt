@@ -2,12 +2,13 @@
 ghost use Rattle.std.specs.Prelude.{◌≡◌, OnOk, ⊤};
 ghost use Rattle.rkt_request.specs.Lent.{Kept, MayGrow};
 ghost use Rattle.rkt_request.specs.Seen.{Seen};
-ghost use Rattle.rkt_fairing.specs.Callbacks.{RequestAt, ResponseAt};
+ghost use Rattle.rkt_router.specs.Callbacks.{RequestAt};
+ghost use Rattle.rkt_fairing.specs.Callbacks.{ResponseAt};
 
 use crate::{RequestCallback, ResponseCallback};
 use rkt_base::NoMemory;
+use rkt_message::Response;
 use rkt_request::{Body0, Ctx, HasBody, Request, Types};
-use rkt_response::Response;
 use rkt_router::Step;
 use std::alloc::Global;
 

@@ -3,14 +3,15 @@
 ghost use Rattle.std.specs.Prelude.{◌≡◌};
 
 use crate::{Attach, IgniteCallback, LiftoffCallback, Parts, ShutdownCallback};
+use rkt_message::Response;
 use rkt_request::{Ctx, HasBody, Request, Types};
-use rkt_response::Response;
 use rkt_router::Step;
 use std::alloc::Global;
 
 /// How fairings of a type are called for a request, before it is routed. They may change it, and its body.
 pub trait RequestCallback<A: HasBody, F> {
-    ghost use Rattle.rkt_fairing.specs.Callbacks.{RequestAt, KeepsRequest};
+    ghost use Rattle.rkt_router.specs.Callbacks.{RequestAt};
+    ghost use Rattle.rkt_fairing.specs.Callbacks.{KeepsRequest};
     ghost use Rattle.rkt_router.specs.Calling.{Calling, Starts, CanPoll, Polls};
 
     /// A call that is under way. One that was Done is not polled again.

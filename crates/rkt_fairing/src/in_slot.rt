@@ -1,13 +1,13 @@
 //! How what is attached is called: the shield, or a fairing of the application.
 ghost use Rattle.std.specs.Prelude.{◌≡◌};
-ghost use Rattle.rkt_router.specs.Answers.{StepsTo};
+ghost use Rattle.rkt_router.specs.Steps.{StepsTo};
 ghost use Rattle.rkt_fairing.specs.InSlot.{shielded};
 
 use crate::shielded::add_absent;
 use crate::{RequestCallback, ResponseCallback, Slot};
 use rkt_data::Source;
+use rkt_message::Response;
 use rkt_request::{Body0, Ctx, Request, Types};
-use rkt_response::Response;
 use rkt_router::Step;
 use rkt_shield::Shield;
 use std::alloc::Global;

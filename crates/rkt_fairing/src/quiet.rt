@@ -3,8 +3,8 @@ use crate::{
     Building, IgniteCallback, LiftoffCallback, Parts, RequestCallback, ResponseCallback,
     ShutdownCallback, View,
 };
+use rkt_message::Response;
 use rkt_request::{Body0, Ctx, Request, Types};
-use rkt_response::Response;
 use rkt_router::Step;
 use rkt_turn::Shutdown;
 use std::alloc::Global;

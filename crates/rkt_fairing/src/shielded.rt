@@ -8,7 +8,7 @@ ghost use Rattle.rkt_fairing.specs.InSlot.{shielded};
 use rkt_base::NoMemory;
 use rkt_data::Source;
 use rkt_http::Header;
-use rkt_response::Response;
+use rkt_message::Response;
 
 fn adjoin_copy<S: Source>(header: &Header, response: &mut Response<S>) -> Result<(), NoMemory>
     ensures ok { OnOk result (response.new ≡ with_headers response.old (added response.old.headers header.now)) }

@@ -3,11 +3,12 @@ ghost use Rattle.std.specs.Prelude.{◌≡◌, ◌<◌, ◌+◌};
 ghost use Rattle.rkt_request.specs.Lent.{Grows};
 ghost use Rattle.rkt_router.specs.Calling.{Polls};
 ghost use Rattle.rkt_router.specs.Calls.{GateRule, GateFits, Making, Turned};
-ghost use Rattle.rkt_fairing.specs.Callbacks.{RequestAt, RequestGrows, ResponseAt};
+ghost use Rattle.rkt_router.specs.Callbacks.{RequestAt};
+ghost use Rattle.rkt_fairing.specs.Callbacks.{RequestGrows, ResponseAt};
 
 use crate::{RequestCallback, ResponseCallback};
+use rkt_message::Response;
 use rkt_request::{Body0, Ctx, Request, Types};
-use rkt_response::Response;
 use rkt_router::{Step, Turn};
 use std::alloc::Global;
 

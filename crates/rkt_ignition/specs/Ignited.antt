@@ -5,7 +5,7 @@ use Rattle.rkt_config.specs.Config.{IsConfig, first_bad}
 use Rattle.rkt_route.specs.Collisions.{AreCollisions, CatchersCollide, RoutesCollide}
 use Rattle.rkt_route.specs.declared.route.Sentry.{Sentry}
 use Rattle.rkt_router.specs.Router.{SeenRouter}
-use Rattle.rkt_router.specs.Sentinels.{SeenIgnited}
+use Rattle.rkt_sentinel.specs.Sentinels.{SeenIgnited}
 use Rattle.rkt_fairing.specs.Building.{SeenBuilding}
 use Rattle.rkt_fairing.specs.Info.{SeenInfo, seen_info}
 use Rattle.rkt_ignition.specs.Aborted.{aborted_at, sentries_of}

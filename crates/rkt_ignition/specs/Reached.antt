@@ -4,7 +4,7 @@ use Rattle.std.specs.List.{list_any}
 use Rattle.std.specs.Option.{option_map_or}
 use Rattle.rkt_http.specs.declared.key.Key.{Key}
 use Rattle.rkt_route.specs.declared.route.Sentry.{Sentry}
-use Rattle.rkt_router.specs.Sentinels.{SeenIgnited}
+use Rattle.rkt_sentinel.specs.Sentinels.{SeenIgnited}
 use Rattle.rkt_ignition.specs.declared.node.Node.{Node}
 
 -- a sentry's place in the order of mounting is its position; S is the type of what sentries ask, V that of managed values

@@ -4,7 +4,7 @@ use Rattle.rkt_http.specs.declared.key.Key.{Key}
 use Rattle.rkt_config.specs.declared.config.Config.{Config}
 use Rattle.rkt_config.specs.Config.{IsConfig, first_bad}
 use Rattle.rkt_route.specs.Collisions.{CatchersCollide, CollidesAt, RoutesCollide}
-use Rattle.rkt_router.specs.Sentinels.{SeenIgnited}
+use Rattle.rkt_sentinel.specs.Sentinels.{SeenIgnited}
 use Rattle.rkt_fairing.specs.Building.{SeenBuilding}
 use Rattle.rkt_fairing.specs.Info.{SeenInfo}
 use Rattle.rkt_ignition.specs.Aborted.{sentries_of}

@@ -10,7 +10,8 @@ use crate::sentries::{aborted, queried};
 use crate::{IgniteError, IgnitedPartsOf};
 use rkt_base::Want;
 use rkt_request::{Config, ConfigTable, Types};
-use rkt_router::{Aborts, Ignited, Route, Router};
+use rkt_router::{Route, Router};
+use rkt_sentinel::{Aborts, Ignited};
 use std::alloc::Global;
 
 /// The configuration that a table spells.

@@ -8,7 +8,8 @@ use crate::reach::{asked, reached};
 use rkt_base::{NoMemory, Seq, Want};
 use rkt_http::Key;
 use rkt_request::Types;
-use rkt_router::{Aborts, Ignited, Sentry};
+use rkt_router::Sentry;
+use rkt_sentinel::{Aborts, Ignited};
 use std::alloc::Global;
 
 // What each of these answers, under its key.

@@ -14,7 +14,7 @@ use crate::{IgniteCall, IgniteError, IgnitedPartsOf};
 use rkt_base::{NoMemory, Seq, Want};
 use rkt_fairing::{Attach, Building, Fairings, IgniteCallback, Info, Parts};
 use rkt_request::Types;
-use rkt_router::Aborts;
+use rkt_sentinel::Aborts;
 use std::alloc::Global;
 use std::mem::replace;
 

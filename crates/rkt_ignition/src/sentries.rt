@@ -11,7 +11,8 @@ use crate::reach::{asked, reached};
 use rkt_base::{NoMemory, Seq};
 use rkt_http::Key;
 use rkt_request::Types;
-use rkt_router::{Aborts, Ignited, Route, Sentry};
+use rkt_router::{Route, Sentry};
+use rkt_sentinel::{Aborts, Ignited};
 use std::alloc::Global;
 
 // What the sentries of all routes say, in mounting order.

@@ -6,7 +6,8 @@ use Rattle.rkt_request.specs.Lent.{Grows, Kept, Lent}
 use Rattle.rkt_request.specs.LentLaws.{grows_same}
 use Rattle.rkt_request.specs.Seen.{Seen}
 use Rattle.rkt_response.specs.Responder.{Answer}
-use Rattle.rkt_router.specs.Callbacks.{GivesBack, Handed, KeepsHandler, MadeBy, Reply, reply_of}
+use Rattle.rkt_answers.specs.Replies.{MadeBy, reply_of}
+use Rattle.rkt_router.specs.Callbacks.{GivesBack, Handed, KeepsHandler, Reply}
 use Rattle.rkt_router.specs.Calling.{Calling}
 use Rattle.rkt_router.specs.declared.step.Step.{Step}
 use Rattle.rkt_router.specs.declared.step.Step.TheVariants.{Pending, Done, Fault, Starved}

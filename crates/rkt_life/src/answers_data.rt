@@ -2,15 +2,15 @@
 ghost use Rattle.std.specs.Prelude.{◌≡◌, IfOk, ⊤};
 ghost use Rattle.rkt_request.specs.Lent.{Lent, MayGrow};
 ghost use Rattle.rkt_request.specs.Seen.{Seen};
-ghost use Rattle.rkt_router.specs.Answers.{StepsTo};
-ghost use Rattle.rkt_router.specs.Callbacks.{MadeBy};
+ghost use Rattle.rkt_router.specs.Steps.{StepsTo};
+ghost use Rattle.rkt_answers.specs.Replies.{MadeBy};
 ghost use Rattle.rkt_life.specs.AnswersData.{IsAnsweredAs, IsWaiting, Makes};
 
+use rkt_answers::from;
 use rkt_base::{NoMemory, Poll};
 use rkt_http::{Outcome, Status};
 use rkt_request::{Body0, Ctx, DataOutcome, FromData, Request, Types};
 use rkt_response::Responder;
-use rkt_router::route::from;
 use rkt_router::{Handler, RouteOutcome, Step};
 use std::alloc::Global;
 

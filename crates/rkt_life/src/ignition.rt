@@ -11,7 +11,7 @@ use rkt_base::Want;
 use rkt_fairing::{App, AppBuilding, Fairing};
 use rkt_ignition::{IgniteError, ignite};
 use rkt_lifecycle::TablesOf;
-use rkt_router::Aborts;
+use rkt_sentinel::Aborts;
 use std::alloc::Global;
 
 impl<A: App<Sentinel: Aborts<A>>> RocketOf<AppBuilding<A>, A> {

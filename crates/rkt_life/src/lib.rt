@@ -26,6 +26,9 @@ pub use no_fairing::NoFairing;
 pub use one_of::OneOf;
 pub use phase::{Build, Ignite, Orbit, Phase};
 pub use plain_text::PlainText;
+pub use rkt_answers::{
+    Answering, AnsweringIf, AnsweringWith, Answers, AnswersIf, AnswersWith, Catches, CatchesWith,
+};
 pub use rkt_base::{NoMemory, Want};
 pub use rkt_cookie::Cookie;
 pub use rkt_data::MemorySource;
@@ -41,10 +44,7 @@ pub use rkt_request::{
     Body0, Config, ConfigTable, Ctx, FromData, FromText, Managed, Parsed, Request, Types,
 };
 pub use rkt_response::{Responder, Response, ResponseResult};
-pub use rkt_router::{
-    Answering, AnsweringIf, AnsweringWith, Answers, AnswersIf, AnswersWith, Catcher, Catches,
-    CatchesWith, Route, Router,
-};
+pub use rkt_router::{Catcher, Route, Router};
 pub use rkt_routing::{Answer, Call, Which};
 pub use rkt_turn::Reason;
 pub use rocket::{Rocket, RocketOf};

@@ -1,7 +1,7 @@
 -- How an exchange goes from one phase to the next.
 use Rattle.std.specs.Prelude.{◌≡◌, ◌<◌, ◌≤◌, ◌++◌, ◌∷◌, ℕ, List, [], Bool, length}
 use Rattle.std.proofs.Common.{arith, refl, subst, sym, ◌∙◌, ap}
-use Rattle.rkt_fairing.specs.Callbacks.{RequestAt}
+use Rattle.rkt_router.specs.Callbacks.{RequestAt}
 use Rattle.rkt_message.specs.Response.{ResponseOf}
 use Rattle.rkt_request.specs.Lent.{Lent}
 use Rattle.rkt_request.specs.Seen.{Seen}

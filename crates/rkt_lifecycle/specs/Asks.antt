@@ -1,6 +1,6 @@
 -- The fairings that are called for a request, in order.
 use Rattle.std.specs.Prelude.{◌≡◌, ℕ, List, Option, Some, None, max}
-use Rattle.rkt_fairing.specs.Callbacks.{RequestAt}
+use Rattle.rkt_router.specs.Callbacks.{RequestAt}
 use Rattle.rkt_fairing.specs.Fairings.{SeenFairings}
 use Rattle.rkt_fairing.specs.declared.callback.Callback.TheVariants.{Request}
 use Rattle.rkt_fairing.specs.declared.slot.Slot.{Slot}

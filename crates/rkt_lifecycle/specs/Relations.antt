@@ -1,12 +1,12 @@
 -- What the callbacks of an application mean, what a peek at a body leaves of it, and the Gates under which they are polled.
 use Rattle.std.specs.Prelude.{ℕ, List, Option, Result}
-use Rattle.rkt_fairing.specs.Callbacks.{RequestAt, ResponseAt}
+use Rattle.rkt_fairing.specs.Callbacks.{ResponseAt}
 use Rattle.rkt_fairing.specs.declared.slot.Slot.{Slot}
 use Rattle.rkt_http.specs.declared.status.Status.{Status}
 use Rattle.rkt_message.specs.Response.{ResponseOf}
 use Rattle.rkt_request.specs.Lent.{Kept}
 use Rattle.rkt_request.specs.Seen.{Seen}
-use Rattle.rkt_router.specs.Callbacks.{Handed, Refused, Reply}
+use Rattle.rkt_router.specs.Callbacks.{Handed, Refused, Reply, RequestAt}
 use Rattle.rkt_router.specs.Calling.{Calling}
 use Rattle.rkt_router.specs.Calls.{GateRule}
 use Rattle.rkt_routing.specs.Relations.{Relations as Callbacks}

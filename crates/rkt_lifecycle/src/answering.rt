@@ -16,8 +16,8 @@ use crate::calls::{
 use rkt_base::{NoMemory, Seq};
 use rkt_data::Gate;
 use rkt_fairing::{Callback, Fairings, InSlot, ResponseCallback, Slot, turn_response};
+use rkt_message::Response;
 use rkt_request::{Ctx, Request, Types};
-use rkt_response::Response;
 use rkt_router::{Final, Step, Turn};
 use rkt_routing::{Live, Progress, Which, recorded};
 use rkt_turn::Shutdown;

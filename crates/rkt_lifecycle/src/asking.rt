@@ -2,7 +2,8 @@
 ghost use Rattle.std.specs.Prelude.{◌≡◌, ◌<◌, ◌+◌, IfOk, Some, length, max};
 ghost use Rattle.rkt_cancel.specs.Cancel.{Cancellable};
 ghost use Rattle.rkt_data.specs.Body.{Body};
-ghost use Rattle.rkt_fairing.specs.Callbacks.{RequestAt, RequestGrows};
+ghost use Rattle.rkt_router.specs.Callbacks.{RequestAt};
+ghost use Rattle.rkt_fairing.specs.Callbacks.{RequestGrows};
 ghost use Rattle.rkt_fairing.specs.Fairings.{fairing_at};
 ghost use Rattle.rkt_fairing.specs.InSlot.{slot_request};
 ghost use Rattle.rkt_fairing.specs.Places.{places_of};

@@ -4,8 +4,8 @@ ghost use Rattle.rkt_fairing.specs.Places.{places_of};
 ghost use Rattle.rkt_lifecycle.specs.Recorded.{fairing_answer};
 
 use rkt_fairing::{Callback, Fairings};
+use rkt_message::Response;
 use rkt_request::{Body0, Ctx, Request, Types};
-use rkt_response::Response;
 use rkt_router::Final;
 use rkt_routing::{Answer, Live};
 

@@ -9,8 +9,8 @@ use rkt_base::NoMemory;
 use rkt_cookie::Cookie;
 use rkt_data::Source;
 use rkt_http::Status;
+use rkt_message::{Body, Response};
 use rkt_request::{Ctx, Types};
-use rkt_response::{Body, Response};
 use std::alloc::Global;
 
 fn adjoin_cookie<S: Source>(

@@ -2,8 +2,8 @@
 use rkt_base::Seq;
 use rkt_cookie::CookieJar;
 use rkt_http::Key;
+use rkt_message::Response;
 use rkt_request::Types;
-use rkt_response::Response;
 use rkt_routing::Call;
 use rkt_turn::Shutdown;
 

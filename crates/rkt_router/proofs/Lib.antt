@@ -8,5 +8,4 @@ pub mod NextTries
 pub mod OneList
 pub mod Orders
 pub mod Paths
-pub mod Values
 pub mod Walks

@@ -1,12 +1,11 @@
 -- What handlers and catchers are handed, what they answer, and the laws that they keep.
-use Rattle.std.specs.Prelude.{◌≡◌, ℕ, List, Option, Ok, Err, ⊤}
+use Rattle.std.specs.Prelude.{◌≡◌, ℕ, List, Option, ⊤}
 use Rattle.rkt_source.specs.declared.source.Gate.{Gate}
 use Rattle.rkt_http.specs.declared.outcome.Outcome.{Outcome}
 use Rattle.rkt_http.specs.declared.outcome.Outcome.TheVariants.{Success, Error, Forward}
 use Rattle.rkt_http.specs.declared.status.Status.{Status}
 use Rattle.rkt_request.specs.Lent.{Kept, Grows}
 use Rattle.rkt_request.specs.Seen.{Seen}
-use Rattle.rkt_response.specs.Responder.{Answer}
 use Rattle.rkt_message.specs.Response.{ResponseOf}
 use Rattle.rkt_router.specs.Calling.{Calling}
 
@@ -19,6 +18,12 @@ pub record Handed (V B : Type 0) : Type 0 where
 -- route; R is the type of streams
 abbrev pub Reply : Type 0 → Type 0 → Type 0
 Reply R B = Outcome (ResponseOf R) Status (B × Status)
+
+-- what a callback for requests may change; C is the type of cached values
+pub record RequestAt (V B C : Type 0) : Type 0 where
+  pub request : Seen V
+  pub body : B
+  pub kept : Kept C
 
 -- what a catcher is handed
 pub record Refused (V : Type 0) : Type 0 where
@@ -42,11 +47,6 @@ pub record KeepsHandler {Self V B C R Task : Type 0} (whole : B → Option (List
   pub keeps : Keeps calling
   pub forwards : (handler : Self) (handed : Handed V B) (before after : Kept C) (gates : List Gate) (reply : Reply R B) → calling.may handler handed before gates reply after → GivesBack whole handed.body reply
 
--- the answer of a responder as that of a handler
-abbrev pub reply_of : {R B : Type 0} → Answer R → Reply R B
-reply_of (Ok response) = Success response
-reply_of (Err status) = Error status
-
 -- a call that is done at its first poll, by a task that holds what it needs of what it was handed: it is never Pending and
 -- answers no Fault, and nothing is changed before it is done
 abbrev pub at_once : {Self H Held A Task : Type 0} → (Self → H → Task → Type 0) → (Self → H → Held → A → Held → Type 0) → Calling Self H Held A Task
@@ -56,7 +56,3 @@ at_once Holds may = record {
   pendings = λ callback handed before. 0;
   may_fault = λ callback handed before. ⊥;
 }
-
--- a handler's answer is that of a responder which may answer so
-abbrev pub MadeBy : {R B : Type 0} → (Answer R → Type 0) → Reply R B → Type 0
-MadeBy {R} May reply = (answer : Answer R) × May answer × (reply ≡ reply_of answer)

@@ -1,4 +1,3 @@
-pub mod Answers
 pub mod CallLaws
 pub mod CallbackLaws
 pub mod Callbacks
@@ -11,6 +10,6 @@ pub mod Left
 pub mod Order
 pub mod Page
 pub mod Router
-pub mod Sentinels
+pub mod Steps
 pub mod Tries
 pub mod Walk

@@ -1,7 +1,7 @@
 use crate::{Handler, Step};
 use rkt_http::{Outcome, Status};
+use rkt_message::Response;
 use rkt_request::{Body0, Ctx, Request, Types};
-use rkt_response::Response;
 use std::alloc::Global;
 
 /// A handler that answers every request with an empty response.

@@ -3,8 +3,8 @@ ghost use Rattle.std.specs.Prelude.{◌≡◌};
 
 use crate::Step;
 use rkt_http::{Outcome, Status};
+use rkt_message::Response;
 use rkt_request::{Ctx, HasBody, Request, Types};
-use rkt_response::Response;
 use std::alloc::Global;
 
 /// What answers the requests of a route.

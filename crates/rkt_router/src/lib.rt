@@ -1,7 +1,6 @@
 //! Ranked routes and catchers, and which of them a request is answered by.
 #![tactic(auto)]
 
-mod answers;
 pub mod catcher;
 mod chosen;
 mod dummy;
@@ -12,14 +11,10 @@ mod outcome;
 mod page;
 pub mod route;
 mod router;
-mod sentinel;
 mod step;
 mod tries;
 mod turn;
 
-pub use answers::{
-    Answering, AnsweringIf, AnsweringWith, Answers, AnswersIf, AnswersWith, Catches, CatchesWith,
-};
 pub use dummy::Dummy;
 pub use handler::{CatchHandler, Handler};
 pub use outcome::RouteOutcome;
@@ -28,7 +23,6 @@ pub use rkt_route::{
     BadCode, Catcher, Catching, Collide, Collisions, Color, Route, RouteUri, Segment, Sentry,
 };
 pub use router::Router;
-pub use sentinel::{Aborts, Asks, Ignited, Sentinel};
 pub use step::Step;
 pub use tries::{Tries, next_tries_are_tries, tries_are_alike, tries_are_one_list};
 pub use turn::{Final, Turn, turn_catch, turn_handler};

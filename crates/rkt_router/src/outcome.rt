@@ -1,53 +1,12 @@
-//! What a handler answers, made of what a responder does.
-ghost use Rattle.std.specs.Prelude.{◌≡◌, IfOk, OnErr, Ok, Err};
-ghost use Rattle.rkt_request.specs.Lent.{MayGrow};
-ghost use Rattle.rkt_router.specs.Callbacks.{MadeBy};
+//! What a handler answers.
+ghost use Rattle.std.specs.Prelude.{◌≡◌};
 
-use rkt_base::{NoMemory, Want};
 use rkt_http::{Outcome, Status};
-use rkt_request::{Body0, Ctx, Request, Types};
-use rkt_response::{Responder, Response};
-use std::alloc::{AllocError, Global};
+use rkt_message::Response;
+use rkt_request::{Body0, Types};
 
 /// What a handler answers: a response, a status whose catcher is to answer, or the body, left to another route.
 pub type RouteOutcome<T> = Outcome<Response<<T as Types>::Stream>, Status, (Body0<T>, Status)>;
-
-/// Success of the responder's response, and Error of its status.
-pub fn from<T: Types, R: Responder<T>>(
-    alloc: Global,
-    request: &Request<'_, T>,
-    ctx: &mut Ctx<T>,
-    responder: R,
-) -> Result<RouteOutcome<T>, NoMemory>
-    ensures answers { IfOk result (λ reply. MadeBy (λ answer. R.may responder request.now ctx.old answer ctx.new) reply) }
-    ensures starves { OnErr result (R.starves responder request.now ctx.old ctx.new) }
-    ensures grows { MayGrow ctx.old ctx.new }
-{
-    match responder.respond_to(alloc, request, ctx) {
-        Ok(response) => Ok(Outcome::Success(response)),
-        Err(Want::Refused(status)) => Ok(Outcome::Error(status)),
-        Err(Want::NoMemory) => Err(AllocError),
-    }
-}
-
-/// What `from` makes of a responder, and Error of 500 where there is none.
-pub fn try_from<T: Types, R: Responder<T> + Drop, E: Drop>(
-    alloc: Global,
-    request: &Request<'_, T>,
-    ctx: &mut Ctx<T>,
-    value: Result<R, E>,
-) -> Result<RouteOutcome<T>, NoMemory>
-    ensures some { (responder : R) → value ≡ Ok responder
-        → IfOk result (λ reply. MadeBy (λ given. R.may responder request.now ctx.old given ctx.new) reply) }
-    ensures none { (e : E) → value ≡ Err e
-        → (result ≡ Ok (Outcome.Error record { code = 500 })) × (ctx.new ≡ ctx.old) }
-    ensures grows { MayGrow ctx.old ctx.new }
-{
-    match value {
-        Ok(responder) => from(alloc, request, ctx, responder),
-        Err(_) => Ok(Outcome::Error(Status::InternalServerError)),
-    }
-}
 
 /// An Error with this status.
 pub fn error<T: Types>(status: Status) -> RouteOutcome<T>

@@ -4,8 +4,8 @@ ghost use Rattle.rkt_router.specs.Page.{typed, PrefersJson, IsDefaultPage};
 
 use rkt_base::NoMemory;
 use rkt_http::{Status, default_page};
+use rkt_message::Response;
 use rkt_request::{Request, Types};
-use rkt_response::Response;
 use rkt_source::Source;
 use std::alloc::Global;
 

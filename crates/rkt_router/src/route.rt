@@ -1,3 +1,3 @@
 //! Routes, and what their handlers answer.
-pub use crate::outcome::{error, forward, from, try_from};
+pub use crate::outcome::{error, forward};
 pub use rkt_route::route::{Route, Sentry, StaticInfo};

@@ -7,8 +7,8 @@ ghost use Rattle.rkt_router.specs.Calls.{GateRule, GateFits, Making, Turned, tur
 
 use crate::{CatchHandler, Handler, RouteOutcome, Step};
 use rkt_http::Status;
+use rkt_message::Response;
 use rkt_request::{Ctx, Request, Types};
-use rkt_response::Response;
 use std::alloc::Global;
 
 /// What a whole call gives.

@@ -7,12 +7,11 @@ use Rattle.rkt_http.specs.declared.status.Status.{Status}
 use Rattle.rkt_message.specs.Response.{ResponseOf}
 use Rattle.rkt_request.specs.Lent.{Kept}
 use Rattle.rkt_request.specs.Seen.{Seen}
-use Rattle.rkt_router.specs.Callbacks.{Reply}
+use Rattle.rkt_router.specs.Callbacks.{Reply, RequestAt}
 use Rattle.rkt_router.specs.Tries.{IsNextTry}
 use Rattle.rkt_turn.specs.HandsBack.{HandsBack}
 use Rattle.rkt_routing.specs.Beginning.{Beginning}
 use Rattle.rkt_routing.specs.Found.{Found}
-use Rattle.rkt_fairing.specs.Callbacks.{RequestAt}
 use Rattle.rkt_routing.specs.Routed.{Walks, Errors, Following, Settles, is_head, is_retried}
 use Rattle.rkt_routing.specs.Relations.{Relations}
 use Rattle.rkt_routing.specs.Stands.{Between, Follows}

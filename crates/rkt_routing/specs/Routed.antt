@@ -8,13 +8,12 @@ use Rattle.rkt_http.specs.declared.status.Status.{Status}
 use Rattle.rkt_message.specs.Response.{ResponseOf}
 use Rattle.rkt_request.specs.Lent.{Kept}
 use Rattle.rkt_request.specs.Seen.{Seen}
-use Rattle.rkt_fairing.specs.Callbacks.{RequestAt}
 use Rattle.rkt_request.specs.declared.bad.Bad.{Bad}
 use Rattle.rkt_route.specs.declared.catcher.Catcher.{Catcher}
 use Rattle.rkt_route.specs.declared.catcher.Catching.{Catching}
 use Rattle.rkt_route.specs.declared.catcher.Catching.TheVariants.{Rocket, App}
 use Rattle.rkt_route.specs.declared.route.Route.{Route}
-use Rattle.rkt_router.specs.Callbacks.{Reply}
+use Rattle.rkt_router.specs.Callbacks.{Reply, RequestAt}
 use Rattle.rkt_router.specs.Calls.{Made}
 use Rattle.rkt_router.specs.Catchers.{IsChosen}
 use Rattle.rkt_router.specs.Page.{IsDefaultPage}

@@ -1,7 +1,6 @@
 -- A law of routing: the calls that lead to what is found, and whatever follows it, are routing that is followed by that.
 use Rattle.std.specs.Prelude.{◌++◌, ◌==◌, ℕ, List, [], ◌∷◌, Bool, true, false, Option, Some, None, Result, Ok, Err, MatchBool, MatchOption}
 use Rattle.std.proofs.Common.{sym, subst}
-use Rattle.rkt_fairing.specs.Callbacks.{RequestAt}
 use Rattle.rkt_http.specs.declared.method.Method.TheVariants.{Get}
 use Rattle.rkt_http.specs.declared.outcome.Outcome.TheVariants.{Success, Error, Forward}
 use Rattle.rkt_http.specs.declared.status.Status.{Status}
@@ -9,7 +8,7 @@ use Rattle.rkt_message.specs.Response.{ResponseOf}
 use Rattle.rkt_request.specs.Lent.{Kept}
 use Rattle.rkt_request.specs.Seen.{Seen}
 use Rattle.rkt_request.specs.declared.bad.Bad.{Bad}
-use Rattle.rkt_router.specs.Callbacks.{Reply}
+use Rattle.rkt_router.specs.Callbacks.{Reply, RequestAt}
 use Rattle.rkt_router.specs.Tries.{IsNextTry}
 use Rattle.rkt_router.specs.declared.turn.Final.{Final}
 use Rattle.rkt_router.specs.declared.turn.Final.TheVariants.{Done, FailedTurn, Starved}

@@ -11,7 +11,7 @@ use Rattle.rkt_request.specs.declared.bad.Bad.{Bad}
 use Rattle.rkt_route.specs.declared.catcher.Catcher.{Catcher}
 use Rattle.rkt_route.specs.declared.catcher.Catching.TheVariants.{App}
 use Rattle.rkt_route.specs.declared.route.Route.{Route}
-use Rattle.rkt_router.specs.Callbacks.{Handed, Refused, Reply}
+use Rattle.rkt_router.specs.Callbacks.{Handed, Refused, Reply, RequestAt}
 use Rattle.rkt_router.specs.Calling.{Calling}
 use Rattle.rkt_router.specs.Calls.{GateFits, GateRule, Made, Making, OnceOver, any_gate}
 use Rattle.rkt_router.specs.Page.{IsDefaultPage}
@@ -23,7 +23,6 @@ use Rattle.rkt_turn.specs.HandsBack.{HandsBack}
 use Rattle.rkt_turn.specs.Shutdown.{Handle}
 use Rattle.rkt_routing.specs.Backs.{Backs}
 use Rattle.rkt_routing.specs.Between.{BetweenOf}
-use Rattle.rkt_fairing.specs.Callbacks.{RequestAt}
 use Rattle.rkt_routing.specs.Beginning.{Beginning}
 use Rattle.rkt_routing.specs.Found.{Found}
 use Rattle.rkt_routing.specs.Routed.{Routes, Walks, Goes, Chooses, Errors, Fails, Catches, CatcherReplies, Finds, Following, Retries, Settles, mounted, turns_of}

@@ -15,8 +15,8 @@ ghost use Rattle.rkt_routing.specs.Stands.{Called, CatcherTurned, Caught, Chosen
 use crate::stage::{CatcherTask, LiveOf, Moved, MovedOf, Stage};
 use crate::{Answer, TableOf, Which, recorded};
 use rkt_http::Status;
+use rkt_message::Response;
 use rkt_request::{Ctx, Types};
-use rkt_response::Response;
 use rkt_router::{CatchHandler, Catching, Final, Handler, Turn, default_handler};
 use std::alloc::Global;
 

@@ -4,8 +4,8 @@ ghost use Rattle.std.specs.Prelude.{◌≡◌};
 use crate::Call;
 use rkt_base::Seq;
 use rkt_http::Status;
+use rkt_message::Response;
 use rkt_request::{Body0, Ctx, Request, Types};
-use rkt_response::Response;
 use rkt_router::{CatchHandler, Handler};
 
 /// What callbacks are lent, and the calls that were made so far.

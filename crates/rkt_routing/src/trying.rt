@@ -14,8 +14,8 @@ ghost use Rattle.rkt_routing.specs.Stands.{Forwards, LeadsOn, Moves, Replied, Ro
 use crate::stage::{LiveOf, Moved, MovedOf, RouteTask, Stage};
 use crate::{Answer, TableOf, Which, recorded};
 use rkt_http::{Method, Outcome, Status};
+use rkt_message::Response;
 use rkt_request::{Body0, Mounted, Request, Types};
-use rkt_response::Response;
 use rkt_router::{CatchHandler, Final, Handler, Route, RouteOutcome, Turn};
 use std::alloc::Global;
 

@@ -1,6 +1,6 @@
 //! The catchers: what each answers for a status.
 ghost use Rattle.std.specs.Prelude.{◌≡◌, Some, codes};
-ghost use Rattle.rkt_router.specs.Answers.{StepsTo};
+ghost use Rattle.rkt_router.specs.Steps.{StepsTo};
 ghost use Rattle.rkt_response.specs.Responder.{refusal};
 ghost use Rattle.rkt_sample.specs.Added.{mark_of, with_added};
 ghost use Rattle.rkt_sample.specs.Catching.{tells};

@@ -13,13 +13,13 @@ use crate::route::SampleRoute;
 use crate::source::ToldSource;
 use crate::stop::StopReason;
 use crate::text::read_text;
+use rkt_answers::from;
 use rkt_base::{NoMemory, Want};
 use rkt_data::Source;
 use rkt_http::{Outcome, Status};
 use rkt_request::{Body0, Ctx, Request, Types};
 use rkt_response::{Flash, Redirect, Responder, Response};
 use rkt_router::RouteOutcome;
-use rkt_router::route::from;
 use std::alloc::{AllocError, Global};
 
 /// A text.

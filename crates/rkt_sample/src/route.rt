@@ -1,6 +1,6 @@
 //! The routes: what each answers to a request.
 ghost use Rattle.std.specs.Prelude.{◌≡◌, ◌∷◌, [], IfOk, OnOk, OnErr};
-ghost use Rattle.rkt_router.specs.Answers.{StepsTo};
+ghost use Rattle.rkt_router.specs.Steps.{StepsTo};
 ghost use Rattle.rkt_sample.specs.Replies.{left_by};
 ghost use Rattle.rkt_sample.specs.Routing.{Replies};
 

@@ -9,7 +9,7 @@ use Rattle.rkt_base.specs.declared.poll.Poll.TheVariants.{Pending}
 use Rattle.rkt_cancel.specs.Cancel.{Cancellable}
 use Rattle.rkt_data.specs.Body.{Body}
 use Rattle.rkt_data.specs.Tap.{Tapped, TapWaits}
-use Rattle.rkt_fairing.specs.Callbacks.{RequestAt}
+use Rattle.rkt_router.specs.Callbacks.{RequestAt}
 use Rattle.rkt_lifecycle.specs.Answers.{Answers, Outgoing, Pends as AnswerPends}
 use Rattle.rkt_lifecycle.specs.Asks.{Asks, Pends as AskPends}
 use Rattle.rkt_lifecycle.specs.Peeks.{Reads, cuts, waits_of}

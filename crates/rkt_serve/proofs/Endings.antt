@@ -5,7 +5,7 @@ use Rattle.std.specs.List.{All}
 use Rattle.rkt_base.specs.declared.poll.Poll.TheVariants.{Pending}
 use Rattle.rkt_cancel.specs.Cancel.{Cancellable}
 use Rattle.rkt_data.specs.Body.{Body}
-use Rattle.rkt_fairing.specs.Callbacks.{RequestAt, ResponseAt}
+use Rattle.rkt_fairing.specs.Callbacks.{ResponseAt}
 use Rattle.rkt_http.specs.declared.status.Status.{Status}
 use Rattle.rkt_lifecycle.specs.Beginning.{beginning}
 use Rattle.rkt_lifecycle.specs.Ended.{IfFinished, handle_of}
@@ -19,7 +19,7 @@ use Rattle.rkt_request.specs.Incoming.{IsIncoming}
 use Rattle.rkt_request.specs.Lent.{Kept}
 use Rattle.rkt_request.specs.Seen.{Seen}
 use Rattle.rkt_request.specs.declared.head.Head.{Head}
-use Rattle.rkt_router.specs.Callbacks.{Handed, Refused, Reply}
+use Rattle.rkt_router.specs.Callbacks.{Handed, Refused, Reply, RequestAt}
 use Rattle.rkt_router.specs.Calling.{Calling}
 use Rattle.rkt_router.specs.Calls.{GateFits, GateRule, InWindow}
 use Rattle.rkt_routing.specs.Backs.{Sees}

@@ -3,7 +3,7 @@ use Rattle.std.specs.Prelude.{◌≡◌, ℕ, List, None, Result, IsSome}
 use Rattle.rkt_cancel.specs.Cancel.{Cancellable}
 use Rattle.rkt_cookie.specs.Jar.{JarParts}
 use Rattle.rkt_data.specs.Body.{Body}
-use Rattle.rkt_fairing.specs.Callbacks.{RequestAt, ResponseAt}
+use Rattle.rkt_fairing.specs.Callbacks.{ResponseAt}
 use Rattle.rkt_http.specs.declared.status.Status.{Status}
 use Rattle.rkt_lifecycle.specs.Beginning.{beginning}
 use Rattle.rkt_lifecycle.specs.Stands.{SeenExchange, StandsFor}
@@ -14,7 +14,7 @@ use Rattle.rkt_request.specs.Lent.{Kept}
 use Rattle.rkt_request.specs.Seen.{Seen}
 use Rattle.rkt_request.specs.declared.bad.Bad.{Bad}
 use Rattle.rkt_request.specs.declared.head.Head.{Head}
-use Rattle.rkt_router.specs.Callbacks.{Handed, Refused, Reply}
+use Rattle.rkt_router.specs.Callbacks.{Handed, Refused, Reply, RequestAt}
 use Rattle.rkt_router.specs.Calling.{Calling}
 use Rattle.rkt_router.specs.Calls.{GateFits, GateRule}
 use Rattle.rkt_source.specs.Source.{Meaning}

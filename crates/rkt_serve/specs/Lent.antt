@@ -4,7 +4,7 @@ use Rattle.rkt_board.specs.Causes.{IsFree}
 use Rattle.rkt_board.specs.declared.history.EventOf.{EventOf}
 use Rattle.rkt_cancel.specs.Cancel.{Cancellable}
 use Rattle.rkt_data.specs.Body.{Body}
-use Rattle.rkt_fairing.specs.Callbacks.{RequestAt, ResponseAt}
+use Rattle.rkt_fairing.specs.Callbacks.{ResponseAt}
 use Rattle.rkt_http.specs.declared.status.Status.{Status}
 use Rattle.rkt_lifecycle.specs.Tables.{SeenTables}
 use Rattle.rkt_link.specs.Link.{LinkMeaning}
@@ -12,7 +12,7 @@ use Rattle.rkt_message.specs.Response.{ResponseOf}
 use Rattle.rkt_orbit.specs.Calls.{CallingAtShutdown}
 use Rattle.rkt_request.specs.Lent.{Kept}
 use Rattle.rkt_request.specs.Seen.{Seen}
-use Rattle.rkt_router.specs.Callbacks.{Handed, Refused, Reply}
+use Rattle.rkt_router.specs.Callbacks.{Handed, Refused, Reply, RequestAt}
 use Rattle.rkt_router.specs.Calling.{Calling}
 use Rattle.rkt_source.specs.Source.{Meaning}
 use Rattle.rkt_serve.specs.Causes.{CauseAt}

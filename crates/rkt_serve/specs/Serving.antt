@@ -2,7 +2,7 @@
 use Rattle.std.specs.Prelude.{ℕ, false, Option, Some, Result}
 use Rattle.rkt_cancel.specs.Cancel.{Cancellable}
 use Rattle.rkt_data.specs.Body.{Body}
-use Rattle.rkt_fairing.specs.Callbacks.{RequestAt, ResponseAt}
+use Rattle.rkt_fairing.specs.Callbacks.{ResponseAt}
 use Rattle.rkt_fairing.specs.InSlot.{slot_request, slot_response}
 use Rattle.rkt_fairing.specs.declared.slot.Slot.{Slot}
 use Rattle.rkt_http.specs.declared.status.Status.{Status}
@@ -12,7 +12,7 @@ use Rattle.rkt_lifecycle.specs.Tables.{SeenTables}
 use Rattle.rkt_message.specs.Response.{ResponseOf}
 use Rattle.rkt_request.specs.Lent.{Kept}
 use Rattle.rkt_request.specs.Seen.{Seen}
-use Rattle.rkt_router.specs.Callbacks.{Handed, Refused, Reply}
+use Rattle.rkt_router.specs.Callbacks.{Handed, Refused, Reply, RequestAt}
 use Rattle.rkt_router.specs.Calling.{Calling}
 use Rattle.rkt_router.specs.Calls.{GateRule}
 use Rattle.rkt_source.specs.Source.{Meaning}

@@ -31,7 +31,7 @@ use rkt_board::{Book, Closed, ClosedOf, Event, Mark};
 use rkt_life::{App, Build, Fairing, Ignite, Orbit, Rocket, Tables};
 use rkt_orbit::{Called, down_room};
 use rkt_request::{ConfigTable, Types};
-use rkt_router::Aborts;
+use rkt_sentinel::Aborts;
 use rkt_turn::{Reason, Shutdown};
 use std::alloc::Global;
 use std::sync::Wait;

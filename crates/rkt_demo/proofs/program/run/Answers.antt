@@ -1,8 +1,7 @@
 use Rattle.std.proofs.Common.{inl, inr, sym, subst, refl}
-use Rattle.rkt_demo.specs.declared.script.TheConstants.{SCRIPT_LIMIT}
+use Rattle.rkt_script.specs.declared.script.TheConstants.{SCRIPT_LIMIT}
 use Rattle.rkt_demo.specs.Program.{IsAccepted, config_refusal}
 use Rattle.rkt_demo.proofs.Runs.{IsRead, first_bad_read, not_bad, good_script, shown_script}
-use Rattle.rkt_demo.proofs.WordLemmas.{commands_once}
 use Rattle.rkt_demo.proofs.program.run.Goals as goal
 
 pub returns-in-Err-NoMemory-clause-memory_text : goal.returns-in-Err-NoMemory-clause-memory_text
@@ -59,7 +58,7 @@ returns-in-Err-Refused-serve_with-clause-memory_text g c six command = inr (
 pub returns-in-Err-Refused-serve_with-clause-complete : goal.returns-in-Err-Refused-serve_with-clause-complete
 returns-in-Err-Refused-serve_with-clause-complete g c table script command accepted is good unread unwritten =
     let refused : ¬ IsAccepted c.in-Ok.table = rw c.in-Err-Refused-serve_with.field-0-is at c.in-Err-Refused-serve_with.ensures.refused in
-    absurd (refused (subst IsAccepted (commands_once _ c.in-Ok.table table c.in-Ok.ensures.read command) accepted))
+    absurd (refused (subst IsAccepted (c.sets_once.ensures _ c.in-Ok.table table c.in-Ok.ensures.read command) accepted))
 
 pub returns-in-Ok-serve_with-clause-good : goal.returns-in-Ok-serve_with-clause-good
 returns-in-Ok-serve_with-clause-good g c done w is =

@@ -1,5 +1,5 @@
 use Rattle.std.proofs.Common.{◌≡◌}
-use Rattle.rkt_fairing.specs.Callbacks.{RequestAt}
+use Rattle.rkt_router.specs.Callbacks.{RequestAt}
 use Rattle.rkt_fairing.specs.declared.callback.Callback.TheVariants.{Request}
 use Rattle.rkt_fairing.specs.InSlot.{slot_request}
 use Rattle.rkt_router.specs.Calls.{GateFits, GateRule, any_gate}

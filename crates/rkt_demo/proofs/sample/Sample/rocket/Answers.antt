@@ -2,7 +2,7 @@ use Rattle.std.proofs.Common.{◌≡◌, ◌++◌, ◌∙◌, ap}
 use Rattle.rkt_life.specs.Built.{built}
 use Rattle.rkt_life.specs.NoFairing.{no_info}
 use Rattle.rkt_sample.specs.Mounted.{sample_catchers, sample_routes}
-use Rattle.rkt_demo.specs.Words.{Table}
+use Rattle.rkt_script.specs.Words.{Table}
 use Rattle.rkt_demo.proofs.Igniting.{Built, accepted_so, made_so, refused_so, sample_built, table_so}
 use Rattle.rkt_demo.proofs.sample.Sample.rocket.Goals as goal
 

@@ -1,4 +1,4 @@
-use Rattle.rkt_fairing.specs.Callbacks.{RequestAt}
+use Rattle.rkt_router.specs.Callbacks.{RequestAt}
 use Rattle.rkt_fairing.specs.InSlot.{slot_request}
 use Rattle.rkt_router.specs.Calls.{any_gate}
 use Rattle.rkt_routing.specs.BetweenLaws.{backs_none}

@@ -1,0 +1,4 @@
+pub mod Script
+pub mod Stopping
+pub mod Streams
+pub mod Words
