@@ -6,6 +6,7 @@
 //! | Line | Answer |
 //! |---|---|
 //! | `turns OTHERS TURNS` | a first pass and so many others each write in so many turns that they begin something, and then that they have ended it, the others in threads of their own: how many entries there are, how many of each pass, and whether the first pass has seen a front of them that has all of its own |
+//! | `desk LOOKS` | a struct of generic code owns an empty diary's lock and its first pass, which takes the turn and gives it so many times: how many entries there are when it is closed |
 //! | `threads WORD WORD` | one thread waits at a wire, which another trips with the first word and then with the second: what each saw, and what a third handle has seen before and after it notifies with the second |
 //! | `wire STEP \| STEP ..` | the answers of two handles of one wire |
 //!
@@ -15,10 +16,12 @@
 #![tactic(auto)]
 
 mod crossing;
+mod desk;
 mod diary;
 mod turns;
 mod wires;
 
+use crate::desk::push_desk;
 use crate::turns::push_turns;
 use crate::wires::{push_threads, push_wire};
 use cases::{CaseError, first_word, is_heading, print_answer};
@@ -37,6 +40,7 @@ fn push_answer<R: Threads + Wait + Sync>(
     let (command, rest) = first_word(line);
     match command {
         "turns" => push_turns(rt, alloc, rest, out),
+        "desk" => push_desk(rt, alloc, rest, out),
         "threads" => push_threads(rt, alloc, rest, out),
         "wire" => push_wire(alloc, rest, out),
         _ => Err(CaseError::Line),
