@@ -1,3 +1,5 @@
+pub mod Bytes
 pub mod Bytewise
 pub mod Grammar
+pub mod Numbers
 pub mod Places
