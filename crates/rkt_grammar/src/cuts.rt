@@ -13,7 +13,7 @@ pub fn cut(text: &str, mark: char) -> (&str, &str)
 }
 
 /// What stands before the first of a mark, or all where there is none.
-pub fn before(text: &str, mark: char) -> &str
+pub fn before_first(text: &str, mark: char) -> &str
     requires { mark < 128 }
     ensures { result.now ≡ before_first (λ b. b == mark) text.now }
 {
@@ -21,7 +21,7 @@ pub fn before(text: &str, mark: char) -> &str
 }
 
 /// What stands behind the first of a mark, if there is one.
-pub fn behind(text: &str, mark: char) -> Option<&str>
+pub fn behind_first(text: &str, mark: char) -> Option<&str>
     requires { mark < 128 }
     ensures { option_copied result ≡ behind_first (λ b. b == mark) text.now }
 {

@@ -8,6 +8,6 @@ mod grammar;
 mod token;
 
 pub use copies::{copy_pairs, copy_texts};
-pub use cuts::{before, behind, cut};
+pub use cuts::{before_first, behind_first, cut};
 pub use grammar::{Place, first_fault};
-pub use token::is_token_byte;
+pub use token::{has_token_bytes, is_token_byte};

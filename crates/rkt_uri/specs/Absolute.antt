@@ -1,8 +1,8 @@
 -- Absolute URIs (RFC 3986, 3.1, 3.2 and 4.3), as this project takes them: a scheme, and then an authority with maybe an origin behind it, or a path.
-use Rattle.std.specs.Prelude.{ℕ, ◌≡◌, ◌⊎◌, List, [], ◌∷◌, ◌++◌, Bool, true, ◌==◌, ◌||◌, ◌&&◌, nat_le, codes, Option, Some, None, IfSome, if◌then◌else◌}
-use Rattle.std.specs.List.{list_any, before_first, after_first}
+use Rattle.std.specs.Prelude.{ℕ, ◌≡◌, ◌⊎◌, List, [], ◌∷◌, ◌++◌, Bool, true, ◌==◌, ◌||◌, ◌&&◌, nat_le, nat_eq, codes, drop, Option, Some, None, IfSome, unwrap_or, if◌then◌else◌}
+use Rattle.std.specs.List.{list_any, before_first, starts_with}
 use Rattle.std.specs.Option.{option_map, option_and_then}
-use Rattle.rkt_grammar.specs.Grammar.{OnlyOf, IsFrontOf, has_byte}
+use Rattle.rkt_grammar.specs.Grammar.{OnlyOf, IsFrontOf, behind_first}
 use Rattle.rkt_uri.specs.Words.{Then, Many, One}
 use Rattle.rkt_grammar.specs.Grammar.{is_alphanumeric}
 use Rattle.rkt_uri.specs.Origin.{is_path_byte, is_query_byte, is_question, is_slash, IsOrigin}
@@ -100,17 +100,16 @@ SpellsOneAbsolute = (text : List ℕ) (a b : AbsoluteUri) → SpellsAbsolute tex
 abbrev pub scheme_of : List ℕ → List ℕ
 scheme_of text = before_first is_colon text
 
--- what stands behind this byte at the front, if it stands there
-abbrev pub behind_byte : ℕ → List ℕ → Option (List ℕ)
-behind_byte b [] = None
-behind_byte b (c ∷ cs) = if c == b then Some cs else None
+-- what stands behind two slashes, if the text begins with them
+abbrev pub behind_slashes : List ℕ → Option (List ℕ)
+behind_slashes text = if starts_with nat_eq text (codes "//") then Some (drop 2 text) else None
 
 abbrev pub is_at : ℕ → Bool
 is_at b = b == 64
 
 -- what stands behind the first at sign, or all where there is none
 abbrev pub without_user : List ℕ → List ℕ
-without_user text = if has_byte is_at text then after_first is_at text else text
+without_user text = unwrap_or (behind_first is_at text) text
 
 -- the host and the port of what stands behind two slashes: they go as far as the next slash or question mark
 abbrev pub host_and_port : List ℕ → List ℕ
@@ -118,7 +117,7 @@ host_and_port text = without_user (before_first is_question (before_first is_sla
 
 -- the host and the port that a text says, if two slashes stand behind its scheme
 abbrev pub authority_in : List ℕ → Option (List ℕ)
-authority_in text = option_map host_and_port (option_and_then (behind_byte 47) (behind_byte 47 (after_first is_colon text)))
+authority_in text = option_map host_and_port (option_and_then behind_slashes (behind_first is_colon text))
 
 abbrev pub host_of : List ℕ → Option (List ℕ)
 host_of text = option_map domain_in (authority_in text)
