@@ -1,5 +1,5 @@
+pub mod ByteLaws
 pub mod Bytes
-pub mod Bytewise
+pub mod BytewiseLaws
 pub mod Grammar
 pub mod Numbers
-pub mod Places
