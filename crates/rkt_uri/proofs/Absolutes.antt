@@ -4,12 +4,13 @@ use Rattle.std.specs.List.{before_first, after_first, starts_with}
 use Rattle.std.proofs.lemmas.Slice.Eq.{starts_is}
 use Rattle.std.proofs.lemmas.Bool.Decides.{Decides-eqb}
 use Rattle.std.specs.Option.{option_map, option_and_then}
+use Rattle.std.specs.Char.{is_ascii_alphabetic, is_ascii_digit}
 use Rattle.rkt_grammar.specs.Grammar.{OnlyOf, IsFrontOf, LeavesAt, has_byte, behind_first}
-use Rattle.rkt_grammar.specs.Places.{equal}
+use Rattle.rkt_grammar.specs.ByteLaws.{equal}
 use Rattle.rkt_uri.specs.Words.{Then}
 use Rattle.rkt_uri.specs.Origin.{is_slash, is_question, query_text, is_query_byte}
-use Rattle.rkt_uri.specs.Host.{Authority, MaybePort, MaybeHost, Address, is_digit, is_name_byte, is_address_byte, is_colon, domain_in, port_behind, IsDomain, SpellsPort, SpellsAuthority}
-use Rattle.rkt_uri.specs.Absolute.{is_letter, is_scheme_byte, is_user_byte, UserThen, MaybeOrigin, Located, IsHierarchy, AbsoluteForm, Site, AbsoluteUri, SpellsSite, SpellsHierarchy, IsScheme, SpellsAbsolute, IsAbsolute, scheme_of, behind_slashes, is_at, without_user, host_and_port, host_of, port_of}
+use Rattle.rkt_uri.specs.Host.{Authority, MaybePort, MaybeHost, Address, is_name_byte, is_address_byte, is_colon, domain_in, port_behind, IsDomain, SpellsPort, SpellsAuthority}
+use Rattle.rkt_uri.specs.Absolute.{is_scheme_byte, is_user_byte, UserThen, MaybeOrigin, Located, IsHierarchy, AbsoluteForm, Site, AbsoluteUri, SpellsSite, SpellsHierarchy, IsScheme, SpellsAbsolute, IsAbsolute, scheme_of, behind_slashes, is_at, without_user, host_and_port, host_of, port_of}
 use Rattle.rkt_uri.specs.declared.origin_place.Profile.TheVariants.{Request}
 use Rattle.rkt_uri.proofs.Firsts.{Free, before_free, has_free, before_stop, after_stop, has_stop, behind_stop, before_past, before_append, only_append, apart}
 use Rattle.rkt_uri.proofs.Hosts.{many_split, many_join, then_split, port_split, port_join, port_digits, bracketed, makes, authority_said, leaves_same}
@@ -153,7 +154,7 @@ leaves_absolute text at l = leaves_same AbsoluteForm IsAbsolute absolute_form te
 
 scheme_free : (scheme : List ℕ) → IsScheme scheme → Free is_colon scheme
 scheme_free [] is = absurd is
-scheme_free (c ∷ cs) is = ((apart is_letter 58 refl (c ∷ []) (is.0, tt)).0, apart is_scheme_byte 58 refl cs is.1)
+scheme_free (c ∷ cs) is = ((apart is_ascii_alphabetic 58 refl (c ∷ []) (is.0, tt)).0, apart is_scheme_byte 58 refl cs is.1)
 
 scheme_said : (text : List ℕ) (uri : AbsoluteUri) → SpellsAbsolute text uri → scheme_of text ≡ uri.scheme
 scheme_said text uri s = ap (before_first is_colon) s.spelled ∙ before_stop is_colon uri.scheme 58 s.behind (scheme_free uri.scheme s.scheme) refl
@@ -170,7 +171,7 @@ lone rest never = by_test (starts_with nat_eq rest (codes "//")) refl
     by_test false is = refl
 
 -- a byte that is of no host and no port is in none
-authority_free : (c : ℕ) → is_name_byte c ≡ false → is_address_byte c ≡ false → is_digit c ≡ false → (not (91 == c) ≡ true) × (not (93 == c) ≡ true) × (not (58 == c) ≡ true)
+authority_free : (c : ℕ) → is_name_byte c ≡ false → is_address_byte c ≡ false → is_ascii_digit c ≡ false → (not (91 == c) ≡ true) × (not (93 == c) ≡ true) × (not (58 == c) ≡ true)
     → (text : List ℕ) (host : Authority) → SpellsAuthority text host → Free (λ b. b == c) text
 authority_free c name address digit marks text host s =
     let P : List ℕ → Type 0 = Free (λ b. b == c) in
@@ -186,7 +187,7 @@ authority_free c name address digit marks text host s =
     of_port port_text None is = let P : List ℕ → Type 0 = Free (λ b. b == c) in subst P (sym is) tt
     of_port port_text (Some k) p =
         let P : List ℕ → Type 0 = Free (λ b. b == c) in
-        subst P (sym p.3) (marks.2, apart is_digit c digit (p.0 ∷ p.1) (port_digits 0 (p.0 ∷ p.1) k p.2))
+        subst P (sym p.3) (marks.2, apart is_ascii_digit c digit (p.0 ∷ p.1) (port_digits 0 (p.0 ∷ p.1) k p.2))
 
 -- nor is one that is not of a user part either in a site
 site_free : (c : ℕ) → is_user_byte c ≡ false → not (64 == c) ≡ true → (text : List ℕ) (user : Option (List ℕ)) (host : Authority)
@@ -245,7 +246,7 @@ site_said front rest site s r =
     (site_free 63 refl refl front site.user site.host (authority_free_of 63 refl refl refl (refl, refl, refl)) s)
     r
   where
-    authority_free_of : (c : ℕ) → is_name_byte c ≡ false → is_address_byte c ≡ false → is_digit c ≡ false → (not (91 == c) ≡ true) × (not (93 == c) ≡ true) × (not (58 == c) ≡ true)
+    authority_free_of : (c : ℕ) → is_name_byte c ≡ false → is_address_byte c ≡ false → is_ascii_digit c ≡ false → (not (91 == c) ≡ true) × (not (93 == c) ≡ true) × (not (58 == c) ≡ true)
         → (text : List ℕ) → SpellsAuthority text site.host → Free (λ b. b == c) text
     authority_free_of c name address digit marks text h = authority_free c name address digit marks text site.host h
 

@@ -4,7 +4,7 @@ use Rattle.std.proofs.lemmas.Bool.{false≢true}
 use Rattle.std.proofs.lemmas.Bool.Decides.{nat_tests}
 use Rattle.std.specs.List.{before_first, after_first, position_or_len}
 use Rattle.rkt_grammar.specs.Grammar.{OnlyOf, has_byte, behind_first}
-use Rattle.rkt_grammar.specs.Places.{equal, clash}
+use Rattle.rkt_grammar.specs.ByteLaws.{equal, clash}
 
 -- no byte passes the test
 abbrev pub Free : (ℕ → Bool) → List ℕ → Type 0

@@ -2,6 +2,7 @@ ghost use Rattle.std.specs.Prelude.{◌≡◌, ◌<◌, ◌∷◌, ◌++◌, [],
 ghost use Rattle.std.specs.List.{join_with_byte};
 ghost use Rattle.rkt_base.specs.Want.{IfRefused, GivesUnlessNoMemory};
 ghost use Rattle.rkt_grammar.specs.Grammar.{LeavesAt};
+ghost use Rattle.rkt_grammar.specs.Bytes.{slash, ampersand};
 ghost use Rattle.rkt_uri.specs.Origin.{Target, Spells, IsOrigin, IsTarget, spelling, decoded, decoded_field_part, field_of, pieces, raw_segments_of, segments_of, fields_of, target_of, query_text, led, normal_form, normalized};
 
 use crate::origin_iter::{QueryFields, RawSegments};
@@ -74,7 +75,7 @@ fn push_segment(alloc: Global, segments: &mut Seq<Text>, piece: &str) -> Result<
 }
 
 fn read_segments(alloc: Global, path: &str) -> Result<Seq<Text>, NoMemory>
-    ensures { IfOk result (λ v. v ≡ map decoded (pieces 47 path.now)) }
+    ensures { IfOk result (λ v. v ≡ map decoded (pieces slash path.now)) }
 {
     let mut segments = Seq::new(alloc);
     push_segments(alloc, &mut segments, path)?;
@@ -84,7 +85,7 @@ fn read_segments(alloc: Global, path: &str) -> Result<Seq<Text>, NoMemory>
 /// Adds the segments of a path where there is none yet.
 fn push_segments(alloc: Global, segments: &mut Seq<Text>, path: &str) -> Result<(), NoMemory>
     requires { segments.old ≡ [] }
-    ensures { OnOk result (segments.new ≡ map decoded (pieces 47 path.now)) }
+    ensures { OnOk result (segments.new ≡ map decoded (pieces slash path.now)) }
 {
     for piece in path.split('/') {
         if !piece.is_empty() {
@@ -103,7 +104,7 @@ fn push_field(alloc: Global, fields: &mut Vec<(Text, Text)>, piece: &str) -> Res
 }
 
 fn read_fields(alloc: Global, query: &str) -> Result<Vec<(Text, Text)>, NoMemory>
-    ensures { IfOk result (λ v. v.items ≡ map field_of (pieces 38 query.now)) }
+    ensures { IfOk result (λ v. v.items ≡ map field_of (pieces ampersand query.now)) }
 {
     let mut fields = Vec::new(alloc);
     push_fields(alloc, &mut fields, query)?;
@@ -113,7 +114,7 @@ fn read_fields(alloc: Global, query: &str) -> Result<Vec<(Text, Text)>, NoMemory
 /// Adds the fields of a query where there is none yet.
 fn push_fields(alloc: Global, fields: &mut Vec<(Text, Text)>, query: &str) -> Result<(), NoMemory>
     requires { fields.old.items ≡ [] }
-    ensures { OnOk result (fields.new.items ≡ map field_of (pieces 38 query.now)) }
+    ensures { OnOk result (fields.new.items ≡ map field_of (pieces ampersand query.now)) }
 {
     for piece in query.split('&') {
         if !piece.is_empty() {
@@ -174,7 +175,7 @@ fn push_led(out: &mut String, text: &str, separator: char) -> Result<(), NoMemor
 
 /// The path of the normal form.
 fn normal_path(alloc: Global, path: &str) -> Result<String, NoMemory>
-    ensures { IfOk result (λ t. string_bytes t ≡ 47 ∷ join_with_byte 47 (pieces 47 path.now)) }
+    ensures { IfOk result (λ t. string_bytes t ≡ slash ∷ join_with_byte slash (pieces slash path.now)) }
 {
     let mut text = led_pieces(alloc, path, '/')?;
     if text.as_str().is_empty() {

@@ -1,4 +1,5 @@
 ghost use Rattle.std.specs.Prelude.{◌≡◌, List, ℕ, length};
+ghost use Rattle.rkt_grammar.specs.Bytes.{slash};
 ghost use Rattle.rkt_uri.specs.Origin.{pieces};
 
 use rkt_base::Text;
@@ -14,12 +15,12 @@ pub struct RawSegments<'a> {
 impl<'a> Model for RawSegments<'a> {
     ghost Value = { List (List ℕ) };
 
-    ghost view = { λ s. pieces 47 s.rest.now };
+    ghost view = { λ s. pieces slash s.rest.now };
 }
 
 impl<'a> RawSegments<'a> {
     pub(crate) fn new(path: &'a str) -> RawSegments<'a>
-        ensures { result ≡ pieces 47 path.entry.now }
+        ensures { result ≡ pieces slash path.entry.now }
     {
         RawSegments { rest: path }
     }
