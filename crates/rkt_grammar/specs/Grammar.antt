@@ -1,6 +1,6 @@
 -- Where a text leaves a grammar. A grammar is the fact that a text is of it.
-use Rattle.std.specs.Prelude.{ℕ, ◌≡◌, ◌≤◌, Bool, true, List, [], ◌∷◌, ◌++◌, ⊤, length, take, nat_lt, Option, Some, None, if◌then◌else◌, ◌||◌, ◌&&◌, nat_le}
-use Rattle.std.specs.List.{position_or_len, after_first}
+use Rattle.std.specs.Prelude.{ℕ, ◌≡◌, ◌≤◌, Bool, true, List, [], ◌∷◌, ◌++◌, ⊤, length, take, nat_lt, codes, ◌==◌, Option, Some, None, if◌then◌else◌, ◌||◌, ◌&&◌, nat_le}
+use Rattle.std.specs.List.{list_any, position_or_len, after_first}
 
 -- some text of the grammar begins so
 abbrev pub Begins : (List ℕ → Type 0) → List ℕ → Type 0
@@ -33,3 +33,7 @@ IsFrontOf {X} front all = (rest : List X) × (all ≡ front ++ rest)
 -- a digit or a letter
 abbrev pub is_alphanumeric : ℕ → Bool
 is_alphanumeric b = (nat_le 48 b && nat_le b 57) || (nat_le 65 b && nat_le b 90) || (nat_le 97 b && nat_le b 122)
+
+-- a byte of a token (RFC 9110, 5.6.2)
+abbrev pub is_token_byte : ℕ → Bool
+is_token_byte b = is_alphanumeric b || list_any (λ c. c == b) (codes "!#$%&'*+-.^_`|~")

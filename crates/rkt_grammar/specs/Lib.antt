@@ -1,3 +1,5 @@
-pub mod Bytewise
+pub mod ByteLaws
+pub mod Bytes
+pub mod BytewiseLaws
 pub mod Grammar
-pub mod Places
+pub mod Numbers

@@ -2,14 +2,15 @@
 use Rattle.std.proofs.Common.{◌≡◌, ℕ, ◌+◌, ◌-◌, ◌*◌, ◌/◌, ◌<◌, ◌≤◌, List, [], ◌∷◌, ◌++◌, Bool, true, false, ◌==◌, ◌||◌, if◌then◌else◌, Option, Some, None, not, map, filter, length, drop, get_or, unwrap_or, sym, ◌∙◌, ap, subst, inl, inr, refl, arith, append_assoc, append-nil, length-append, add_assoc}
 use Rattle.std.specs.Char.{is_ascii_digit}
 use Rattle.std.specs.Option.{option_or}
-use Rattle.rkt_grammar.specs.Places.{differ}
+use Rattle.rkt_grammar.specs.ByteLaws.{differ}
 use Rattle.rkt_media.specs.Runs.{behind_run}
 use Rattle.rkt_media.specs.Media.{Media, Parameter}
-use Rattle.rkt_media.specs.MediaText.{is_token_byte, is_blank, ValueThen, ParametersThen, MediaThen, Exactly, NoSemicolon, IsSpelled}
-use Rattle.rkt_media.specs.MediaRests.{along, head_same}
+use Rattle.rkt_grammar.specs.Grammar.{is_token_byte}
+use Rattle.rkt_media.specs.MediaText.{is_blank, ValueThen, ParametersThen, MediaThen, Exactly, NoSemicolon, IsSpelled}
+use Rattle.rkt_media.specs.MediaRestLaws.{along, head_same}
 use Rattle.rkt_media.specs.Accept.{Weighed, is_weight, weight_said, weight_in, weighed, thousandths}
 use Rattle.rkt_media.specs.AcceptText.{is_gap, CommaThen, ListsMedia}
-use Rattle.rkt_media.specs.AcceptRests.{lists_along}
+use Rattle.rkt_media.specs.AcceptRestLaws.{lists_along}
 use Rattle.rkt_media.proofs.MediaParts.{media_parts, media_same, some_parts}
 use Rattle.rkt_media.proofs.MediaReads.{semicolon_more}
 use Rattle.rkt_media.proofs.RunLemmas.{length-behind_run, drop_at}

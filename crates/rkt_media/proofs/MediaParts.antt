@@ -3,8 +3,9 @@ use Rattle.std.proofs.Common.{◌≡◌, ℕ, List, [], ◌∷◌, ◌++◌, Boo
 use Rattle.std.proofs.lemmas.Bool.{false≢true}
 use Rattle.rkt_media.specs.Runs.{run, behind_run, Starts}
 use Rattle.rkt_media.specs.Media.{Media, Parameter, parameter_text, media_text}
-use Rattle.rkt_media.specs.MediaText.{is_token_byte, is_blank, is_escapable, is_quoted_byte, behind_quoted, TokenThen, ByteThen, ValueThen, ParameterThen, ParametersThen, MediaThen, SpellsMedia, Exactly, AreSpelled, IsSpelled}
-use Rattle.rkt_media.specs.MediaRests.{along, quoted_front, blank_no_token}
+use Rattle.rkt_grammar.specs.Grammar.{is_token_byte}
+use Rattle.rkt_media.specs.MediaText.{is_blank, is_escapable, is_quoted_byte, behind_quoted, TokenThen, ByteThen, ValueThen, ParameterThen, ParametersThen, MediaThen, SpellsMedia, Exactly, AreSpelled, IsSpelled}
+use Rattle.rkt_media.specs.MediaRestLaws.{along, quoted_front, blank_no_token}
 use Rattle.rkt_media.proofs.RunLemmas.{cancel}
 
 -- a run is all run

@@ -2,8 +2,9 @@
 use Rattle.std.proofs.Common.{◌≡◌, ◌≢◌, ℕ, List, [], ◌∷◌, ◌++◌, length, ◌<◌, ◌≤◌, sym, ◌∙◌, ap, inl, inr, refl, arith, append_assoc, append-nil}
 use Rattle.rkt_media.specs.Runs.{run, behind_run}
 use Rattle.rkt_media.specs.Media.{Parameter}
-use Rattle.rkt_media.specs.MediaText.{is_token_byte, is_blank, ValueThen, SemicolonThen, ParametersThen, Exactly, NoSemicolon}
-use Rattle.rkt_media.specs.MediaRests.{along, tail_same}
+use Rattle.rkt_grammar.specs.Grammar.{is_token_byte}
+use Rattle.rkt_media.specs.MediaText.{is_blank, ValueThen, SemicolonThen, ParametersThen, Exactly, NoSemicolon}
+use Rattle.rkt_media.specs.MediaRestLaws.{along, tail_same}
 use Rattle.rkt_media.proofs.RunLemmas.{length-behind_run}
 
 -- a value, and just what follows it

@@ -6,12 +6,12 @@ use Rattle.std.proofs.lemmas.Str.{IsCharBoundary-start, IsCharBoundary-end, IsCh
 use Rattle.std.specs.Str.{IsUtf8, IsCharBoundary}
 use Rattle.std.specs.List.{list_any}
 use Rattle.rkt_media.specs.Runs.{run, behind_run}
-use Rattle.rkt_grammar.specs.Grammar.{is_alphanumeric}
+use Rattle.rkt_grammar.specs.Grammar.{is_alphanumeric, is_token_byte}
 use Rattle.rkt_media.specs.ByteClass.{is_of}
-use Rattle.rkt_media.specs.MediaRests.{head_same, tail_same}
+use Rattle.rkt_media.specs.MediaRestLaws.{head_same, tail_same}
 use Rattle.rkt_media.specs.declared.byte_run.ByteClass.{ByteClass}
 use Rattle.rkt_media.specs.declared.byte_run.ByteClass.TheVariants.{Token, Blank, Gap}
-use Rattle.rkt_media.specs.MediaText.{is_token_byte, is_blank, behind_quoted, quote_step, is_quoted_byte, is_escapable, ValueThen, Exactly}
+use Rattle.rkt_media.specs.MediaText.{is_blank, behind_quoted, quote_step, is_quoted_byte, is_escapable, ValueThen, Exactly}
 use Rattle.std.proofs.Math.Seq.{drop-cons}
 
 either : (s t : Bool) → (s || t) ≡ true → (s ≡ true) ⊎ (t ≡ true)

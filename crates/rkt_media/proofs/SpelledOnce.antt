@@ -6,8 +6,9 @@ use Rattle.std.proofs.lemmas.List.{append_cancel_right}
 use Rattle.rkt_media.specs.Accept.{Weighed, PrefersOne, weighed}
 use Rattle.rkt_media.specs.AcceptText.{is_gap, ListsMedia, CommaThen, SpellsOneAccept}
 use Rattle.rkt_media.specs.Media.{Media, Parameter}
-use Rattle.rkt_media.specs.MediaRests.{along, tail_same}
-use Rattle.rkt_media.specs.MediaText.{is_token_byte, is_blank, behind_quoted, ValueThen, SemicolonThen, ParametersThen, MediaThen, Exactly, NoSemicolon, SpellsOneMedia}
+use Rattle.rkt_media.specs.MediaRestLaws.{along, tail_same}
+use Rattle.rkt_grammar.specs.Grammar.{is_token_byte}
+use Rattle.rkt_media.specs.MediaText.{is_blank, behind_quoted, ValueThen, SemicolonThen, ParametersThen, MediaThen, Exactly, NoSemicolon, SpellsOneMedia}
 use Rattle.rkt_media.specs.Runs.{run, behind_run, Starts}
 use Rattle.rkt_media.proofs.AcceptReads.{media_more, comma_stops, list_goes_on}
 use Rattle.rkt_media.proofs.MediaReads.{semicolon_more, parameter_read, nothing_more}

@@ -1,7 +1,9 @@
--- Which media types are accepted, and which of them is preferred (RFC 9110, 12.4.2 and 12.5.1).
+-- Which media types are accepted, with their weights (RFC 9110, 12.4.2), and which of them is preferred: of those with the
+-- greatest weight one of the most specific. The RFC asks a recipient for the weights alone; the rest is this project's order.
 use Rattle.std.specs.Prelude.{ℕ, ◌+◌, ◌-◌, ◌*◌, ◌/◌, ◌≡◌, ◌<◌, ◌⊎◌, List, [], ◌∷◌, Bool, not, codes, filter, length, slice_get, Option, Some, None, unwrap_or, if◌then◌else◌}
 use Rattle.std.specs.Char.{is_ascii_digit}
 use Rattle.std.specs.Str.{str_eq_ignore_ascii_case}
+use Rattle.rkt_grammar.specs.Bytes.{digit_zero}
 use Rattle.rkt_media.specs.Media.{Media, Parameter, specificity_of}
 
 -- a media type, and its weight in thousandths
@@ -16,7 +18,7 @@ is_weight p = str_eq_ignore_ascii_case p.0 (codes "q")
 -- the digits of a number, where the first counts so many thousandths, and each further one a tenth of that
 abbrev pub thousandths : ℕ → List ℕ → ℕ
 thousandths unit [] = 0
-thousandths unit (digit ∷ digits) = unit * (digit - 48) + thousandths (unit / 10) digits
+thousandths unit (digit ∷ digits) = unit * (digit - digit_zero) + thousandths (unit / 10) digits
 
 -- a weight in thousandths
 abbrev pub weight_of : List ℕ → ℕ

@@ -2,13 +2,15 @@
 use Rattle.std.proofs.Common.{◌≡◌, ℕ, zero, suc, ◌-◌, List, [], ◌∷◌, Bool, true, false, ◌==◌, ◌&&◌, nat_lt, if◌then◌else◌, refl, inl, inr, ◌↔◌, Option, Some, None, MatchOption, MatchBool, option_map, sym, ◌∙◌, ap, subst, arith, sub-one}
 use Rattle.std.proofs.lemmas.Bool.{false≢true}
 use Rattle.std.proofs.lemmas.Bool.Decides.{nat_tests}
-use Rattle.rkt_grammar.specs.Grammar.{Begins}
-use Rattle.rkt_grammar.specs.Places.{equal, differ}
+use Rattle.rkt_grammar.specs.Grammar.{Begins, is_token_byte}
+use Rattle.rkt_grammar.specs.ByteLaws.{equal, differ}
 use Rattle.rkt_media.specs.Runs.{run}
-use Rattle.rkt_media.specs.MediaText.{is_token_byte, is_blank, is_escapable, is_quoted_byte, ByteThen}
-use Rattle.rkt_media.specs.MediaRests.{blank_no_token, RunOn, WordOn, SubOn, TopOn, QuotedOn, ValueOn, NameOn, along, through, run_on, byte_in, byte_out, byte_other, byte_none, run_stays, run_ends, mark_stays, mark_comes, mark_misses, word_begins, word_misses, sub_begins, value_begins, value_opens, value_misses, quoted_closes, quoted_escapes, quoted_stays, quoted_misses, escaped_stays, escaped_misses}
+use Rattle.rkt_media.specs.MediaText.{is_blank, is_escapable, is_quoted_byte, ByteThen}
+use Rattle.rkt_media.specs.MediaRestLaws.{blank_no_token, along, through, run_on, byte_in, byte_out, byte_other, byte_none, run_stays, run_ends, mark_stays, mark_comes, mark_misses, word_begins, word_misses, sub_begins, value_begins, value_opens, value_misses, quoted_closes, quoted_escapes, quoted_stays, quoted_misses, escaped_stays, escaped_misses}
+use Rattle.rkt_media.specs.MediaRests.{RunOn, WordOn, SubOn, TopOn, QuotedOn, ValueOn, NameOn}
 use Rattle.rkt_media.specs.AcceptText.{is_gap, is_digit_to, DigitsTo, FractionTo, IsWeight, IsAccept}
-use Rattle.rkt_media.specs.AcceptRests.{is_q, Tail, WeightOn, WeightNameOn, ParameterOn, q_no_blank, comma_no_token, semicolon_no_token, point_token, zero_token, one_token, digit_token, lists_along, tail_blank, run_more, name_stays, tail_semicolon, tail_comma, tail_none, weight_ends, weight_goes, first_media}
+use Rattle.rkt_media.specs.AcceptRestLaws.{q_no_blank, comma_no_token, semicolon_no_token, point_token, zero_token, one_token, digit_token, lists_along, tail_blank, run_more, name_stays, tail_semicolon, tail_comma, tail_none, weight_ends, weight_goes, first_media}
+use Rattle.rkt_media.specs.AcceptRests.{is_q, Tail, WeightOn, WeightNameOn, ParameterOn}
 use Rattle.rkt_media.specs.declared.media_place.MediaPlace.{MediaPlace}
 use Rattle.rkt_media.specs.declared.media_place.MediaPlace.TheVariants.{TopStart, Top, SubStart, LastWord, Blank, Semicolon, Name, ValueStart, Quoted, Escaped, Closed}
 use Rattle.rkt_media.specs.declared.accept_place.AcceptPlace.{AcceptPlace}

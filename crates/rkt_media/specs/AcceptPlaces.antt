@@ -1,6 +1,8 @@
 -- Where a reader stands in a list of accepted media types, and what may follow.
 use Rattle.std.specs.Prelude.{ℕ, ◌-◌, List, Bool, true, false, ◌==◌, ◌&&◌, nat_lt, if◌then◌else◌, Option, Some, None, option_map}
-use Rattle.rkt_media.specs.MediaText.{is_token_byte, is_blank}
+use Rattle.rkt_grammar.specs.Bytes.{comma, equals_sign, digit_zero, digit_nine, digit_one, dot}
+use Rattle.rkt_grammar.specs.Grammar.{is_token_byte}
+use Rattle.rkt_media.specs.MediaText.{is_blank}
 use Rattle.rkt_media.specs.MediaRests.{RunOn, WordOn, SubOn, TopOn, QuotedOn, ValueOn, NameOn}
 use Rattle.rkt_media.specs.MediaPlaces.{after_value, place_after as media_after}
 use Rattle.rkt_media.specs.AcceptText.{is_gap, is_digit_to, DigitsTo, FractionTo, IsWeight, IsAccept}
@@ -12,14 +14,14 @@ use Rattle.rkt_media.specs.declared.accept_place.AcceptPlace.TheVariants.{Betwee
 
 -- the place behind one more byte, where an entry may end
 abbrev pub behind_entry : ℕ → Option AcceptPlace
-behind_entry b = if b == 44 then Some Between else option_map Inside (after_value b)
+behind_entry b = if b == comma then Some Between else option_map Inside (after_value b)
 
 -- the place behind one more byte of a media type
 abbrev pub after_inside : MediaPlace → ℕ → Option AcceptPlace
 after_inside TopStart b = option_map Inside (media_after TopStart b)
 after_inside Top b = option_map Inside (media_after Top b)
 after_inside SubStart b = option_map Inside (media_after SubStart b)
-after_inside LastWord b = if b == 44 then Some Between else option_map Inside (media_after LastWord b)
+after_inside LastWord b = if b == comma then Some Between else option_map Inside (media_after LastWord b)
 after_inside Blank b = behind_entry b
 after_inside Semicolon b = if is_q b then Some WeightName else option_map Inside (media_after Semicolon b)
 after_inside Name b = option_map Inside (media_after Name b)
@@ -31,9 +33,9 @@ after_inside Closed b = behind_entry b
 abbrev pub place_after : AcceptPlace → ℕ → Option AcceptPlace
 place_after Between b = if is_gap b then Some Between else (if is_token_byte b then Some (Inside Top) else None)
 place_after (Inside place) b = after_inside place b
-place_after WeightName b = if is_token_byte b then Some (Inside Name) else (if b == 61 then Some WeightStart else None)
-place_after WeightStart b = if b == 48 then Some (Whole 57) else (if b == 49 then Some (Whole 48) else None)
-place_after (Whole most) b = if b == 46 then Some (Digits most 3) else behind_entry b
+place_after WeightName b = if is_token_byte b then Some (Inside Name) else (if b == equals_sign then Some WeightStart else None)
+place_after WeightStart b = if b == digit_zero then Some (Whole digit_nine) else (if b == digit_one then Some (Whole digit_zero) else None)
+place_after (Whole most) b = if b == dot then Some (Digits most 3) else behind_entry b
 place_after (Digits most left) b = if nat_lt 0 left && is_digit_to most b then Some (Digits most (left - 1)) else behind_entry b
 
 abbrev pub may_end_inside : MediaPlace → Bool

@@ -1,6 +1,7 @@
 -- Bytes that are read in one run.
 use Rattle.std.specs.Prelude.{ℕ, Bool}
-use Rattle.rkt_media.specs.MediaText.{is_token_byte, is_blank}
+use Rattle.rkt_grammar.specs.Grammar.{is_token_byte}
+use Rattle.rkt_media.specs.MediaText.{is_blank}
 use Rattle.rkt_media.specs.AcceptText.{is_gap}
 use Rattle.rkt_media.specs.declared.byte_run.ByteClass.{ByteClass}
 use Rattle.rkt_media.specs.declared.byte_run.ByteClass.TheVariants.{Token, Blank, Gap}

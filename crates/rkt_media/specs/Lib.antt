@@ -1,13 +1,15 @@
 pub mod Accept
 pub mod AcceptPlaceLaws
 pub mod AcceptPlaces
+pub mod AcceptRestLaws
 pub mod AcceptRests
 pub mod AcceptText
 pub mod ByteClass
 pub mod Media
-pub mod MediaEquality
+pub mod MediaEqualityLaws
 pub mod MediaPlaceLaws
 pub mod MediaPlaces
+pub mod MediaRestLaws
 pub mod MediaRests
 pub mod MediaText
 pub mod Ranges

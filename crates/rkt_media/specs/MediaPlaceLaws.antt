@@ -1,11 +1,12 @@
 -- What may follow in a media type, byte by byte.
 use Rattle.std.proofs.Common.{◌≡◌, ℕ, List, [], ◌∷◌, Bool, true, false, ◌==◌, if◌then◌else◌, refl, inl, inr, ◌↔◌, Option, Some, None, MatchOption}
 use Rattle.std.proofs.lemmas.Bool.{false≢true}
-use Rattle.rkt_grammar.specs.Grammar.{Begins}
+use Rattle.rkt_grammar.specs.Grammar.{Begins, is_token_byte}
 use Rattle.rkt_media.specs.Runs.{behind_run}
 use Rattle.rkt_media.specs.Media.{Parameter}
-use Rattle.rkt_media.specs.MediaText.{is_token_byte, is_blank, is_escapable, is_quoted_byte, IsMedia}
-use Rattle.rkt_media.specs.MediaRests.{RunOn, MarkOn, WordOn, SubOn, TopOn, QuotedOn, ValueOn, NameOn, through, byte_none, run_stays, run_ends, mark_stays, mark_comes, mark_misses, word_begins, word_misses, sub_begins, value_begins, value_opens, value_misses, quoted_closes, quoted_escapes, quoted_stays, quoted_misses, escaped_stays, escaped_misses, parameter_spelled, media_spelled}
+use Rattle.rkt_media.specs.MediaText.{is_blank, is_escapable, is_quoted_byte, IsMedia}
+use Rattle.rkt_media.specs.MediaRestLaws.{through, byte_none, run_stays, run_ends, mark_stays, mark_comes, mark_misses, word_begins, word_misses, sub_begins, value_begins, value_opens, value_misses, quoted_closes, quoted_escapes, quoted_stays, quoted_misses, escaped_stays, escaped_misses, parameter_spelled, media_spelled}
+use Rattle.rkt_media.specs.MediaRests.{RunOn, MarkOn, WordOn, SubOn, TopOn, QuotedOn, ValueOn, NameOn}
 use Rattle.rkt_media.specs.declared.media_place.MediaPlace.{MediaPlace}
 use Rattle.rkt_media.specs.declared.media_place.MediaPlace.TheVariants.{TopStart, Top, SubStart, LastWord, Blank, Semicolon, Name, ValueStart, Quoted, Escaped, Closed}
 use Rattle.rkt_media.specs.MediaPlaces.{place_after, may_end, Given, AnyParameters, ParameterOn, rest_of}

@@ -1,36 +1,33 @@
--- The grammar of a media type (RFC 9110, 8.3.1), of tokens (5.6.2) and quoted strings (5.6.4), as this project takes it:
--- behind each semicolon stands a parameter.
-use Rattle.std.specs.Prelude.{ℕ, ◌≡◌, ◌≢◌, ◌⊎◌, ⊤, List, [], ◌∷◌, ◌++◌, Bool, true, false, ◌==◌, ◌||◌, ◌&&◌, nat_le, not, codes, Option, Some, None, if◌then◌else◌}
-use Rattle.std.specs.List.{list_any}
-use Rattle.rkt_grammar.specs.Grammar.{is_alphanumeric}
+-- The grammar of a media type (RFC 9110, 8.3.1), of tokens (5.6.2), quoted strings (5.6.4) and parameters (5.6.6). It is
+-- stricter than 5.6.6 in one thing: behind each semicolon stands a parameter.
+use Rattle.std.specs.Prelude.{ℕ, ◌≡◌, ◌≢◌, ◌⊎◌, ⊤, List, [], ◌∷◌, ◌++◌, Bool, true, false, ◌==◌, ◌||◌, ◌&&◌, nat_le, not, Option, Some, None, if◌then◌else◌}
+use Rattle.rkt_grammar.specs.Bytes.{space, tab, delete, quotation_mark, backslash, equals_sign, semicolon, slash}
+use Rattle.rkt_grammar.specs.Grammar.{is_token_byte}
 use Rattle.rkt_media.specs.Runs.{run, behind_run, Starts}
 use Rattle.rkt_media.specs.Media.{Media, Parameter}
 
-abbrev pub is_token_byte : ℕ → Bool
-is_token_byte b = is_alphanumeric b || list_any (λ c. c == b) (codes "!#$%&'*+-.^_`|~")
-
 -- a space or a tab
 abbrev pub is_blank : ℕ → Bool
-is_blank b = b == 32 || b == 9
+is_blank b = b == space || b == tab
 
--- what may stand behind a backslash
+-- what may stand behind a backslash: a byte of a text, a tab or a byte past ASCII (5.6.4)
 abbrev pub is_escapable : ℕ → Bool
-is_escapable b = b == 9 || (nat_le 32 b && not (b == 127))
+is_escapable b = b == tab || (nat_le space b && not (b == delete))
 
 -- what stands for itself between quotation marks
 abbrev pub is_quoted_byte : ℕ → Bool
-is_quoted_byte b = is_escapable b && not (b == 34) && not (b == 92)
+is_quoted_byte b = is_escapable b && not (b == quotation_mark) && not (b == backslash)
 
 -- what follows the closing quotation mark, if a quoted string goes on so; behind a backslash, or not
 abbrev pub behind_quoted : Bool → List ℕ → Option (List ℕ)
 behind_quoted escaped [] = None
 behind_quoted true (b ∷ bs) = if is_escapable b then behind_quoted false bs else None
-behind_quoted false (b ∷ bs) = if b == 34 then Some bs else (if b == 92 then behind_quoted true bs else (if is_quoted_byte b then behind_quoted false bs else None))
+behind_quoted false (b ∷ bs) = if b == quotation_mark then Some bs else (if b == backslash then behind_quoted true bs else (if is_quoted_byte b then behind_quoted false bs else None))
 
 -- whether the next byte of a quoted string stands behind a backslash; nothing at the closing mark
 abbrev pub quote_step : Bool → ℕ → Option Bool
 quote_step true b = Some false
-quote_step false b = if b == 34 then None else Some (b == 92)
+quote_step false b = if b == quotation_mark then None else Some (b == backslash)
 
 -- a token, and then the rest
 pub record TokenThen (text token : List ℕ) (Rest : List ℕ → Type 0) : Type 0 where
@@ -41,7 +38,7 @@ pub record TokenThen (text token : List ℕ) (Rest : List ℕ → Type 0) : Type
 -- a quoted string, and then the rest
 pub record QuotedThen (text quoted : List ℕ) (Rest : List ℕ → Type 0) : Type 0 where
   pub inside : List ℕ
-  pub opened : text ≡ 34 ∷ inside
+  pub opened : text ≡ quotation_mark ∷ inside
   pub more : List ℕ
   pub closed : behind_quoted false inside ≡ Some more
   pub is : text ≡ quoted ++ more
@@ -59,11 +56,11 @@ ValueThen text value Rest = TokenThen text value Rest ⊎ QuotedThen text value 
 
 -- a name, an equals sign and a value, and then the rest
 abbrev pub ParameterThen : List ℕ → Parameter → (List ℕ → Type 0) → Type 0
-ParameterThen text p Rest = TokenThen text p.0 (λ text. ByteThen 61 text (λ text. ValueThen text p.1 Rest))
+ParameterThen text p Rest = TokenThen text p.0 (λ text. ByteThen equals_sign text (λ text. ValueThen text p.1 Rest))
 
 -- a semicolon with blanks around it, a parameter, and then the rest
 abbrev pub SemicolonThen : List ℕ → Parameter → (List ℕ → Type 0) → Type 0
-SemicolonThen text p Rest = ByteThen 59 (behind_run is_blank text) (λ text. ParameterThen (behind_run is_blank text) p Rest)
+SemicolonThen text p Rest = ByteThen semicolon (behind_run is_blank text) (λ text. ParameterThen (behind_run is_blank text) p Rest)
 
 -- these parameters, and then the rest
 abbrev pub ParametersThen : List Parameter → (List ℕ → Type 0) → List ℕ → Type 0
@@ -72,11 +69,11 @@ ParametersThen (p ∷ ps) Rest text = SemicolonThen text p (ParametersThen ps Re
 
 -- this media type, and then the rest
 abbrev pub MediaThen : List ℕ → Media → (List ℕ → Type 0) → Type 0
-MediaThen text m Rest = TokenThen text m.top (λ text. ByteThen 47 text (λ text. TokenThen text m.sub (ParametersThen m.parameters Rest)))
+MediaThen text m Rest = TokenThen text m.top (λ text. ByteThen slash text (λ text. TokenThen text m.sub (ParametersThen m.parameters Rest)))
 
 -- behind blanks no semicolon comes
 abbrev pub NoSemicolon : List ℕ → Type 0
-NoSemicolon text = (more : List ℕ) → behind_run is_blank text ≢ 59 ∷ more
+NoSemicolon text = (more : List ℕ) → behind_run is_blank text ≢ semicolon ∷ more
 
 -- just this
 abbrev pub Exactly : List ℕ → List ℕ → Type 0

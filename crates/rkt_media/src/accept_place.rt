@@ -2,8 +2,8 @@ ghost use Rattle.std.specs.Prelude.{◌≡◌};
 ghost use Rattle.rkt_media.specs.AcceptText.{is_digit_to};
 ghost use Rattle.rkt_media.specs.AcceptPlaces.{after_inside, behind_entry};
 
-use crate::media_place::{MediaPlace, behind_value, is_space, is_token};
-use rkt_grammar::Place;
+use crate::media_place::{MediaPlace, behind_value, is_space};
+use rkt_grammar::{Place, is_token_byte};
 
 /// Where a reader stands in a list of media types with weights.
 #[derive(Clone, Copy)]
@@ -69,9 +69,11 @@ impl Place for AcceptPlace {
     fn after(self, byte: u8) -> Option<AcceptPlace> {
         match self {
             AcceptPlace::Between if is_space(byte) || byte == b',' => Some(AcceptPlace::Between),
-            AcceptPlace::Between if is_token(byte) => Some(AcceptPlace::Inside(MediaPlace::Top)),
+            AcceptPlace::Between if is_token_byte(byte) => Some(AcceptPlace::Inside(
+                MediaPlace::Top,
+            )),
             AcceptPlace::Inside(place) => inside(place, byte),
-            AcceptPlace::WeightName if is_token(byte) => {
+            AcceptPlace::WeightName if is_token_byte(byte) => {
                 Some(AcceptPlace::Inside(MediaPlace::Name))
             }
             AcceptPlace::WeightName if byte == b'=' => Some(AcceptPlace::WeightStart),

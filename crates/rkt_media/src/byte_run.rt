@@ -4,7 +4,8 @@ ghost use Rattle.std.specs.Prelude.{◌≡◌, length};
 ghost use Rattle.rkt_media.specs.Runs.{run, behind_run};
 ghost use Rattle.rkt_media.specs.ByteClass.{is_of};
 
-use crate::media_place::{is_space, is_token};
+use crate::media_place::is_space;
+use rkt_grammar::is_token_byte;
 
 /// Bytes that are read in one run.
 #[derive(Clone, Copy)]
@@ -20,7 +21,7 @@ impl ByteClass {
         ensures { result ≡ is_of self byte }
     {
         match self {
-            ByteClass::Token => is_token(byte),
+            ByteClass::Token => is_token_byte(byte),
             ByteClass::Blank => is_space(byte),
             ByteClass::Gap => is_space(byte) || byte == b',',
         }

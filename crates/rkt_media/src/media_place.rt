@@ -1,8 +1,8 @@
 ghost use Rattle.std.specs.Prelude.{◌≡◌};
-ghost use Rattle.rkt_media.specs.MediaText.{is_token_byte, is_blank, is_escapable, is_quoted_byte};
+ghost use Rattle.rkt_media.specs.MediaText.{is_blank, is_escapable, is_quoted_byte};
 ghost use Rattle.rkt_media.specs.MediaPlaces.{after_value};
 
-use rkt_grammar::Place;
+use rkt_grammar::{Place, is_token_byte};
 
 /// Where a reader stands in a media type.
 #[derive(Clone, Copy)]
@@ -19,12 +19,6 @@ pub(crate) enum MediaPlace {
     Quoted,
     Escaped,
     Closed,
-}
-
-pub(crate) fn is_token(byte: u8) -> bool
-    ensures { result ≡ is_token_byte byte }
-{
-    byte.is_ascii_alphanumeric() || b"!#$%&'*+-.^_`|~".contains(&byte)
 }
 
 pub(crate) fn is_space(byte: u8) -> bool
@@ -69,13 +63,15 @@ impl Place for MediaPlace {
 
     fn after(self, byte: u8) -> Option<MediaPlace> {
         match self {
-            MediaPlace::TopStart | MediaPlace::Top if is_token(byte) => Some(MediaPlace::Top),
+            MediaPlace::TopStart | MediaPlace::Top if is_token_byte(byte) => Some(MediaPlace::Top),
             MediaPlace::Top if byte == b'/' => Some(MediaPlace::SubStart),
             MediaPlace::SubStart | MediaPlace::LastWord | MediaPlace::ValueStart
-                if is_token(byte) => { Some(MediaPlace::LastWord) }
+                if is_token_byte(byte) => { Some(MediaPlace::LastWord) }
             MediaPlace::LastWord | MediaPlace::Blank | MediaPlace::Closed => behind_value(byte),
             MediaPlace::Semicolon if is_space(byte) => Some(MediaPlace::Semicolon),
-            MediaPlace::Semicolon | MediaPlace::Name if is_token(byte) => Some(MediaPlace::Name),
+            MediaPlace::Semicolon | MediaPlace::Name if is_token_byte(byte) => Some(
+                MediaPlace::Name,
+            ),
             MediaPlace::Name if byte == b'=' => Some(MediaPlace::ValueStart),
             MediaPlace::ValueStart if byte == b'"' => Some(MediaPlace::Quoted),
             MediaPlace::Quoted if byte == b'"' => Some(MediaPlace::Closed),

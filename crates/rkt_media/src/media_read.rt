@@ -4,7 +4,8 @@ ghost use Rattle.std.specs.Prelude.{◌≡◌, ◌≢◌, ◌∷◌, ◌<◌, �
 ghost use Rattle.std.specs.Str.{IsUtf8, IsCharBoundary};
 ghost use Rattle.rkt_media.specs.Runs.{run, behind_run};
 ghost use Rattle.rkt_media.specs.Media.{Media, Parameter};
-ghost use Rattle.rkt_media.specs.MediaText.{is_token_byte, is_blank, behind_quoted, quote_step, ValueThen, SemicolonThen, ParametersThen, MediaThen, Exactly, NoSemicolon};
+ghost use Rattle.rkt_grammar.specs.Grammar.{is_token_byte};
+ghost use Rattle.rkt_media.specs.MediaText.{is_blank, behind_quoted, quote_step, ValueThen, SemicolonThen, ParametersThen, MediaThen, Exactly, NoSemicolon};
 
 use crate::byte_run::{ByteClass, run_cut, run_len};
 use rkt_base::{NoMemory, Text};

@@ -196,7 +196,7 @@ impl MediaType {
 impl PartialEq for MediaType {
     ghost use Rattle.std.specs.Cmp.{partial_equiv_from_equiv};
     ghost use Rattle.rkt_media.specs.Media.{same_media};
-    ghost use Rattle.rkt_media.specs.MediaEquality.{same_media_equiv};
+    ghost use Rattle.rkt_media.specs.MediaEqualityLaws.{same_media_equiv};
 
     ghost eq = { same_media };
 
@@ -209,7 +209,7 @@ impl PartialEq for MediaType {
 }
 
 impl Eq for MediaType {
-    ghost use Rattle.rkt_media.specs.MediaEquality.{same_media_equiv};
+    ghost use Rattle.rkt_media.specs.MediaEqualityLaws.{same_media_equiv};
 
     ghost laws = { same_media_equiv };
 }

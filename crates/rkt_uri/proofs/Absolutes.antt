@@ -1,15 +1,18 @@
 -- A text is an absolute URI exactly where it spells one, and what it spells is what it says.
-use Rattle.std.proofs.Common.{◌≡◌, inl, inr, ◌↔◌, ℕ, ◌==◌, Bool, true, false, not, if◌then◌else◌, List, [], ◌∷◌, ◌++◌, refl, sym, ◌∙◌, ap, ap₂, subst, append_assoc, append-nil, codes, Option, Some, None}
-use Rattle.std.specs.List.{before_first, after_first}
+use Rattle.std.proofs.Common.{◌≡◌, inl, inr, ◌↔◌, ℕ, ◌==◌, Bool, true, false, not, if◌then◌else◌, List, [], ◌∷◌, ◌++◌, refl, sym, ◌∙◌, ap, ap₂, subst, append_assoc, append-nil, codes, drop, nat_eq, unwrap_or, Option, Some, None}
+use Rattle.std.specs.List.{before_first, after_first, starts_with}
+use Rattle.std.proofs.lemmas.Slice.Eq.{starts_is}
+use Rattle.std.proofs.lemmas.Bool.Decides.{Decides-eqb}
 use Rattle.std.specs.Option.{option_map, option_and_then}
-use Rattle.rkt_grammar.specs.Grammar.{OnlyOf, IsFrontOf, LeavesAt, has_byte}
-use Rattle.rkt_grammar.specs.Places.{equal}
+use Rattle.std.specs.Char.{is_ascii_alphabetic, is_ascii_digit}
+use Rattle.rkt_grammar.specs.Grammar.{OnlyOf, IsFrontOf, LeavesAt, has_byte, behind_first}
+use Rattle.rkt_grammar.specs.ByteLaws.{equal}
 use Rattle.rkt_uri.specs.Words.{Then}
 use Rattle.rkt_uri.specs.Origin.{is_slash, is_question, query_text, is_query_byte}
-use Rattle.rkt_uri.specs.Host.{Authority, MaybePort, MaybeHost, Address, is_digit, is_name_byte, is_address_byte, is_colon, domain_in, port_behind, IsDomain, SpellsPort, SpellsAuthority}
-use Rattle.rkt_uri.specs.Absolute.{is_letter, is_scheme_byte, is_user_byte, UserThen, MaybeOrigin, Located, IsHierarchy, AbsoluteForm, Site, AbsoluteUri, SpellsSite, SpellsHierarchy, IsScheme, SpellsAbsolute, IsAbsolute, scheme_of, behind_byte, is_at, without_user, host_and_port, host_of, port_of}
+use Rattle.rkt_uri.specs.Host.{Authority, MaybePort, MaybeHost, Address, is_name_byte, is_address_byte, is_colon, domain_in, port_behind, IsDomain, SpellsPort, SpellsAuthority}
+use Rattle.rkt_uri.specs.Absolute.{is_scheme_byte, is_user_byte, UserThen, MaybeOrigin, Located, IsHierarchy, AbsoluteForm, Site, AbsoluteUri, SpellsSite, SpellsHierarchy, IsScheme, SpellsAbsolute, IsAbsolute, scheme_of, behind_slashes, is_at, without_user, host_and_port, host_of, port_of}
 use Rattle.rkt_uri.specs.declared.origin_place.Profile.TheVariants.{Request}
-use Rattle.rkt_uri.proofs.Firsts.{Free, before_free, has_free, before_stop, after_stop, has_stop, before_past, before_append, only_append, apart}
+use Rattle.rkt_uri.proofs.Firsts.{Free, before_free, has_free, before_stop, after_stop, has_stop, behind_stop, before_past, before_append, only_append, apart}
 use Rattle.rkt_uri.proofs.Hosts.{many_split, many_join, then_split, port_split, port_join, port_digits, bracketed, makes, authority_said, leaves_same}
 
 -- Words of the grammar, taken apart and put together.
@@ -151,34 +154,24 @@ leaves_absolute text at l = leaves_same AbsoluteForm IsAbsolute absolute_form te
 
 scheme_free : (scheme : List ℕ) → IsScheme scheme → Free is_colon scheme
 scheme_free [] is = absurd is
-scheme_free (c ∷ cs) is = ((apart is_letter 58 refl (c ∷ []) (is.0, tt)).0, apart is_scheme_byte 58 refl cs is.1)
+scheme_free (c ∷ cs) is = ((apart is_ascii_alphabetic 58 refl (c ∷ []) (is.0, tt)).0, apart is_scheme_byte 58 refl cs is.1)
 
 scheme_said : (text : List ℕ) (uri : AbsoluteUri) → SpellsAbsolute text uri → scheme_of text ≡ uri.scheme
 scheme_said text uri s = ap (before_first is_colon) s.spelled ∙ before_stop is_colon uri.scheme 58 s.behind (scheme_free uri.scheme s.scheme) refl
 
-behind_said : (text : List ℕ) (uri : AbsoluteUri) → (s : SpellsAbsolute text uri) → after_first is_colon text ≡ s.behind
-behind_said text uri s = ap (after_first is_colon) s.spelled ∙ after_stop is_colon uri.scheme 58 s.behind (scheme_free uri.scheme s.scheme) refl
+behind_said : (text : List ℕ) (uri : AbsoluteUri) → (s : SpellsAbsolute text uri) → behind_first is_colon text ≡ Some s.behind
+behind_said text uri s = ap (behind_first is_colon) s.spelled ∙ behind_stop is_colon uri.scheme 58 s.behind (scheme_free uri.scheme s.scheme) refl
 
 -- a path alone has no site
-lone : (rest : List ℕ) → ¬ IsFrontOf (codes "//") rest → option_and_then (behind_byte 47) (behind_byte 47 rest) ≡ None
-lone [] never = refl
-lone (c ∷ []) never = by_test (c == 47)
+lone : (rest : List ℕ) → ¬ IsFrontOf (codes "//") rest → behind_slashes rest ≡ None
+lone rest never = by_test (starts_with nat_eq rest (codes "//")) refl
   where
-    by_test : (t : Bool) → option_and_then (behind_byte 47) (if t then Some [] else None) ≡ None
-    by_test true = refl
-    by_test false = refl
-lone (c ∷ d ∷ ds) never = outer (c == 47) refl
-  where
-    inner : (u : Bool) → (d == 47) ≡ u → c ≡ 47 → (if u then Some ds else None) ≡ None
-    inner false two one = refl
-    inner true two one = absurd (never (ds, ap₂ (λ (x y : ℕ). x ∷ y ∷ ds) one (equal d 47 two)))
-
-    outer : (t : Bool) → (c == 47) ≡ t → option_and_then (behind_byte 47) (if t then Some (d ∷ ds) else None) ≡ None
-    outer false one = refl
-    outer true one = inner (d == 47) refl (equal c 47 one)
+    by_test : (t : Bool) → starts_with nat_eq rest (codes "//") ≡ t → (if t then Some (drop 2 rest) else None) ≡ None
+    by_test true is = absurd (never (drop 2 rest, (starts_is Decides-eqb rest (codes "//") _ refl).0 is))
+    by_test false is = refl
 
 -- a byte that is of no host and no port is in none
-authority_free : (c : ℕ) → is_name_byte c ≡ false → is_address_byte c ≡ false → is_digit c ≡ false → (not (91 == c) ≡ true) × (not (93 == c) ≡ true) × (not (58 == c) ≡ true)
+authority_free : (c : ℕ) → is_name_byte c ≡ false → is_address_byte c ≡ false → is_ascii_digit c ≡ false → (not (91 == c) ≡ true) × (not (93 == c) ≡ true) × (not (58 == c) ≡ true)
     → (text : List ℕ) (host : Authority) → SpellsAuthority text host → Free (λ b. b == c) text
 authority_free c name address digit marks text host s =
     let P : List ℕ → Type 0 = Free (λ b. b == c) in
@@ -194,7 +187,7 @@ authority_free c name address digit marks text host s =
     of_port port_text None is = let P : List ℕ → Type 0 = Free (λ b. b == c) in subst P (sym is) tt
     of_port port_text (Some k) p =
         let P : List ℕ → Type 0 = Free (λ b. b == c) in
-        subst P (sym p.3) (marks.2, apart is_digit c digit (p.0 ∷ p.1) (port_digits 0 (p.0 ∷ p.1) k p.2))
+        subst P (sym p.3) (marks.2, apart is_ascii_digit c digit (p.0 ∷ p.1) (port_digits 0 (p.0 ∷ p.1) k p.2))
 
 -- nor is one that is not of a user part either in a site
 site_free : (c : ℕ) → is_user_byte c ≡ false → not (64 == c) ≡ true → (text : List ℕ) (user : Option (List ℕ)) (host : Authority)
@@ -231,7 +224,7 @@ parts_said text None host s =
     let free = authority_free 64 refl refl refl (refl, refl, refl) s.host_text host s.host in
     let none = has_free is_at s.host_text free in (
       ap user_of s.spelled ∙ ap (λ (t : Bool). if t then Some (before_first is_at s.host_text) else None) none,
-      ap without_user s.spelled ∙ ap (λ (t : Bool). if t then after_first is_at s.host_text else s.host_text) none,
+      ap without_user s.spelled ∙ ap (λ (t : Bool). unwrap_or (if t then Some (after_first is_at s.host_text) else None) s.host_text) none,
     )
 parts_said text (Some user) host s =
     let whole : List ℕ = user ++ 64 ∷ s.host_text in
@@ -239,7 +232,7 @@ parts_said text (Some user) host s =
     let free = apart is_user_byte 64 refl user s.user in
     let some = has_stop is_at user 64 s.host_text free refl in (
       ap user_of same ∙ ap (λ (t : Bool). if t then Some (before_first is_at whole) else None) some ∙ ap (λ (x : List ℕ). Some x) (before_stop is_at user 64 s.host_text free refl),
-      ap without_user same ∙ ap (λ (t : Bool). if t then after_first is_at whole else whole) some ∙ after_stop is_at user 64 s.host_text free refl,
+      ap without_user same ∙ ap (λ (t : Bool). unwrap_or (if t then Some (after_first is_at whole) else None) whole) some ∙ after_stop is_at user 64 s.host_text free refl,
     )
 
 -- what stands behind two slashes, cut behind its site
@@ -253,7 +246,7 @@ site_said front rest site s r =
     (site_free 63 refl refl front site.user site.host (authority_free_of 63 refl refl refl (refl, refl, refl)) s)
     r
   where
-    authority_free_of : (c : ℕ) → is_name_byte c ≡ false → is_address_byte c ≡ false → is_digit c ≡ false → (not (91 == c) ≡ true) × (not (93 == c) ≡ true) × (not (58 == c) ≡ true)
+    authority_free_of : (c : ℕ) → is_name_byte c ≡ false → is_address_byte c ≡ false → is_ascii_digit c ≡ false → (not (91 == c) ≡ true) × (not (93 == c) ≡ true) × (not (58 == c) ≡ true)
         → (text : List ℕ) → SpellsAuthority text site.host → Free (λ b. b == c) text
     authority_free_of c name address digit marks text h = authority_free c name address digit marks text site.host h
 
@@ -263,16 +256,16 @@ host_said front rest site s r = ap without_user (site_said front rest site s r) 
 
 -- the host and the port that a text says are those of the site that it spells
 authority_said_in : (behind rest : List ℕ) (site : Option Site) → SpellsHierarchy behind site rest
-    → (option_map domain_in (option_map host_and_port (option_and_then (behind_byte 47) (behind_byte 47 behind))) ≡ option_map (λ (s : Site). s.host.domain) site)
-    × (option_and_then port_behind (option_map host_and_port (option_and_then (behind_byte 47) (behind_byte 47 behind))) ≡ option_and_then (λ (s : Site). s.host.port) site)
+    → (option_map domain_in (option_map host_and_port (behind_slashes behind)) ≡ option_map (λ (s : Site). s.host.domain) site)
+    × (option_and_then port_behind (option_map host_and_port (behind_slashes behind)) ≡ option_and_then (λ (s : Site). s.host.port) site)
 authority_said_in behind rest None h =
-    let none : option_and_then (behind_byte 47) (behind_byte 47 behind) ≡ None = ap (λ (x : List ℕ). option_and_then (behind_byte 47) (behind_byte 47 x)) h.1 ∙ lone rest h.0.1 in (
+    let none : behind_slashes behind ≡ None = ap behind_slashes h.1 ∙ lone rest h.0.1 in (
       ap (λ (o : Option (List ℕ)). option_map domain_in (option_map host_and_port o)) none,
       ap (λ (o : Option (List ℕ)). option_and_then port_behind (option_map host_and_port o)) none,
     )
 authority_said_in behind rest (Some site) h =
     let text : List ℕ = h.0 ++ rest in
-    let some : option_and_then (behind_byte 47) (behind_byte 47 behind) ≡ Some text = ap (λ (x : List ℕ). option_and_then (behind_byte 47) (behind_byte 47 x)) h.3 in
+    let some : behind_slashes behind ≡ Some text = ap behind_slashes h.3 in
     let host : host_and_port text ≡ h.1.host_text = host_said h.0 rest site h.1 h.2 in
     let said = authority_said h.1.host_text site.host h.1.host in (
       ap (λ (o : Option (List ℕ)). option_map domain_in (option_map host_and_port o)) some
@@ -288,18 +281,21 @@ says_scheme text uri s = scheme_said text uri s
 
 pub says_host : (text : List ℕ) (uri : AbsoluteUri) → SpellsAbsolute text uri → host_of text ≡ option_map (λ (site : Site). site.host.domain) uri.site
 says_host text uri s =
-    ap (λ (x : List ℕ). option_map domain_in (option_map host_and_port (option_and_then (behind_byte 47) (behind_byte 47 x)))) (behind_said text uri s)
+    ap (λ (o : Option (List ℕ)). option_map domain_in (option_map host_and_port (option_and_then behind_slashes o))) (behind_said text uri s)
     ∙ (authority_said_in s.behind uri.rest uri.site s.hierarchy).0
 
 pub says_port : (text : List ℕ) (uri : AbsoluteUri) → SpellsAbsolute text uri → port_of text ≡ option_and_then (λ (site : Site). site.host.port) uri.site
 says_port text uri s =
-    ap (λ (x : List ℕ). option_and_then port_behind (option_map host_and_port (option_and_then (behind_byte 47) (behind_byte 47 x)))) (behind_said text uri s)
+    ap (λ (o : Option (List ℕ)). option_and_then port_behind (option_map host_and_port (option_and_then behind_slashes o))) (behind_said text uri s)
     ∙ (authority_said_in s.behind uri.rest uri.site s.hierarchy).1
 
 -- A text spells one absolute URI at most.
 
 tail_same : (a b : ℕ) (xs ys : List ℕ) → a ∷ xs ≡ b ∷ ys → xs ≡ ys
 tail_same a b xs ys e = cc
+
+inside_same : (xs ys : List ℕ) → Some xs ≡ Some ys → xs ≡ ys
+inside_same xs ys e = cc
 
 cancel : (front xs ys : List ℕ) → front ++ xs ≡ front ++ ys → xs ≡ ys
 cancel [] xs ys e = e
@@ -330,7 +326,7 @@ one_hierarchy text (Some a) (Some b) rest more one other =
 
 pub one_absolute : (text : List ℕ) (a b : AbsoluteUri) → SpellsAbsolute text a → SpellsAbsolute text b → a ≡ b
 one_absolute text a b one other =
-    let behind : other.behind ≡ one.behind = sym (behind_said text b other) ∙ behind_said text a one in
+    let behind : other.behind ≡ one.behind = inside_same _ _ (sym (behind_said text b other) ∙ behind_said text a one) in
     let P : List ℕ → Type 0 = λ x. SpellsHierarchy x b.site b.rest in
     let rests = one_hierarchy one.behind a.site b.site a.rest b.rest one.hierarchy (subst P behind other.hierarchy) in
     let schemes : a.scheme ≡ b.scheme = sym (scheme_said text a one) ∙ scheme_said text b other in

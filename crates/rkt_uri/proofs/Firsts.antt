@@ -1,10 +1,10 @@
 -- What stands before and behind the first byte that passes a test.
-use Rattle.std.proofs.Common.{◌≡◌, ℕ, suc, ◌+◌, ◌==◌, Bool, true, false, not, cond, nat_lt, List, [], ◌∷◌, ◌++◌, length, take, drop, refl, ◌∙◌, ap, arith, add-one}
+use Rattle.std.proofs.Common.{◌≡◌, ℕ, suc, ◌+◌, ◌==◌, Bool, true, false, not, cond, nat_lt, List, [], ◌∷◌, ◌++◌, length, take, drop, refl, ◌∙◌, ap, arith, add-one, Some, None, if◌then◌else◌}
 use Rattle.std.proofs.lemmas.Bool.{false≢true}
 use Rattle.std.proofs.lemmas.Bool.Decides.{nat_tests}
 use Rattle.std.specs.List.{before_first, after_first, position_or_len}
-use Rattle.rkt_grammar.specs.Grammar.{OnlyOf, has_byte}
-use Rattle.rkt_grammar.specs.Places.{equal, clash}
+use Rattle.rkt_grammar.specs.Grammar.{OnlyOf, has_byte, behind_first}
+use Rattle.rkt_grammar.specs.ByteLaws.{equal, clash}
 
 -- no byte passes the test
 abbrev pub Free : (ℕ → Bool) → List ℕ → Type 0
@@ -70,6 +70,11 @@ after_stop test (b ∷ bs) c rest free is = after_past test b (bs ++ c ∷ rest)
 pub has_stop : (test : ℕ → Bool) (front : List ℕ) (c : ℕ) (rest : List ℕ) → Free test front → test c ≡ true → has_byte test (front ++ c ∷ rest) ≡ true
 has_stop test [] c rest free is = ap (λ (n : ℕ). nat_lt n (length (c ∷ rest))) (position_here test c rest is) ∙ zero_lt_suc (length rest)
 has_stop test (b ∷ bs) c rest free is = has_past test b (bs ++ c ∷ rest) (of_not (test b) free.0) ∙ has_stop test bs c rest free.1 is
+
+pub behind_stop : (test : ℕ → Bool) (front : List ℕ) (c : ℕ) (rest : List ℕ) → Free test front → test c ≡ true → behind_first test (front ++ c ∷ rest) ≡ Some rest
+behind_stop test front c rest free is =
+    ap (λ (t : Bool). if t then Some (after_first test (front ++ c ∷ rest)) else None) (has_stop test front c rest free is)
+    ∙ ap (λ (x : List ℕ). Some x) (after_stop test front c rest free is)
 
 -- bytes of one kind
 

@@ -1,9 +1,10 @@
 -- A text is a host exactly where it spells one, and what it spells is what it says.
 use Rattle.std.proofs.Common.{◌≡◌, ◌≢◌, inl, inr, ◌↔◌, ℕ, ◌&&◌, Bool, true, false, not, nat_le, if◌then◌else◌, List, [], ◌∷◌, ◌++◌, refl, sym, ◌∙◌, ap, ap₂, subst, append_assoc, append-nil, Option, Some, None}
 use Rattle.std.specs.List.{before_first, after_first}
+use Rattle.std.specs.Char.{is_ascii_digit}
 use Rattle.rkt_grammar.specs.Grammar.{OnlyOf, LeavesAt}
 use Rattle.rkt_uri.specs.Words.{Then, Many}
-use Rattle.rkt_uri.specs.Host.{is_digit, is_name_byte, is_address_byte, is_port_digit, with_digit, is_colon, is_close, MoreDigits, MaybePort, Address, End, HostForm, port_on, port_in, Authority, domain_in, port_behind, authority_of, IsDomain, SpellsPort, SpellsAuthority, SpellsHost, IsHost}
+use Rattle.rkt_uri.specs.Host.{is_name_byte, is_address_byte, is_port_digit, with_digit, is_colon, is_close, MoreDigits, MaybePort, Address, End, HostForm, port_on, port_in, Authority, domain_in, port_behind, authority_of, IsDomain, SpellsPort, SpellsAuthority, SpellsHost, IsHost}
 use Rattle.rkt_uri.proofs.Firsts.{Free, before_free, has_free, before_stop, after_stop, has_stop, only_append, apart}
 
 -- Words of the grammar, taken apart and put together.
@@ -130,14 +131,14 @@ and_left : (s t : Bool) → (s && t) ≡ true → s ≡ true
 and_left true t e = refl
 and_left false t e = e
 
-pub port_digits : (n : ℕ) (digits : List ℕ) (k : ℕ) → port_on n digits ≡ Some k → OnlyOf is_digit digits
+pub port_digits : (n : ℕ) (digits : List ℕ) (k : ℕ) → port_on n digits ≡ Some k → OnlyOf is_ascii_digit digits
 port_digits n [] k e = tt
-port_digits n (b ∷ bs) k e = let s = port_step n b bs k e in (and_left (is_digit b) (nat_le (with_digit n b) 65535) s.0, port_digits (with_digit n b) bs k s.1)
+port_digits n (b ∷ bs) k e = let s = port_step n b bs k e in (and_left (is_ascii_digit b) (nat_le (with_digit n b) 65535) s.0, port_digits (with_digit n b) bs k s.1)
 
 -- no port has a closing bracket
 port_open : (port_text : List ℕ) (port : Option ℕ) → SpellsPort port_text port → Free is_close port_text
 port_open port_text None is = subst (Free is_close) (sym is) tt
-port_open port_text (Some k) p = subst (Free is_close) (sym p.3) (refl, apart is_digit 93 refl (p.0 ∷ p.1) (port_digits 0 (p.0 ∷ p.1) k p.2))
+port_open port_text (Some k) p = subst (Free is_close) (sym p.3) (refl, apart is_ascii_digit 93 refl (p.0 ∷ p.1) (port_digits 0 (p.0 ∷ p.1) k p.2))
 
 port_said : (port_text : List ℕ) (port : Option ℕ) → SpellsPort port_text port → port_in port_text ≡ port
 port_said port_text None is = ap port_in is

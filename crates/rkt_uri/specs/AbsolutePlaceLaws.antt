@@ -2,15 +2,16 @@
 use Rattle.std.proofs.Common.{◌≡◌, ℕ, List, [], ◌∷◌, Bool, true, false, ◌==◌, if◌then◌else◌, refl, ◌⊎◌, inl, inr, ◌↔◌, Option, Some, None, MatchOption, sym, ◌∙◌, ap, arith, ◌++◌}
 use Rattle.std.specs.Option.{option_map}
 use Rattle.std.proofs.lemmas.Bool.{false≢true}
+use Rattle.std.specs.Char.{is_ascii_alphabetic}
 use Rattle.rkt_grammar.specs.Grammar.{Begins, OnlyOf, IsFrontOf}
-use Rattle.rkt_grammar.specs.Places.{equal, differ, clash}
+use Rattle.rkt_grammar.specs.ByteLaws.{equal, differ, clash}
 use Rattle.rkt_uri.specs.Origin.{is_path_byte}
 use Rattle.rkt_uri.specs.OriginPlaces as origin
 use Rattle.rkt_uri.specs.OriginPlaceLaws as origin_law
 use Rattle.rkt_uri.specs.HostPlaces as host
 use Rattle.rkt_uri.specs.HostPlaces.{rest_with, next_with}
 use Rattle.rkt_uri.specs.HostPlaceLaws.{goes_with, ends_with, leads_with}
-use Rattle.rkt_uri.specs.Absolute.{is_letter, is_scheme_byte, is_user_byte, MaybeOrigin, IsHierarchy, SchemeRest, AbsoluteForm}
+use Rattle.rkt_uri.specs.Absolute.{is_scheme_byte, is_user_byte, MaybeOrigin, IsHierarchy, SchemeRest, AbsoluteForm}
 use Rattle.rkt_uri.specs.declared.origin_place.Profile.TheVariants.{Request}
 use Rattle.rkt_uri.specs.declared.origin_place.OriginPlace.{OriginPlace}
 use Rattle.rkt_uri.specs.declared.origin_place.OriginPlace.TheVariants.{InPath, InQuery}
@@ -26,7 +27,7 @@ head_same a b xs ys e = cc
 tail_same : (a b : ℕ) (xs ys : List ℕ) → a ∷ xs ≡ b ∷ ys → xs ≡ ys
 tail_same a b xs ys e = cc
 
-from_start : (b : ℕ) (rest : List ℕ) (t : Bool) → is_letter b ≡ t → AbsoluteForm (b ∷ rest) ↔ next_of (if t then Some Scheme else None) rest
+from_start : (b : ℕ) (rest : List ℕ) (t : Bool) → is_ascii_alphabetic b ≡ t → AbsoluteForm (b ∷ rest) ↔ next_of (if t then Some Scheme else None) rest
 from_start b rest true is = (λ h. h.1, λ r. (is, r))
 from_start b rest false is = (λ h. false≢true (sym is ∙ h.0), λ n. absurd n)
 
@@ -245,7 +246,7 @@ from_origin A rest None none = (none, λ n. absurd n)
 from_origin A rest (Some next) e = (e.1, e.0)
 
 steps : (place : AbsolutePlace) (b : ℕ) (rest : List ℕ) → rest_of place (b ∷ rest) ↔ next_of (place_after place b) rest
-steps Start b rest = from_start b rest (is_letter b) refl
+steps Start b rest = from_start b rest (is_ascii_alphabetic b) refl
 steps Scheme b rest = from_scheme b rest (b == 58) (is_scheme_byte b) refl refl
 steps Hierarchy b rest = from_hierarchy b rest (b == 47) (is_path_byte Request b) refl refl
 steps Slash b rest = from_slash b rest (b == 47) (is_path_byte Request b) refl refl

@@ -1,11 +1,10 @@
 -- Hosts with ports (RFC 3986, 3.2.2 and 3.2.3), as this project takes them: a name, or an address between brackets.
 use Rattle.std.specs.Prelude.{ℕ, ◌≡◌, ◌≢◌, ◌+◌, ◌-◌, ◌*◌, ◌⊎◌, List, [], ◌∷◌, ◌++◌, Bool, true, ◌==◌, ◌||◌, ◌&&◌, nat_le, codes, Option, Some, None, if◌then◌else◌}
 use Rattle.std.specs.List.{list_any, before_first, after_first}
+use Rattle.std.specs.Char.{is_ascii_digit, is_ascii_hexdigit}
+use Rattle.rkt_grammar.specs.Bytes.{digit_zero, colon, dot, closing_bracket, opening_bracket}
 use Rattle.rkt_grammar.specs.Grammar.{OnlyOf, has_byte, is_alphanumeric}
 use Rattle.rkt_uri.specs.Words.{Then, Many, Many1}
-
-abbrev pub is_digit : ℕ → Bool
-is_digit b = nat_le 48 b && nat_le b 57
 
 -- a byte of a host's name
 abbrev pub is_name_byte : ℕ → Bool
@@ -13,15 +12,15 @@ is_name_byte b = is_alphanumeric b || list_any (λ c. c == b) (codes "-._~%!$&'(
 
 -- a byte of an address between brackets: a hexadecimal digit, a colon or a dot
 abbrev pub is_address_byte : ℕ → Bool
-is_address_byte b = is_digit b || (nat_le 65 b && nat_le b 70) || (nat_le 97 b && nat_le b 102) || b == 58 || b == 46
+is_address_byte b = is_ascii_hexdigit b || b == colon || b == dot
 
 -- a number with one more digit
 abbrev pub with_digit : ℕ → ℕ → ℕ
-with_digit n digit = 10 * n + (digit - 48)
+with_digit n digit = 10 * n + (digit - digit_zero)
 
 -- the digit goes on with the number, and it stays a port
 abbrev pub is_port_digit : ℕ → ℕ → Bool
-is_port_digit n b = is_digit b && nat_le (with_digit n b) 65535
+is_port_digit n b = is_ascii_digit b && nat_le (with_digit n b) 65535
 
 -- more digits of a port that so far is n, and then the rest
 abbrev pub MoreDigits : ℕ → (List ℕ → Type 0) → List ℕ → Type 0
@@ -35,28 +34,28 @@ Digits Rest (b ∷ bs) = (is_port_digit 0 b ≡ true) × MoreDigits (with_digit 
 
 -- maybe a port behind a colon, and then the rest
 abbrev pub MaybePort : (List ℕ → Type 0) → List ℕ → Type 0
-MaybePort Rest text = Rest text ⊎ Then 58 (Digits Rest) text
+MaybePort Rest text = Rest text ⊎ Then colon (Digits Rest) text
 
 -- behind the opening bracket of an address
 abbrev pub Address : (List ℕ → Type 0) → List ℕ → Type 0
-Address Rest text = Many is_address_byte (Then 93 Rest) text
+Address Rest text = Many is_address_byte (Then closing_bracket Rest) text
 
 abbrev pub End : List ℕ → Type 0
 End text = text ≡ []
 
 -- a host that may be empty, and maybe a port, and then the rest
 abbrev pub MaybeHost : (List ℕ → Type 0) → List ℕ → Type 0
-MaybeHost Rest text = Many is_name_byte (MaybePort Rest) text ⊎ Then 91 (Address (MaybePort Rest)) text
+MaybeHost Rest text = Many is_name_byte (MaybePort Rest) text ⊎ Then opening_bracket (Address (MaybePort Rest)) text
 
 -- a host that is not empty, and maybe a port
 abbrev pub HostForm : List ℕ → Type 0
-HostForm text = Many1 is_name_byte (MaybePort End) text ⊎ Then 91 (Address (MaybePort End)) text
+HostForm text = Many1 is_name_byte (MaybePort End) text ⊎ Then opening_bracket (Address (MaybePort End)) text
 
 abbrev pub is_colon : ℕ → Bool
-is_colon b = b == 58
+is_colon b = b == colon
 
 abbrev pub is_close : ℕ → Bool
-is_close b = b == 93
+is_close b = b == closing_bracket
 
 -- the number that these digits go on with, if it stays a port
 abbrev pub port_on : ℕ → List ℕ → Option ℕ
@@ -74,7 +73,7 @@ pub record Authority : Type 0 where
 
 -- an address between its brackets
 abbrev pub IsAddress : List ℕ → Type 0
-IsAddress domain = (inside : List ℕ) × OnlyOf is_address_byte inside × (domain ≡ 91 ∷ (inside ++ 93 ∷ []))
+IsAddress domain = (inside : List ℕ) × OnlyOf is_address_byte inside × (domain ≡ opening_bracket ∷ (inside ++ closing_bracket ∷ []))
 
 -- a name, which may be empty, or an address
 abbrev pub IsDomain : List ℕ → Type 0
@@ -83,7 +82,7 @@ IsDomain domain = OnlyOf is_name_byte domain ⊎ IsAddress domain
 -- the text of a port: a colon and one digit at least of its number, or nothing where there is none
 abbrev pub SpellsPort : List ℕ → Option ℕ → Type 0
 SpellsPort text None = text ≡ []
-SpellsPort text (Some port) = (digit : ℕ) × (digits : List ℕ) × (port_on 0 (digit ∷ digits) ≡ Some port) × (text ≡ 58 ∷ digit ∷ digits)
+SpellsPort text (Some port) = (digit : ℕ) × (digits : List ℕ) × (port_on 0 (digit ∷ digits) ≡ Some port) × (text ≡ colon ∷ digit ∷ digits)
 
 -- the text spells this domain, and this port behind it
 pub record SpellsAuthority (text : List ℕ) (host : Authority) : Type 0 where
@@ -107,7 +106,7 @@ SpellsOneHost = (text : List ℕ) (a b : Authority) → SpellsHost text a → Sp
 
 -- an address goes as far as its closing bracket, and a name as far as the first colon
 abbrev pub domain_in : List ℕ → List ℕ
-domain_in text = if has_byte is_close text then before_first is_close text ++ 93 ∷ [] else before_first is_colon text
+domain_in text = if has_byte is_close text then before_first is_close text ++ closing_bracket ∷ [] else before_first is_colon text
 
 -- the port is behind the address or the name
 abbrev pub port_behind : List ℕ → Option ℕ

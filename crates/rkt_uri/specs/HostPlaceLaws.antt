@@ -3,7 +3,7 @@ use Rattle.std.proofs.Common.{◌≡◌, ℕ, List, [], ◌∷◌, Bool, true, f
 use Rattle.std.proofs.lemmas.Bool.{false≢true}
 use Rattle.rkt_grammar.specs.Grammar.{Begins}
 use Rattle.rkt_uri.specs.Words.{Many}
-use Rattle.rkt_grammar.specs.Places.{equal, differ, clash}
+use Rattle.rkt_grammar.specs.ByteLaws.{equal, differ, clash}
 use Rattle.rkt_uri.specs.Host.{is_name_byte, is_address_byte, is_port_digit, with_digit, MoreDigits, Digits, MaybePort, Address, End, MaybeHost}
 use Rattle.rkt_uri.specs.declared.host_place.HostPlace.{HostPlace}
 use Rattle.rkt_uri.specs.declared.host_place.HostPlace.TheVariants.{Start, MaybeEmpty, Name, Address as InAddress, Closed, Colon, Port}

@@ -2,7 +2,7 @@
 use Rattle.std.proofs.Common.{◌≡◌, ℕ, List, [], ◌∷◌, ◌++◌, Bool, true, false, ◌==◌, if◌then◌else◌, refl, inl, inr, ◌⊎◌, ◌↔◌, Option, Some, None, MatchOption, IfSome, sym, ◌∙◌, ap, subst}
 use Rattle.std.proofs.lemmas.Bool.{false≢true}
 use Rattle.rkt_grammar.specs.Grammar.{Begins, OnlyOf}
-use Rattle.rkt_grammar.specs.Places.{equal, differ}
+use Rattle.rkt_grammar.specs.ByteLaws.{equal, differ}
 use Rattle.rkt_uri.specs.Origin.{is_path_byte, is_query_byte, query_text, IsOrigin, IsPathRest}
 use Rattle.rkt_uri.specs.declared.origin_place.Profile.{Profile}
 use Rattle.rkt_uri.specs.declared.origin_place.Profile.TheVariants.{Request, Route}

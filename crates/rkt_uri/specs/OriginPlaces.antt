@@ -1,13 +1,14 @@
 -- Where a reader stands in an origin, and what may follow.
 use Rattle.std.specs.Prelude.{ℕ, List, Bool, true, false, ◌==◌, if◌then◌else◌, Option, Some, None}
+use Rattle.rkt_grammar.specs.Bytes.{slash, question_mark}
 use Rattle.rkt_grammar.specs.Grammar.{OnlyOf}
 use Rattle.rkt_uri.specs.Origin.{is_path_byte, is_query_byte, IsOrigin, IsPathRest}
 use Rattle.rkt_uri.specs.declared.origin_place.OriginPlace.{OriginPlace}
 use Rattle.rkt_uri.specs.declared.origin_place.OriginPlace.TheVariants.{Start, InPath, InQuery}
 
 abbrev pub place_after : OriginPlace → ℕ → Option OriginPlace
-place_after (Start profile) b = if b == 47 then Some (InPath profile) else None
-place_after (InPath profile) b = if b == 63 then Some (InQuery profile) else (if is_path_byte profile b then Some (InPath profile) else None)
+place_after (Start profile) b = if b == slash then Some (InPath profile) else None
+place_after (InPath profile) b = if b == question_mark then Some (InQuery profile) else (if is_path_byte profile b then Some (InPath profile) else None)
 place_after (InQuery profile) b = if is_query_byte profile b then Some (InQuery profile) else None
 
 abbrev pub may_end : OriginPlace → Bool

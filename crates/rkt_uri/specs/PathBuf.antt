@@ -1,7 +1,8 @@
 -- A path of the file system from segments.
-use Rattle.std.specs.Prelude.{ℕ, ◌==◌, ◌-◌, ◌&&◌, ◌||◌, not, List, [], ◌∷◌, ◌++◌, Bool, length, take, codes, Result, Ok, Err, if◌then◌else◌, nat_eq, slice_index, Option, Some, None}
+use Rattle.std.specs.Prelude.{ℕ, ◌==◌, ◌+◌, ◌-◌, ◌&&◌, ◌||◌, not, List, [], ◌∷◌, ◌++◌, Bool, length, take, codes, Result, Ok, Err, if◌then◌else◌, nat_eq, nat_lt, slice_index, Option, Some, None}
 use Rattle.std.specs.Cmp.Lexicographic.{pointwise}
 use Rattle.std.specs.List.{list_any, join_with_byte}
+use Rattle.rkt_grammar.specs.Bytes.{dot, star, colon, greater_than_sign, less_than_sign, slash}
 use Rattle.rkt_uri.specs.declared.path_buf.PathError.{PathError}
 use Rattle.rkt_uri.specs.declared.path_buf.PathError.TheVariants.{BadStart, BadChar, BadEnd}
 
@@ -21,12 +22,12 @@ last_of name = slice_index name (length name - 1)
 
 -- what a name may not be, and the fault that it has then
 abbrev pub name_rules : Bool → List ℕ → List (Bool × PathError)
-name_rules dots name = (first_of name == 46 && not dots, BadStart 46) ∷
-    (first_of name == 42, BadStart 42) ∷
-    (last_of name == 58, BadEnd 58) ∷
-    (last_of name == 62, BadEnd 62) ∷
-    (last_of name == 60, BadEnd 60) ∷
-    (list_any (λ b. b == 47) name, BadChar 47) ∷
+name_rules dots name = (first_of name == dot && not dots, BadStart dot) ∷
+    (first_of name == star, BadStart star) ∷
+    (last_of name == colon, BadEnd colon) ∷
+    (last_of name == greater_than_sign, BadEnd greater_than_sign) ∷
+    (last_of name == less_than_sign, BadEnd less_than_sign) ∷
+    (list_any (λ b. b == slash) name, BadChar slash) ∷
     []
 
 -- the fault of the first rule that applies
@@ -52,15 +53,22 @@ abbrev pub fault_in : Bool → List (List ℕ) → Option PathError
 fault_in dots [] = None
 fault_in dots (segment ∷ segments) = or_else (fault_of dots segment) (fault_in dots segments)
 
--- the names behind one more segment: two dots take the last one away, and a name comes behind the others
+-- these names behind one more segment: two dots take the last one away, and a name comes behind the others
 abbrev pub with_segment : List (List ℕ) → List ℕ → List (List ℕ)
 with_segment names segment =
     if is_here segment then names else (if is_up segment then take (length names - 1) names else names ++ segment ∷ [])
 
--- the names that segments leave behind these
-abbrev pub names_behind : List (List ℕ) → List (List ℕ) → List (List ℕ)
-names_behind names [] = names
-names_behind names (segment ∷ segments) = names_behind (with_segment names segment) segments
+-- how many two dots among the segments take away a name before all of these
+abbrev pub ups_of : List (List ℕ) → ℕ
+ups_of [] = 0
+ups_of (segment ∷ segments) =
+    if is_here segment then ups_of segments else (if is_up segment then ups_of segments + 1 else ups_of segments - 1)
+
+-- the names that segments leave: each one that no two dots behind it take away
+abbrev pub names_left : List (List ℕ) → List (List ℕ)
+names_left [] = []
+names_left (segment ∷ segments) =
+    if is_here segment || is_up segment || nat_lt 0 (ups_of segments) then names_left segments else segment ∷ names_left segments
 
 -- the fault, or else the path
 abbrev pub unless : Option PathError → List ℕ → Result (List ℕ) PathError
@@ -69,4 +77,4 @@ unless None path = Ok path
 
 -- the path of these segments, or the first fault
 abbrev pub path_of_names : Bool → List (List ℕ) → Result (List ℕ) PathError
-path_of_names dots segments = unless (fault_in dots segments) (join_with_byte 47 (names_behind [] segments))
+path_of_names dots segments = unless (fault_in dots segments) (join_with_byte slash (names_left segments))

@@ -1,7 +1,7 @@
 -- What may follow in a reference, byte by byte.
 use Rattle.std.proofs.Common.{◌≡◌, ℕ, List, [], ◌∷◌, Bool, true, if◌then◌else◌, refl, ◌↔◌, Some, None, MatchOption}
 use Rattle.rkt_grammar.specs.Grammar.{Begins}
-use Rattle.rkt_grammar.specs.Bytewise.{stays}
+use Rattle.rkt_grammar.specs.BytewiseLaws.{stays}
 use Rattle.rkt_uri.specs.Reference.{is_reference_byte, IsReference}
 use Rattle.rkt_uri.specs.declared.reference.ReferencePlace.{ReferencePlace}
 use Rattle.rkt_uri.specs.ReferencePlaces.{place_after, may_end, rest_of}

@@ -1,17 +1,14 @@
 ghost use Rattle.std.specs.Prelude.{◌≡◌, IfOk, IfNone, IfSome};
-ghost use Rattle.std.specs.List.{after_first};
 ghost use Rattle.std.specs.Option.{option_copied, option_map, option_and_then};
 ghost use Rattle.rkt_base.specs.Want.{IfRefused, GivesUnlessNoMemory};
 ghost use Rattle.rkt_grammar.specs.Grammar.{LeavesAt};
-ghost use Rattle.rkt_uri.specs.Absolute.{Site, AbsoluteUri, SpellsAbsolute, IsAbsolute, host_of, port_of, host_and_port, authority_in, behind_byte};
-ghost use Rattle.rkt_uri.specs.Host.{is_colon};
+ghost use Rattle.rkt_uri.specs.Absolute.{Site, AbsoluteUri, SpellsAbsolute, IsAbsolute, host_of, port_of, host_and_port, authority_in, behind_slashes};
 
 use crate::absolute_place::AbsolutePlace;
-use crate::host::{before_colon, domain_of_text, port_of_authority};
-use crate::origin::{InvalidUri, path_of_text};
-use crate::origin_iter::before_slash;
+use crate::host::{domain_of_text, port_of_authority};
+use crate::origin::InvalidUri;
 use rkt_base::{NoMemory, Text, Want};
-use rkt_grammar::first_fault;
+use rkt_grammar::{before_first, behind_first, first_fault};
 use std::alloc::Global;
 use std::marker::Model;
 
@@ -32,39 +29,27 @@ impl Model for Absolute {
     ghost invariant = { λ a. IsAbsolute a.text };
 }
 
-/// What stands behind the scheme's colon.
-fn behind_colon(text: &str) -> &str
-    ensures { result.now ≡ after_first is_colon text.now }
+/// What stands behind two slashes, if a text begins with them.
+fn behind_slashes(text: &str) -> Option<&str>
+    ensures { option_copied result ≡ behind_slashes text.now }
 {
-    match text.split_once(':') {
-        Some((_, rest)) => rest,
-        None => "",
-    }
-}
-
-fn behind_slash(text: &str) -> Option<&str>
-    ensures { option_copied result ≡ behind_byte 47 text.now }
-{
-    text.strip_prefix('/')
+    text.strip_prefix("//")
 }
 
 /// The host and the port of what stands behind two slashes.
 fn host_and_port_of(text: &str) -> &str
     ensures { result.now ≡ host_and_port text.now }
 {
-    let authority = path_of_text(before_slash(text));
-    match authority.split_once('@') {
-        Some((_, rest)) => rest,
-        None => authority,
-    }
+    let authority = before_first(before_first(text, '/'), '?');
+    behind_first(authority, '@').unwrap_or(authority)
 }
 
 /// The host and the port of a text, if two slashes stand behind its scheme.
 fn authority_of_text(text: &str) -> Option<&str>
     ensures { option_copied result ≡ authority_in text.now }
 {
-    let first = behind_slash(behind_colon(text))?;
-    Some(host_and_port_of(behind_slash(first)?))
+    let hierarchy = behind_first(text, ':')?;
+    Some(host_and_port_of(behind_slashes(hierarchy)?))
 }
 
 /// The host that a text says, without its port.
@@ -116,7 +101,7 @@ impl Absolute {
     pub fn scheme(&self) -> &str
         ensures { (uri : AbsoluteUri) → SpellsAbsolute self.now uri → result.now ≡ uri.scheme }
     {
-        before_colon(self.text.as_str())
+        before_first(self.text.as_str(), ':')
     }
 
     /// The name, or the address with its brackets, if there is an authority. It may be empty.

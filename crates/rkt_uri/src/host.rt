@@ -1,13 +1,12 @@
 ghost use Rattle.std.specs.Prelude.{◌≡◌, IfOk, IfNone, IfSome, option_copied};
-ghost use Rattle.std.specs.List.{before_first};
 ghost use Rattle.rkt_base.specs.Want.{IfRefused, GivesUnlessNoMemory};
 ghost use Rattle.rkt_grammar.specs.Grammar.{LeavesAt};
-ghost use Rattle.rkt_uri.specs.Host.{Authority, SpellsHost, IsHost, authority_of, domain_in, port_behind, is_colon, port_on, port_in};
+ghost use Rattle.rkt_uri.specs.Host.{Authority, SpellsHost, IsHost, authority_of, domain_in, port_behind, port_on, port_in};
 
 use crate::host_place::{HostPlace, more_port};
 use crate::origin::InvalidUri;
 use rkt_base::{NoMemory, Text, Want};
-use rkt_grammar::first_fault;
+use rkt_grammar::{before_first, first_fault};
 use std::alloc::Global;
 use std::marker::Model;
 
@@ -50,23 +49,13 @@ fn port_of_text(text: &str) -> Option<u16>
     }
 }
 
-/// What stands before the first colon.
-pub(crate) fn before_colon(text: &str) -> &str
-    ensures { result.now ≡ before_first is_colon text.now }
-{
-    match text.split_once(':') {
-        Some((front, _)) => front,
-        None => text,
-    }
-}
-
 /// A name, or an address with its brackets.
 pub(crate) fn domain_of_text(text: &str) -> &str
     ensures { result.now ≡ domain_in text.now }
 {
     match text.find(']') {
         Some(at) => &text[..at + 1],
-        None => before_colon(text),
+        None => before_first(text, ':'),
     }
 }
 

@@ -1,15 +1,16 @@
 ghost use Rattle.std.specs.Prelude.{◌≡◌, ◌<◌, ◌∷◌, ◌++◌, [], IfOk, OnOk, map, None, option_copied, string_bytes};
-ghost use Rattle.std.specs.List.{before_first, join_with_byte};
+ghost use Rattle.std.specs.List.{join_with_byte};
 ghost use Rattle.rkt_base.specs.Want.{IfRefused, GivesUnlessNoMemory};
-ghost use Rattle.rkt_grammar.specs.Grammar.{LeavesAt, behind_first};
-ghost use Rattle.rkt_uri.specs.Origin.{Target, Spells, IsOrigin, IsTarget, spelling, decoded, decoded_field_part, unplus, field_of, pieces, raw_segments_of, segments_of, fields_of, target_of, is_question, query_in, query_text, led, normal_form, normalized, is_ampersand};
+ghost use Rattle.rkt_grammar.specs.Grammar.{LeavesAt};
+ghost use Rattle.rkt_grammar.specs.Bytes.{slash, ampersand};
+ghost use Rattle.rkt_uri.specs.Origin.{Target, Spells, IsOrigin, IsTarget, spelling, decoded, decoded_field_part, field_of, pieces, raw_segments_of, segments_of, fields_of, target_of, query_text, led, normal_form, normalized};
 
 use crate::origin_iter::{QueryFields, RawSegments};
 use crate::origin_place::{OriginPlace, Profile};
 use crate::segments::Segments;
 use percent_encoding::percent_decode;
 use rkt_base::{NoMemory, Seq, Text, Want};
-use rkt_grammar::{copy_pairs, copy_texts, first_fault};
+use rkt_grammar::{before_first, behind_first, copy_pairs, copy_texts, cut, first_fault};
 use std::alloc::Global;
 use std::marker::Model;
 use thiserror::Error;
@@ -40,36 +41,25 @@ impl Model for Origin {
 }
 
 /// A text, percent-decoded, with the replacement character where that is no text.
-fn decode(alloc: Global, piece: &[u8]) -> Result<Text, NoMemory>
+fn decode(alloc: Global, piece: &str) -> Result<Text, NoMemory>
     ensures { IfOk result (λ t. t ≡ decoded piece.now) }
 {
-    let mut bytes = Vec::new(alloc);
-    percent_decode(piece).append_to(&mut bytes)?;
-    Ok(Text::from_string(String::from_utf8_lossy(alloc, bytes.as_slice())?))
-}
-
-fn without_plus(byte: u8) -> u8
-    ensures { result ≡ unplus byte }
-{
-    if byte == b'+' { b' ' } else { byte }
+    let text = percent_decode(piece.as_bytes()).decode_utf8_lossy(alloc)?;
+    Ok(Text::from_string(text.into_owned(alloc)?))
 }
 
 /// A part of a query's field, with its spaces.
 fn decode_field_part(alloc: Global, part: &str) -> Result<Text, NoMemory>
     ensures { IfOk result (λ t. t ≡ decoded_field_part part.now) }
 {
-    let bytes: Vec<u8> = part
-        .as_bytes()
-        .iter()
-        .map(|b| without_plus(*b))
-        .collect(alloc)?;
-    decode(alloc, bytes.as_slice())
+    let text = form_urlencoded::decode(alloc, part.as_bytes())?;
+    Ok(Text::from_string(text.into_owned(alloc)?))
 }
 
 fn read_field(alloc: Global, piece: &str) -> Result<(Text, Text), NoMemory>
     ensures { IfOk result (λ field. field ≡ field_of piece.now) }
 {
-    let (name, value) = piece.split_once('=').unwrap_or((piece, ""));
+    let (name, value) = cut(piece, '=');
     Ok((
         decode_field_part(alloc, name)?,
         decode_field_part(alloc, value)?,
@@ -80,12 +70,12 @@ fn read_field(alloc: Global, piece: &str) -> Result<(Text, Text), NoMemory>
 fn push_segment(alloc: Global, segments: &mut Seq<Text>, piece: &str) -> Result<(), NoMemory>
     ensures { OnOk result (segments.new ≡ segments.old ++ decoded piece.now ∷ []) }
 {
-    segments.push(decode(alloc, piece.as_bytes())?)?;
+    segments.push(decode(alloc, piece)?)?;
     Ok(())
 }
 
 fn read_segments(alloc: Global, path: &str) -> Result<Seq<Text>, NoMemory>
-    ensures { IfOk result (λ v. v ≡ map decoded (pieces 47 path.now)) }
+    ensures { IfOk result (λ v. v ≡ map decoded (pieces slash path.now)) }
 {
     let mut segments = Seq::new(alloc);
     push_segments(alloc, &mut segments, path)?;
@@ -95,7 +85,7 @@ fn read_segments(alloc: Global, path: &str) -> Result<Seq<Text>, NoMemory>
 /// Adds the segments of a path where there is none yet.
 fn push_segments(alloc: Global, segments: &mut Seq<Text>, path: &str) -> Result<(), NoMemory>
     requires { segments.old ≡ [] }
-    ensures { OnOk result (segments.new ≡ map decoded (pieces 47 path.now)) }
+    ensures { OnOk result (segments.new ≡ map decoded (pieces slash path.now)) }
 {
     for piece in path.split('/') {
         if !piece.is_empty() {
@@ -114,7 +104,7 @@ fn push_field(alloc: Global, fields: &mut Vec<(Text, Text)>, piece: &str) -> Res
 }
 
 fn read_fields(alloc: Global, query: &str) -> Result<Vec<(Text, Text)>, NoMemory>
-    ensures { IfOk result (λ v. v.items ≡ map field_of (pieces 38 query.now)) }
+    ensures { IfOk result (λ v. v.items ≡ map field_of (pieces ampersand query.now)) }
 {
     let mut fields = Vec::new(alloc);
     push_fields(alloc, &mut fields, query)?;
@@ -124,7 +114,7 @@ fn read_fields(alloc: Global, query: &str) -> Result<Vec<(Text, Text)>, NoMemory
 /// Adds the fields of a query where there is none yet.
 fn push_fields(alloc: Global, fields: &mut Vec<(Text, Text)>, query: &str) -> Result<(), NoMemory>
     requires { fields.old.items ≡ [] }
-    ensures { OnOk result (fields.new.items ≡ map field_of (pieces 38 query.now)) }
+    ensures { OnOk result (fields.new.items ≡ map field_of (pieces ampersand query.now)) }
 {
     for piece in query.split('&') {
         if !piece.is_empty() {
@@ -134,30 +124,12 @@ fn push_fields(alloc: Global, fields: &mut Vec<(Text, Text)>, query: &str) -> Re
     Ok(())
 }
 
-pub(crate) fn path_of_text(text: &str) -> &str
-    ensures { result.now ≡ before_first is_question text.now }
-{
-    match text.split_once('?') {
-        Some((path, _)) => path,
-        None => text,
-    }
-}
-
-fn query_of_text(text: &str) -> Option<&str>
-    ensures { option_copied result ≡ query_in text.now }
-{
-    match text.split_once('?') {
-        Some((_, query)) => Some(query),
-        None => None,
-    }
-}
-
 /// The origin that a text spells.
 fn read(alloc: Global, text: &str) -> Result<Origin, NoMemory>
     ensures { IfOk result (λ o. o ≡ target_of text.now) }
 {
-    let segments = read_segments(alloc, path_of_text(text))?;
-    let fields = read_fields(alloc, query_of_text(text).unwrap_or(""))?;
+    let segments = read_segments(alloc, before_first(text, '?'))?;
+    let fields = read_fields(alloc, behind_first(text, '?').unwrap_or(""))?;
     Ok(Origin {
         text: Text::new(alloc, text)?,
         segments,
@@ -203,22 +175,13 @@ fn push_led(out: &mut String, text: &str, separator: char) -> Result<(), NoMemor
 
 /// The path of the normal form.
 fn normal_path(alloc: Global, path: &str) -> Result<String, NoMemory>
-    ensures { IfOk result (λ t. string_bytes t ≡ 47 ∷ join_with_byte 47 (pieces 47 path.now)) }
+    ensures { IfOk result (λ t. string_bytes t ≡ slash ∷ join_with_byte slash (pieces slash path.now)) }
 {
     let mut text = led_pieces(alloc, path, '/')?;
     if text.as_str().is_empty() {
         text.push_str("/")?;
     }
     Ok(text)
-}
-
-fn behind_ampersand(text: &str) -> Option<&str>
-    ensures { option_copied result ≡ behind_first is_ampersand text.now }
-{
-    match text.split_once('&') {
-        Some((_, behind)) => Some(behind),
-        None => None,
-    }
 }
 
 /// Adds a query behind its question mark, if there is one.
@@ -238,7 +201,7 @@ fn normal_text(alloc: Global, path: &str, query: &str) -> Result<Text, NoMemory>
 {
     let fields = led_pieces(alloc, query, '&')?;
     let mut text = normal_path(alloc, path)?;
-    push_query(&mut text, behind_ampersand(fields.as_str()))?;
+    push_query(&mut text, behind_first(fields.as_str(), '&'))?;
     Ok(Text::from_string(text))
 }
 
@@ -284,13 +247,13 @@ impl Origin {
     pub fn path(&self) -> &str
         ensures { result.now ≡ self.now.path }
     {
-        path_of_text(self.text.as_str())
+        before_first(self.text.as_str(), '?')
     }
 
     pub fn query(&self) -> Option<&str>
         ensures { option_copied result ≡ self.now.query }
     {
-        query_of_text(self.text.as_str())
+        behind_first(self.text.as_str(), '?')
     }
 
     /// The normal form: no empty segment, and no empty piece in the query.
@@ -315,7 +278,7 @@ impl Origin {
     pub fn clear_query(&mut self)
         ensures { self.new ≡ record { path = self.old.path; query = None } }
     {
-        let end = path_of_text(self.text.as_str()).len();
+        let end = before_first(self.text.as_str(), '?').len();
         self.text.truncate(end);
         self.fields.clear();
     }

@@ -1,29 +1,10 @@
 ghost use Rattle.std.specs.Prelude.{◌≡◌, List, ℕ, length};
-ghost use Rattle.std.specs.List.{before_first, after_first};
-ghost use Rattle.rkt_uri.specs.Origin.{is_slash, pieces};
+ghost use Rattle.rkt_grammar.specs.Bytes.{slash};
+ghost use Rattle.rkt_uri.specs.Origin.{pieces};
 
 use rkt_base::Text;
+use rkt_grammar::cut;
 use std::marker::Model;
-
-/// What stands before the first slash.
-pub(crate) fn before_slash(text: &str) -> &str
-    ensures { result.now ≡ before_first is_slash text.now }
-{
-    match text.split_once('/') {
-        Some((piece, _)) => piece,
-        None => text,
-    }
-}
-
-/// What stands behind the first slash.
-pub(crate) fn behind_slash(text: &str) -> &str
-    ensures { result.now ≡ after_first is_slash text.now }
-{
-    match text.split_once('/') {
-        Some((_, rest)) => rest,
-        None => "",
-    }
-}
 
 /// The pieces of a path as they stand.
 #[derive(Drop)]
@@ -34,12 +15,12 @@ pub struct RawSegments<'a> {
 impl<'a> Model for RawSegments<'a> {
     ghost Value = { List (List ℕ) };
 
-    ghost view = { λ s. pieces 47 s.rest.now };
+    ghost view = { λ s. pieces slash s.rest.now };
 }
 
 impl<'a> RawSegments<'a> {
     pub(crate) fn new(path: &'a str) -> RawSegments<'a>
-        ensures { result ≡ pieces 47 path.entry.now }
+        ensures { result ≡ pieces slash path.entry.now }
     {
         RawSegments { rest: path }
     }
@@ -56,8 +37,8 @@ impl<'a> Iterator for RawSegments<'a> {
 
     fn next(&mut self) -> Option<&'a str> {
         while !self.rest.is_empty() {
-            let piece = before_slash(self.rest);
-            self.rest = behind_slash(self.rest);
+            let (piece, rest) = cut(self.rest, '/');
+            self.rest = rest;
             if !piece.is_empty() {
                 return Some(piece);
             }

@@ -1,7 +1,8 @@
 ghost use Rattle.std.specs.Prelude.{◌≡◌, ◌||◌, map, IfOk, OnOk, [], ◌++◌, ◌∷◌};
 ghost use Rattle.std.specs.List.{join_with_byte};
 ghost use Rattle.rkt_base.specs.Want.{Gives};
-ghost use Rattle.rkt_uri.specs.PathBuf.{is_here as is_here_of, name_fault as name_fault_of, fault_of, fault_in, with_segment, names_behind, path_of_names};
+ghost use Rattle.rkt_grammar.specs.Bytes.{slash};
+ghost use Rattle.rkt_uri.specs.PathBuf.{is_here as is_here_of, name_fault as name_fault_of, fault_of, fault_in, with_segment, names_left, path_of_names};
 ghost use Rattle.rkt_uri.specs.FileNames.{GoesDown};
 ghost use Rattle.rkt_uri.specs.Origin.{led};
 
@@ -120,7 +121,7 @@ fn take<'a>(kept: &mut Vec<&'a str>, segment: &'a str) -> Result<(), NoMemory>
 
 /// The names that segments leave, in order.
 fn walk(alloc: Global, segments: &[Text]) -> Result<Vec<&str>, NoMemory>
-    ensures { IfOk result (λ names. map (λ name. name.now) names.items ≡ names_behind [] segments.now) }
+    ensures { IfOk result (λ names. map (λ name. name.now) names.items ≡ names_left segments.now) }
 {
     let mut kept: Vec<&str> = Vec::new(alloc);
     for segment in segments {
@@ -131,7 +132,7 @@ fn walk(alloc: Global, segments: &[Text]) -> Result<Vec<&str>, NoMemory>
 
 /// The names with slashes between them.
 fn join(alloc: Global, names: &[&str]) -> Result<Text, NoMemory>
-    ensures { IfOk result (λ text. text ≡ join_with_byte 47 (map (λ name. name.now) names.now)) }
+    ensures { IfOk result (λ text. text ≡ join_with_byte slash (map (λ name. name.now) names.now)) }
 {
     let Some((first, others)) = names.split_first() else {
         return Text::new(alloc, "");
@@ -143,7 +144,7 @@ fn join(alloc: Global, names: &[&str]) -> Result<Text, NoMemory>
 
 /// Adds the names, each behind a slash.
 fn push_behind(text: &mut Text, names: &[&str]) -> Result<(), NoMemory>
-    ensures { OnOk result (text.new ≡ text.old ++ led 47 (map (λ name. name.now) names.now)) }
+    ensures { OnOk result (text.new ≡ text.old ++ led slash (map (λ name. name.now) names.now)) }
 {
     for name in names {
         text.push_str("/")?;

@@ -1,9 +1,9 @@
 use Rattle.std.proofs.Common.{rules, arith, ◌≡◌, ◌∙◌, ap, sym, length}
-use Rattle.rkt_grammar.specs.Places.{equal, differ}
+use Rattle.rkt_grammar.specs.ByteLaws.{equal, differ}
 use Rattle.rkt_media.specs.Runs.{behind_run}
 use Rattle.rkt_media.specs.AcceptText.{is_gap, ListsMedia}
-use Rattle.rkt_media.specs.MediaRests.{along}
-use Rattle.rkt_media.specs.AcceptRests.{lists_along}
+use Rattle.rkt_media.specs.MediaRestLaws.{along}
+use Rattle.rkt_media.specs.AcceptRestLaws.{lists_along}
 use Rattle.rkt_media.proofs.RunLemmas.{length-behind_run}
 use Rattle.rkt_media.proofs.AcceptReads.{gap_again, first_of, none_listed, one_listed, all_listed}
 use Rattle.rkt_media.proofs.accept_read.read_entries.Goals as goal

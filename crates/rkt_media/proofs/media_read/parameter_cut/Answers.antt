@@ -1,6 +1,6 @@
 use Rattle.std.proofs.Common.{◌∙◌, sym, ap}
 use Rattle.rkt_media.specs.Runs.{run, behind_run}
-use Rattle.rkt_media.specs.MediaText.{is_token_byte}
+use Rattle.rkt_grammar.specs.Grammar.{is_token_byte}
 use Rattle.rkt_media.proofs.MediaReads.{parameter_read, shorter_behind}
 use Rattle.rkt_media.proofs.media_read.parameter_cut.Goals as goal
 

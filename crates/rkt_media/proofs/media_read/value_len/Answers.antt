@@ -1,6 +1,7 @@
 use Rattle.std.proofs.Common.{◌≡◌, ◌∙◌, sym, ap, subst, List, ℕ, ◌∷◌, ◌+◌, take, drop}
 use Rattle.std.specs.Str.{IsUtf8, IsCharBoundary}
-use Rattle.rkt_media.specs.MediaText.{is_token_byte, ValueThen, Exactly}
+use Rattle.rkt_grammar.specs.Grammar.{is_token_byte}
+use Rattle.rkt_media.specs.MediaText.{ValueThen, Exactly}
 use Rattle.rkt_media.proofs.RunLemmas.{boundary-run, token_ascii, boundary-quoted, value_token, value_quoted}
 use Rattle.rkt_media.proofs.media_read.value_len.Goals as goal
 

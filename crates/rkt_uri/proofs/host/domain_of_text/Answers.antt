@@ -9,4 +9,4 @@ returns-in-Some c =
     c.range.ensures.value ∙ domain-closed c.args.text.now c.in-Some.at found.0 found.1 found.2
 
 pub returns-in-None : goal.returns-in-None
-returns-in-None c = c.before_colon.ensures ∙ domain-open c.args.text.now (find_char 93 c.args.text.now None c.in-None.ensures.cases (lit< tt))
+returns-in-None c = c.before_first.ensures ∙ domain-open c.args.text.now (find_char 93 c.args.text.now None c.in-None.ensures.cases (lit< tt))

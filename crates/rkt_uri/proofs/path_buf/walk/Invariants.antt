@@ -1,5 +1,5 @@
 use Rattle.std.proofs.Common.{◌≡◌, [], map, drop}
-use Rattle.rkt_uri.specs.PathBuf.{names_behind}
+use Rattle.rkt_uri.proofs.Paths.{names_behind}
 use Rattle.rkt_uri.proofs.path_buf.walk.Given as goal
 
 -- what is left goes on from the names that are kept
