@@ -6,14 +6,11 @@ use Rattle.rkt_base.specs.declared.poll.Poll.{Poll}
 use Rattle.rkt_base.specs.declared.poll.Poll.TheVariants.{Ready, Pending}
 use Rattle.rkt_data.specs.Body.{EndSeen, FrontOf, HoldsFront, Peeked, PeekedPulls, PeeksByGate, opened_tap}
 use Rattle.rkt_data.specs.Gathering.{cause_of, data_error_of}
-use Rattle.rkt_data.specs.Sending.{sink_error_of}
 use Rattle.rkt_data.specs.Stream.{DrawnBy}
 use Rattle.rkt_data.specs.declared.error.DataError.{DataError}
 use Rattle.rkt_data.specs.declared.tap.Stop.{Stop}
 use Rattle.rkt_data.specs.declared.tap.Stop.TheVariants as stop
 use Rattle.rkt_data.specs.declared.tap.Tap.{Tap}
-use Rattle.rkt_source.specs.declared.sink.SinkError.{SinkError}
-use Rattle.rkt_source.specs.declared.sink.SinkError.TheVariants as sink_error
 use Rattle.rkt_source.specs.Source.{Meaning, Keeps, Errs, LeftOrRead}
 use Rattle.rkt_data.specs.Tap.{Tapped, Polls, PollsTo, ByGate, AsksOnce, Ending, ending_of, ending_at, SameTap, TapErrs, TapWaits, Gave, ToppedUp, body, tapped}
 use Rattle.rkt_source.specs.declared.source.Gate.{Gate}
@@ -63,15 +60,11 @@ pub AsksOnce-none : {S : Type 0} (polled : S → Gate → Poll (Result ℕ Sourc
 AsksOnce-none polled gate n None = tt
 AsksOnce-none polled gate n (Some a) = inl refl
 
--- an error of the source is the cause of the one that is answered, and one of the sink is none
+-- an error of the source is the cause of the one that is answered
 pub ByGate-caused : {S : Type 0} (polled : S → Gate → Poll (Result ℕ SourceError) → S → Type 0) (gate : Gate) (e : SourceError) (d : DataError) (a b : Option (Tapped S)) → d ≡ data_error_of e → ByGate polled gate (Ready (Err e)) a b → ByGate polled gate (Ready (cause_of d)) a b
 ByGate-caused polled gate SourceFault d a b is h = rw is h
 ByGate-caused polled gate Gone d a b is h = rw is h
 ByGate-caused polled gate TimedOut d a b is h = rw is h
-
-pub ByGate-sunk : {S : Type 0} (polled : S → Gate → Poll (Result ℕ SourceError) → S → Type 0) (gate : Gate) (e : SinkError) (d : DataError) (a b : Option (Tapped S)) → d ≡ sink_error_of e → ByGate polled gate (Ready (Ok tt)) a b → ByGate polled gate (Ready (cause_of d)) a b
-ByGate-sunk polled gate sink_error.SinkFault d a b is h = rw is h
-ByGate-sunk polled gate sink_error.NoMemory d a b is h = rw is h
 
 -- a peek that has stopped
 pub PeeksByGate-stopped : {S : Type 0} (polled : S → Gate → Poll (Result ℕ SourceError) → S → Type 0) (gate : Gate) (s : Stop) (answer : Poll (Unit {0})) (t u : Tapped S) → (s ≡ stop.Waiting → answer ≡ Pending) → ((s ≡ stop.Waiting → ⊥) → answer ≡ Ready tt) → PollsTo polled gate (ending_at s) t.now u.now

@@ -5,12 +5,10 @@ use Rattle.std.specs.declared.alloc.Global.{Global}
 use Rattle.rkt_base.specs.declared.poll.Poll.{Poll}
 use Rattle.rkt_base.specs.declared.poll.Poll.TheVariants.{Ready, Pending}
 use Rattle.rkt_source.specs.Source.{Meaning, Keeps, Waits, Errs}
-use Rattle.rkt_data.specs.Gathering.{cause_of}
+use Rattle.rkt_data.specs.Gathering.{Causes, cause_of}
 use Rattle.rkt_source.specs.declared.source.Gate.{Gate}
 use Rattle.rkt_source.specs.declared.source.SourceError.{SourceError}
 use Rattle.rkt_data.specs.declared.error.DataError.{DataError}
-use Rattle.rkt_data.specs.declared.error.DataError.TheVariants as error
-use Rattle.rkt_source.specs.declared.source.SourceError.TheVariants as source_error
 
 pub record Chunks (R : Type 0) : Type 0 where
   pub reader : R
@@ -21,12 +19,7 @@ pub record Chunks (R : Type 0) : Type 0 where
 
 -- when a chunk may fail with each error
 abbrev pub ChunkErr : {R : Type 0} → (R → Meaning) → Chunks R → Chunks R → DataError → Type 0
-ChunkErr meaning a b error.SourceFault = (b.ended ≡ true) × Errs source_error.SourceFault (meaning a.reader) (meaning b.reader)
-ChunkErr meaning a b error.Gone = (b.ended ≡ true) × Errs source_error.Gone (meaning a.reader) (meaning b.reader)
-ChunkErr meaning a b error.TimedOut = (b.ended ≡ true) × Errs source_error.TimedOut (meaning a.reader) (meaning b.reader)
-ChunkErr meaning a b (error.NotUtf8 valid_up_to) = ⊥
-ChunkErr meaning a b error.SinkFault = ⊥
-ChunkErr meaning a b error.NoMemory = b ≡ a
+ChunkErr meaning a b e = Causes (λ cause. (b.ended ≡ true) × Errs cause (meaning a.reader) (meaning b.reader)) ⊥ (λ valid_up_to. ⊥) (b ≡ a) e
 
 -- a chunk is the next bytes of the source, and there is none at its end
 abbrev pub ReadsChunk : {R : Type 0} → (R → Meaning) → Chunks R → Chunks R → Poll (Option (Result (Vec ℕ Global) DataError)) → Type 0

@@ -44,6 +44,15 @@ cause_of (error.NotUtf8 valid_up_to) = Ok tt
 cause_of error.SinkFault = Ok tt
 cause_of error.NoMemory = Ok tt
 
+-- what each error means: one of the source by the source, a fault of the sink by the sink, and so on
+abbrev pub Causes : (SourceError → Type 0) → Type 0 → (ℕ → Type 0) → Type 0 → DataError → Type 0
+Causes source sink text memory error.SourceFault = source source_error.SourceFault
+Causes source sink text memory error.Gone = source source_error.Gone
+Causes source sink text memory error.TimedOut = source source_error.TimedOut
+Causes source sink text memory (error.NotUtf8 valid_up_to) = text valid_up_to
+Causes source sink text memory error.SinkFault = sink
+Causes source sink text memory error.NoMemory = memory
+
 -- what the answer of a state tells of the reads
 abbrev pub reads_end : {X : Type 0} → Poll (Result X DataError) → Ending
 reads_end Pending = Pending
@@ -105,12 +114,7 @@ Closes meaning o p (Ready (Ok complete)) = ForSome (whole_of meaning o.opened) (
 
 -- when a reading of bytes may fail with each error
 abbrev pub BytesErr : {S : Type 0} → (S → Meaning) → Opened S → Opened S → DataError → Type 0
-BytesErr meaning o p error.SourceFault = TapErrs meaning source_error.SourceFault o.tap p.tap
-BytesErr meaning o p error.Gone = TapErrs meaning source_error.Gone o.tap p.tap
-BytesErr meaning o p error.TimedOut = TapErrs meaning source_error.TimedOut o.tap p.tap
-BytesErr meaning o p (error.NotUtf8 valid_up_to) = ⊥
-BytesErr meaning o p error.SinkFault = ⊥
-BytesErr meaning o p error.NoMemory = ⊤
+BytesErr meaning o p e = Causes (λ cause. TapErrs meaning cause o.tap p.tap) ⊥ (λ valid_up_to. ⊥) ⊤ e
 
 -- how far a poll has come
 abbrev pub Finishes : {S : Type 0} → (S → Meaning) → Piped S → Piped S → Finished → Type 0

@@ -5,20 +5,18 @@ use Rattle.std.specs.Str.Lossy.{utf8_valid_len}
 use Rattle.std.specs.declared.alloc.Global.{Global}
 use Rattle.rkt_base.specs.declared.poll.Poll.{Poll}
 use Rattle.rkt_base.specs.declared.poll.Poll.TheVariants.{Ready, Pending}
-use Rattle.rkt_data.specs.Gathering.{Gathering, Gathered, Draws, IsUsedUp, Completes, cause_of, cut_from}
+use Rattle.rkt_data.specs.Gathering.{Causes, Gathering, Gathered, Draws, IsUsedUp, Completes, cause_of, cut_from}
 use Rattle.rkt_source.specs.Source.{Meaning}
 use Rattle.rkt_data.specs.Stream.{Opened, Piped, whole_of}
 use Rattle.rkt_data.specs.Tap.{TapErrs, TapWaits}
 use Rattle.rkt_data.specs.declared.capped.Capped.{Capped}
 use Rattle.rkt_data.specs.declared.error.DataError.{DataError}
-use Rattle.rkt_data.specs.declared.error.DataError.TheVariants as error
 use Rattle.rkt_data.specs.declared.into_string.Found.{Found}
 use Rattle.rkt_data.specs.declared.into_string.Found.TheVariants as found
 use Rattle.rkt_data.specs.declared.into_string.Texted.{Texted}
 use Rattle.rkt_data.specs.declared.into_string.Texted.TheVariants as texted
 use Rattle.rkt_source.specs.declared.source.Gate.{Gate}
 use Rattle.rkt_source.specs.declared.source.SourceError.{SourceError}
-use Rattle.rkt_source.specs.declared.source.SourceError.TheVariants as source_error
 
 abbrev pub found_bytes : Found → List ℕ
 found_bytes (found.Bytes room count) = take count room.items
@@ -42,12 +40,12 @@ GathersText meaning p from f None false = Gathered meaning p.opened from (found_
 
 -- why no text was read
 abbrev pub TextFails : {S : Type 0} → (S → Meaning) → List ℕ → Opened S → Opened S → DataError → Type 0
-TextFails meaning got o p error.SourceFault = TapErrs meaning source_error.SourceFault o.tap p.tap × (p.given < p.limit)
-TextFails meaning got o p error.Gone = TapErrs meaning source_error.Gone o.tap p.tap × (p.given < p.limit)
-TextFails meaning got o p error.TimedOut = TapErrs meaning source_error.TimedOut o.tap p.tap × (p.given < p.limit)
-TextFails meaning got o p (error.NotUtf8 valid_up_to) = IsUsedUp meaning p × (valid_up_to ≡ utf8_valid_len got) × (IsUtf8 got → ⊥)
-TextFails meaning got o p error.SinkFault = ⊥
-TextFails meaning got o p error.NoMemory = ⊤
+TextFails meaning got o p e = Causes
+    (λ cause. TapErrs meaning cause o.tap p.tap × (p.given < p.limit))
+    ⊥
+    (λ valid_up_to. IsUsedUp meaning p × (valid_up_to ≡ utf8_valid_len got) × (IsUtf8 got → ⊥))
+    ⊤
+    e
 
 -- what reading for a text came to
 abbrev pub Texts : {S : Type 0} → (S → Meaning) → (S → Gate → Poll (Result ℕ SourceError) → S → Type 0) → Gate → Found → Piped S → Piped S → Texted → Type 0
@@ -58,12 +56,12 @@ Texts meaning polled gate f o p (texted.Failed e) = (got : List ℕ) × Draws me
 -- when a reading of text may fail with each error: NotUtf8 where all up to the limit was read and is no UTF-8, and no
 -- other error of the source where that is so
 abbrev pub TextErr : {S : Type 0} → (S → Meaning) → ℕ → Opened S → Opened S → DataError → Type 0
-TextErr meaning from o p error.SourceFault = TapErrs meaning source_error.SourceFault o.tap p.tap × (p.given ≡ p.limit → ForSome (whole_of meaning o) (λ b. IsUtf8 (cut_from from b o.limit)))
-TextErr meaning from o p error.Gone = TapErrs meaning source_error.Gone o.tap p.tap × (p.given ≡ p.limit → ForSome (whole_of meaning o) (λ b. IsUtf8 (cut_from from b o.limit)))
-TextErr meaning from o p error.TimedOut = TapErrs meaning source_error.TimedOut o.tap p.tap × (p.given ≡ p.limit → ForSome (whole_of meaning o) (λ b. IsUtf8 (cut_from from b o.limit)))
-TextErr meaning from o p (error.NotUtf8 valid_up_to) = ForSome (whole_of meaning o) (λ b. (valid_up_to ≡ utf8_valid_len (cut_from from b o.limit)) × (IsUtf8 (cut_from from b o.limit) → ⊥))
-TextErr meaning from o p error.SinkFault = ⊥
-TextErr meaning from o p error.NoMemory = ⊤
+TextErr meaning from o p e = Causes
+    (λ cause. TapErrs meaning cause o.tap p.tap × (p.given ≡ p.limit → ForSome (whole_of meaning o) (λ b. IsUtf8 (cut_from from b o.limit))))
+    ⊥
+    (λ valid_up_to. ForSome (whole_of meaning o) (λ b. (valid_up_to ≡ utf8_valid_len (cut_from from b o.limit)) × (IsUtf8 (cut_from from b o.limit) → ⊥)))
+    ⊤
+    e
 
 -- what a poll answers that gathers text
 abbrev pub AnswersText : {S : Type 0} → (S → Meaning) → Gathering S → Gathering S → Poll (Result (Capped (String Global)) DataError) → Type 0

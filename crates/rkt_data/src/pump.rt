@@ -1,8 +1,8 @@
 //! Sends what an opened body gives to a sink, through a buffer.
 ghost use Rattle.std.specs.Prelude.{◌≡◌, ◌≤◌, ◌<◌, IfOk, OnErr, None, ℕ, false, length, take, vec_len};
 ghost use Rattle.rkt_source.specs.Buffer.{items_of};
-ghost use Rattle.rkt_data.specs.Sending.{Pumps, PumpStops, SendStops, SendsByGate, between, pumped_end, sink_error_of};
-ghost use Rattle.rkt_source.specs.Sink.{SinkKeeps, Gains};
+ghost use Rattle.rkt_data.specs.Sending.{Pumps, PumpStops, SendStops, between, pumped_answer, sent_end, sink_error_of};
+ghost use Rattle.rkt_source.specs.Sink.{SinkKeeps, FeedsTo, Gains};
 ghost use Rattle.rkt_data.specs.Stream.{TakesAtMost};
 
 use crate::error::{DataError, error_of};
@@ -47,8 +47,7 @@ pub(crate) fn pump<S: Source, K: Sink>(
     requires some { 0 < length buf.old }
     ensures order { result.0 ≤ result.1 }
     ensures room { result.1 ≤ length buf.new }
-    ensures by_gate { SendsByGate S.polled gate (pumped_end result.2) pipe.old.opened.tap pipe.new.opened.tap }
-    ensures pumps { Pumps S.meaning K.meaning gate pipe.old pipe.new sink.old sink.new (between at end buf.old) (between result.0 result.1 buf.new) }
+    ensures pumps { Pumps S.meaning S.polled K.meaning K.written gate (pumped_answer result.2) pipe.old pipe.new sink.old sink.new (between at end buf.old) (between result.0 result.1 buf.new) }
     ensures stops { PumpStops S.meaning K.meaning pipe.old.opened pipe.new.opened sink.old sink.new (between result.0 result.1 buf.new) result.2 }
 {
     let mut from = at;
@@ -77,6 +76,7 @@ fn send<K: Sink>(sink: &mut K, piece: &[u8]) -> (usize, Sent)
     ensures keeps { SinkKeeps (K.meaning sink.old) (K.meaning sink.new) }
     ensures within { result.0 ≤ length piece.now }
     ensures gains { Gains (K.meaning sink.old) (K.meaning sink.new) (take result.0 piece.now) }
+    ensures feeds { FeedsTo K.written (sent_end result.1) sink.old (take result.0 piece.now) sink.new }
     ensures stops { SendStops K.meaning sink.old sink.new (length piece.now) result.0 result.1 }
 {
     let mut n = 0;

@@ -1,7 +1,7 @@
 //! An opened body on its way to a sink.
 ghost use Rattle.std.specs.Prelude.{◌≡◌, ◌+◌, ◌-◌, ◌≤◌, [], false, length};
 ghost use Rattle.rkt_data.specs.Gathering.{IsUsedUp, Closes};
-ghost use Rattle.rkt_data.specs.Sending.{PumpStops, SentAll, Sends, SendsByGate, pumped_end};
+ghost use Rattle.rkt_data.specs.Sending.{PumpStops, SentAll, Sends, SendsNext, pumped_answer};
 ghost use Rattle.rkt_source.specs.Sink.{SinkKeeps};
 ghost use Rattle.rkt_data.specs.Stream.{Follows, TakesAtMost, PullsAtMost};
 ghost use Rattle.rkt_data.specs.Tap.{ByGate, ending_of};
@@ -79,7 +79,7 @@ impl<S: Source, K: Sink> Sender<S, K> {
         ensures from { self.new.from ≡ self.old.from }
         ensures begun { self.new.sink.begun ≡ self.old.sink.begun }
         ensures follows { Follows S.meaning gate.tripped self.old.piped.opened self.new.piped.opened }
-        ensures by_gate { SendsByGate S.polled gate (pumped_end result) self.old.piped.opened.tap self.new.piped.opened.tap }
+        ensures calls { SendsNext S.meaning S.polled K.written gate (pumped_answer result) self.old.piped.opened self.new.piped.opened self.old.sink.now self.new.sink.now (self.old.from + (self.old.piped.opened.given - (self.old.from + length self.old.pending))) (self.new.from + (self.new.piped.opened.given - (self.new.from + length self.new.pending))) }
         ensures bound { TakesAtMost S.meaning self.new.piped.opened self.new.piped.opened.limit }
         ensures keeps { SinkKeeps (K.meaning self.old.sink.now) (K.meaning self.new.sink.now) }
         ensures stops { PumpStops S.meaning K.meaning self.old.piped.opened self.new.piped.opened self.old.sink.now self.new.sink.now self.new.pending result }

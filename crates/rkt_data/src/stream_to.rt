@@ -2,8 +2,7 @@
 ghost use Rattle.std.specs.Option.{ForSome};
 ghost use Rattle.std.specs.Prelude.{◌≡◌, Err, None, false};
 ghost use Rattle.rkt_base.specs.declared.poll.Poll.TheVariants.{Ready};
-ghost use Rattle.rkt_data.specs.Gathering.{reads_end};
-ghost use Rattle.rkt_data.specs.Sending.{Sends, SendsByGate};
+ghost use Rattle.rkt_data.specs.Sending.{Sends, SendsBy};
 ghost use Rattle.rkt_source.specs.Sink.{SinkKeeps};
 ghost use Rattle.rkt_data.specs.Stream.{Follows, PullsAtMost, TakesAtMost};
 
@@ -65,7 +64,8 @@ impl<S: Source, K: Sink> StreamTo<S, K> {
         ensures from { self.new.from ≡ self.old.from }
         ensures begun { self.new.sink.begun ≡ self.old.sink.begun }
         ensures follows { Follows S.meaning gate.tripped self.old.stream self.new.stream }
-        ensures by_gate { self.old.failed ≡ None → SendsByGate S.polled gate (reads_end result) self.old.stream.tap self.new.stream.tap }
+        // The source and the sink are asked in turn, and the answer is the last one's. The sink takes the next bytes of the body.
+        ensures calls { self.old.failed ≡ None → SendsBy S.meaning S.polled K.written gate result self.old self.new }
         ensures bound { PullsAtMost S.meaning self.new.stream }
         ensures keeps { SinkKeeps (K.meaning self.old.sink.now) (K.meaning self.new.sink.now) }
         ensures sends { Sends S.meaning K.meaning self.new.stream self.new.sink self.new.from self.new.sent }
@@ -164,7 +164,8 @@ impl<S: Source, K: Sink> StreamPrecise<S, K> {
         ensures from { self.new.from ≡ self.old.from }
         ensures begun { self.new.sink.begun ≡ self.old.sink.begun }
         ensures follows { Follows S.meaning gate.tripped self.old.stream self.new.stream }
-        ensures by_gate { self.old.failed ≡ None → SendsByGate S.polled gate (reads_end result) self.old.stream.tap self.new.stream.tap }
+        // The source and the sink are asked in turn, and the answer is the last one's. The sink takes the next bytes of the body.
+        ensures calls { self.old.failed ≡ None → SendsBy S.meaning S.polled K.written gate result self.old self.new }
         // No byte past the limit is read.
         ensures bound { TakesAtMost S.meaning self.new.stream self.new.stream.limit }
         ensures keeps { SinkKeeps (K.meaning self.old.sink.now) (K.meaning self.new.sink.now) }

@@ -1,5 +1,5 @@
 -- A stream is read and written piece by piece.
-use Rattle.std.proofs.Common.{◌≡◌, ◌≤◌, ◌+◌, ◌++◌, ◌⊎◌, inl, inr, ℕ, List, [], Bool, true, false, Option, Some, None, length, take, drop, refl, ap, ◌∙◌, sym, append_assoc, arith, length-append}
+use Rattle.std.proofs.Common.{◌≡◌, ◌≤◌, ◌+◌, ◌++◌, ◌⊎◌, inl, inr, ℕ, List, [], Bool, true, false, Option, Some, None, Result, Ok, Err, length, take, drop, refl, ap, ◌∙◌, sym, append_assoc, arith, length-append, append-nil}
 use Rattle.std.proofs.Math.Seq.{take-add}
 use Rattle.std.proofs.lemmas.Bool.{false≢true}
 use Rattle.std.proofs.lemmas.List.{drop-drop}
@@ -8,7 +8,13 @@ use Rattle.std.specs.Option.{ForSome, IsSome, option_map}
 use Rattle.std.specs.Bool.{IsTrue}
 use Rattle.rkt_source.specs.Sink.{SinkMeaning, Gains}
 use Rattle.rkt_source.specs.Source.{Meaning, Keeps, Gives}
-use Rattle.rkt_script.specs.Streams.{Reads}
+use Rattle.std.specs.Result.{IsErrAnd}
+use Rattle.rkt_base.specs.declared.poll.Poll.{Poll}
+use Rattle.rkt_source.specs.declared.source.Gate.{Gate}
+use Rattle.rkt_source.specs.declared.source.SourceError.{SourceError}
+use Rattle.rkt_script.specs.Streams.{Reads, ReadsAs, ReadsOn}
+use Rattle.rkt_script.specs.declared.stream.StreamError.{StreamError}
+use Rattle.rkt_script.specs.declared.stream.StreamError.TheVariants.{NoMemory}
 
 no_warning : (warned : Bool) → warned ≡ false → IsTrue warned ⊎ IsSome {T = ℕ} None → ⊥
 no_warning warned is (inl h) = false≢true (sym is ∙ h)
@@ -61,6 +67,16 @@ option_gains : (a b c : Option (List ℕ)) (x y : List ℕ) → b ≡ option_map
 option_gains None b c x y p q = q ∙ ap (option_map (λ (h : List ℕ). h ++ y)) p
 option_gains (Some as') b c x y p q = q ∙ ap (option_map (λ (h : List ℕ). h ++ y)) p ∙ ap Some (append_assoc as' x y)
 
+-- no bytes are behind those that it has
+pub gains_none : (held : Option (List ℕ)) → held ≡ option_map (λ h. h ++ []) held
+gains_none None = refl
+gains_none (Some h) = ap Some (sym (append-nil h))
+
 pub gains_more : (a b c : SinkMeaning) (bytes : List ℕ) (at n : ℕ) → Gains a b (take at bytes) → Gains b c (take n (drop at bytes)) → Gains a c (take (at + n) bytes)
 gains_more a b c bytes at n first second =
     rw (take-add at n bytes) (option_gains a.held b.held c.held (take at bytes) (take n (drop at bytes)) first second)
+
+-- where memory was wanting, no read was refused
+pub no_memory_reads : {S X : Type 0} (polled : S → Gate → Poll (Result ℕ SourceError) → S → Type 0) (gate : Gate) (answer : Result X StreamError) (s t : S) → IsErrAnd answer (λ e. e ≡ NoMemory) → ReadsOn polled gate s t → ReadsAs polled gate answer s t
+no_memory_reads polled gate (Ok x) s t h r = absurd h
+no_memory_reads polled gate (Err e) s t h r = rw h r

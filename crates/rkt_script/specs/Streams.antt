@@ -1,9 +1,18 @@
 -- What whole reads and writes leave.
-use Rattle.std.specs.Prelude.{◌≡◌, ◌≤◌, ◌⊎◌, ℕ, ◌+◌, false, List, length, take, drop}
+use Rattle.std.specs.Prelude.{◌≡◌, ◌<◌, ◌≤◌, ◌⊎◌, ℕ, ◌+◌, ◌++◌, false, List, [], length, take, drop, Result, Ok, Err}
 use Rattle.std.specs.Option.{ForSome}
 use Rattle.rkt_base.specs.Counts.{Rose}
-use Rattle.rkt_source.specs.Sink.{SinkMeaning, Gains}
+use Rattle.rkt_base.specs.declared.poll.Poll.{Poll}
+use Rattle.rkt_base.specs.declared.poll.Poll.TheVariants.{Ready, Pending}
+use Rattle.rkt_source.specs.Sink.{SinkMeaning, Gains, RefusesPiece}
 use Rattle.rkt_source.specs.Source.{Meaning}
+use Rattle.rkt_source.specs.declared.sink.SinkError.{SinkError}
+use Rattle.rkt_source.specs.declared.sink.SinkError.TheVariants as sink_error
+use Rattle.rkt_source.specs.declared.source.Gate.{Gate}
+use Rattle.rkt_source.specs.declared.source.SourceError.{SourceError}
+use Rattle.rkt_source.specs.declared.source.SourceError.TheVariants as source_error
+use Rattle.rkt_demo.specs.declared.stream.StreamError.{StreamError}
+use Rattle.rkt_demo.specs.declared.stream.StreamError.TheVariants as error
 
 -- reads gave these bytes, of a source that was never warned
 pub record Reads (before after : Meaning) (bytes : List ℕ) : Type 0 where
@@ -28,3 +37,46 @@ GainsFront before after bytes = (n : ℕ) × Gains before after (take n bytes)
 -- the sink has taken all of these bytes, or it refused and has taken some front of them
 abbrev pub GainsUnlessRefused : SinkMeaning → SinkMeaning → List ℕ → Type 0
 GainsUnlessRefused before after bytes = Gains before after bytes ⊎ (Rose before.faults after.faults × GainsFront before after bytes)
+
+-- any number of reads under this Gate that were Pending lead from the first to the second
+pub data Awaits {S : Type 0} (polled : S → Gate → Poll (Result ℕ SourceError) → S → Type 0) (gate : Gate) : S → S → Type 0 where
+  none : {s : S} → Awaits polled gate s s
+  more : {s t u : S} → Awaits polled gate s t → polled t gate Pending u → Awaits polled gate s u
+
+-- a read under this Gate, which is made again while it is Pending, is answered so
+abbrev pub AnswersRead : {S : Type 0} → (S → Gate → Poll (Result ℕ SourceError) → S → Type 0) → Gate → Result ℕ SourceError → S → S → Type 0
+AnswersRead polled gate answer s t = (r : _) × Awaits polled gate s r × polled r gate (Ready answer) t
+
+-- one read, by what is told of it
+abbrev pub ReadsOnce : {S : Type 0} → (S → Gate → Poll (Result ℕ SourceError) → S → Type 0) → Gate → Result ℕ StreamError → S → S → Type 0
+ReadsOnce polled gate (Ok n) s t = AnswersRead polled gate (Ok n) s t
+ReadsOnce polled gate (Err error.Fault) s t = AnswersRead polled gate (Err source_error.SourceFault) s t
+ReadsOnce polled gate (Err error.NoMemory) s t = ⊥
+
+-- any number of such reads, each of which gave bytes or the end, lead from the first to the second
+pub data ReadsOn {S : Type 0} (polled : S → Gate → Poll (Result ℕ SourceError) → S → Type 0) (gate : Gate) : S → S → Type 0 where
+  none : {s : S} → ReadsOn polled gate s s
+  more : {s t u : S} {n : ℕ} → ReadsOn polled gate s t → AnswersRead polled gate (Ok n) t u → ReadsOn polled gate s u
+
+-- what an answer tells of the reads: none but the last was refused, and a fault is that one's
+abbrev pub ReadsAs : {S X : Type 0} → (S → Gate → Poll (Result ℕ SourceError) → S → Type 0) → Gate → Result X StreamError → S → S → Type 0
+ReadsAs polled gate (Ok x) s t = ReadsOn polled gate s t
+ReadsAs polled gate (Err error.Fault) s t = (r : _) × ReadsOn polled gate s r × AnswersRead polled gate (Err source_error.SourceFault) r t
+ReadsAs polled gate (Err error.NoMemory) s t = ReadsOn polled gate s t
+
+-- any number of writes, each of which was Pending or took some bytes of the front of its piece, lead from the first to the
+-- second; these are the bytes
+pub data WritesOn {K : Type 0} (written : K → List ℕ → Poll (Result ℕ SinkError) → K → Type 0) : K → List ℕ → K → Type 0 where
+  none : {k : K} → WritesOn written k [] k
+  waits : {k l m : K} {bytes piece : List ℕ} → WritesOn written k bytes l → written l piece Pending m → WritesOn written k bytes m
+  more : {k l m : K} {bytes piece : List ℕ} {n : ℕ} → WritesOn written k bytes l → 0 < n → written l piece (Ready (Ok n)) m → WritesOn written k (bytes ++ take n piece) m
+
+-- such writes of a front of the bytes, and then the sink refused what was left
+abbrev pub WritesUntil : {K : Type 0} → (K → List ℕ → Poll (Result ℕ SinkError) → K → Type 0) → SinkError → K → List ℕ → K → Type 0
+WritesUntil written e k bytes l = (n : ℕ) × (m : _) × (n < length bytes) × WritesOn written k (take n bytes) m × RefusesPiece written e m (drop n bytes) l
+
+-- what an answer tells of the writes of these bytes
+abbrev pub WritesAs : {K X : Type 0} → (K → List ℕ → Poll (Result ℕ SinkError) → K → Type 0) → Result X StreamError → K → List ℕ → K → Type 0
+WritesAs written (Ok x) k bytes l = WritesOn written k bytes l
+WritesAs written (Err error.Fault) k bytes l = WritesUntil written sink_error.SinkFault k bytes l
+WritesAs written (Err error.NoMemory) k bytes l = WritesUntil written sink_error.NoMemory k bytes l

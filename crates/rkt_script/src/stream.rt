@@ -3,7 +3,7 @@ ghost use Rattle.std.specs.Prelude.{◌≡◌, ◌≤◌, ◌<◌, ◌+◌, fals
 ghost use Rattle.std.specs.Option.{ForSome};
 ghost use Rattle.rkt_base.specs.Counts.{Rose};
 ghost use Rattle.rkt_source.specs.Sink.{Gains};
-ghost use Rattle.rkt_script.specs.Streams.{GainsFront, Reads, IsAtEnd, IsReadTo};
+ghost use Rattle.rkt_script.specs.Streams.{GainsFront, Reads, ReadsOnce, ReadsAs, WritesAs, IsAtEnd, IsReadTo};
 ghost use Rattle.rkt_script.specs.declared.stream.StreamError.TheVariants.{NoMemory as OutOfMemory};
 
 use rkt_base::Poll;
@@ -53,6 +53,7 @@ fn read_block<R: Wait, S: Source>(
 ) -> Result<usize, StreamError>
     requires unwarned { (S.meaning source.old).warned ≡ false }
     requires room { 0 < length block.old }
+    ensures polled { ReadsOnce S.polled GATE result source.old source.new }
     ensures within { IfOk result (λ n. n ≤ length block.new) }
     ensures reads { IfOk result (λ n. Reads (S.meaning source.old) (S.meaning source.new) (take n block.new)) }
     ensures end { IfOk result (λ n. n ≡ 0 → IsAtEnd (S.meaning source.new)) }
@@ -79,6 +80,7 @@ pub fn read_all<R: Wait, S: Source>(
     most: usize,
 ) -> Result<Vec<u8>, StreamError>
     requires { (S.meaning source.old).warned ≡ false }
+    ensures polled { ReadsAs S.polled GATE result source.old source.new }
     ensures bytes { IfOk result (λ v. ForSome (S.meaning source.old).whole (λ whole. v.items ≡ take most (drop (S.meaning source.old).taken whole))) }
     ensures taken { OnOk result (IsReadTo most (S.meaning source.old) (S.meaning source.new)) }
     ensures bound { (S.meaning source.new).taken ≤ (S.meaning source.old).taken + most }
@@ -101,6 +103,7 @@ pub fn read_all<R: Wait, S: Source>(
 
 /// Writes all the bytes, or a front of them.
 pub fn write_all<R: Wait, K: Sink>(rt: &R, sink: &mut K, bytes: &[u8]) -> Result<(), StreamError>
+    ensures written { WritesAs K.written result sink.old bytes.now sink.new }
     ensures ok { OnOk result (Gains (K.meaning sink.old) (K.meaning sink.new) bytes.now) }
     ensures front { GainsFront (K.meaning sink.old) (K.meaning sink.new) bytes.now }
     ensures cause { IsErrOf result StreamError.Fault → Rose (K.meaning sink.old).faults (K.meaning sink.new).faults }

@@ -2,7 +2,7 @@
 use Rattle.std.specs.Prelude.{◌≡◌, ℕ, ◌+◌, ◌-◌, ◌<◌, ◌^◌, ◌++◌, Bool, true, false, List, length, take, drop, min, Some, nat_eq, Result, Ok, Err}
 use Rattle.std.specs.List.{list_any}
 use Rattle.rkt_base.specs.declared.poll.Poll.{Poll}
-use Rattle.rkt_base.specs.declared.poll.Poll.TheVariants.{Ready}
+use Rattle.rkt_base.specs.declared.poll.Poll.TheVariants.{Ready, Pending}
 use Rattle.rkt_source.specs.Sink.{SinkMeaning}
 use Rattle.rkt_source.specs.Source.{Meaning}
 use Rattle.rkt_source.specs.declared.sink.SinkError.{SinkError}
@@ -75,3 +75,8 @@ WritesUnless false s t piece (Err e) = (t ≡ record s { calls = counted s.calls
 -- a write of a piece: all of it, or want of memory, or a fault where the call's number is listed
 abbrev pub WritesAll : SinkInMemory → SinkInMemory → List ℕ → Result ℕ SinkError → Type 0
 WritesAll s t piece answer = WritesUnless (is_listed s.fails s.calls) s t piece answer
+
+-- what a write answers, which is never Pending
+abbrev pub WritesAtOnce : SinkInMemory → List ℕ → Poll (Result ℕ SinkError) → SinkInMemory → Type 0
+WritesAtOnce s piece Pending t = ⊥
+WritesAtOnce s piece (Ready answer) t = WritesAll s t piece answer

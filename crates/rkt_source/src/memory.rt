@@ -155,9 +155,11 @@ impl MemorySink {
 }
 
 impl Sink for MemorySink {
-    ghost use Rattle.rkt_source.specs.Memory.{sink_meaning};
+    ghost use Rattle.rkt_source.specs.Memory.{WritesAtOnce, sink_meaning};
 
     ghost meaning = { sink_meaning };
+
+    ghost written = { λ s piece answer t. WritesAtOnce s piece answer t };
 
     fn poll_write(&mut self, buf: &[u8]) -> Poll<Result<usize, SinkError>> {
         Poll::Ready(self.write(buf))

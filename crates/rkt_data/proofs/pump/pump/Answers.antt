@@ -2,24 +2,29 @@ use Rattle.std.proofs.Common.{◌≡◌, ◌+◌, ◌-◌, Ok, Err, [], take, dr
 use Rattle.rkt_base.specs.declared.poll.Poll.TheVariants.{Ready, Pending}
 use Rattle.rkt_data.specs.Sending.{between}
 use Rattle.rkt_data.proofs.Drains.{Gained-none, Gained-read}
-use Rattle.rkt_data.proofs.Sends.{Pumps-start, Pumps-sent, Pumps-read, between-none, between-front}
-use Rattle.rkt_data.proofs.Taps.{ByGate-caused, ByGate-once, ByGate-refl, ByGate-sunk, ByGate-trans}
+use Rattle.rkt_data.proofs.Sends.{CallsAs-sink, CallsAs-source, Pumps-start, Pumps-sent, Pumps-read, between-none, between-front}
+use Rattle.rkt_data.proofs.Taps.{ByGate-once}
 use Rattle.rkt_data.proofs.pump.pump.Goals as goal
 
 pub loop-e-init : goal.loop-e-init
-loop-e-init g c = (Pumps-start g.S.Source.meaning g.K.Sink.meaning c.args.gate c.args.pipe.now c.args.sink.now _ c.requires.not_probed c.requires.bound, c.requires.order, c.requires.room, c.requires.some, refl, ByGate-refl g.S.Source.polled c.args.gate c.args.pipe.now.opened.tap)
+loop-e-init g c = (Pumps-start g.S.Source.meaning g.S.Source.polled g.K.Sink.meaning g.K.Sink.written c.args.gate c.args.pipe.now c.args.sink.now _ c.requires.not_probed c.requires.bound, c.requires.order, c.requires.room, c.requires.some, refl)
 
 pub shape_of-buf-in-Waiting : goal.shape_of-buf-in-Waiting
 shape_of-buf-in-Waiting g c = c.loop-e.invariant.4
 
 pub returns-in-Waiting-clause-pumps : goal.returns-in-Waiting-clause-pumps
-returns-in-Waiting-clause-pumps g c = Pumps-sent c.loop-e.from c.loop-e.to c.send-n.result.0 c.loop-e.buf c.loop-e.invariant.0 (omega (arith, c.send-n.ensures.within, c.loop-e.invariant.1, length-take (c.loop-e.to - c.loop-e.from) (drop c.loop-e.from c.loop-e.buf))) c.send-n.ensures.keeps c.send-n.ensures.gains
+returns-in-Waiting-clause-pumps g c =
+    let feeds = rw c.in-Waiting.is at c.send-n.ensures.feeds in
+    Pumps-sent Pending Pending c.loop-e.from c.loop-e.to c.send-n.result.0 c.loop-e.buf c.loop-e.invariant.0 (omega (arith, c.send-n.ensures.within, c.loop-e.invariant.1, length-take (c.loop-e.to - c.loop-e.from) (drop c.loop-e.from c.loop-e.buf))) c.send-n.ensures.keeps c.send-n.ensures.gains feeds (λ b m. inr m)
 
 pub shape_of-buf-in-Failed : goal.shape_of-buf-in-Failed
 shape_of-buf-in-Failed g c = c.loop-e.invariant.4
 
 pub returns-in-Failed-clause-pumps : goal.returns-in-Failed-clause-pumps
-returns-in-Failed-clause-pumps g c = Pumps-sent c.loop-e.from c.loop-e.to c.send-n.result.0 c.loop-e.buf c.loop-e.invariant.0 (omega (arith, c.send-n.ensures.within, c.loop-e.invariant.1, length-take (c.loop-e.to - c.loop-e.from) (drop c.loop-e.from c.loop-e.buf))) c.send-n.ensures.keeps c.send-n.ensures.gains
+returns-in-Failed-clause-pumps g c =
+    let feeds = rw c.in-Failed.is at c.send-n.ensures.feeds in
+    Pumps-sent (Ready (Err c.in-Failed.e)) (Ready (Err c.sink_error.result)) c.loop-e.from c.loop-e.to c.send-n.result.0 c.loop-e.buf c.loop-e.invariant.0 (omega (arith, c.send-n.ensures.within, c.loop-e.invariant.1, length-take (c.loop-e.to - c.loop-e.from) (drop c.loop-e.from c.loop-e.buf))) c.send-n.ensures.keeps c.send-n.ensures.gains feeds
+    (λ b m. CallsAs-sink g.S.Source.polled g.K.Sink.written c.args.gate c.in-Failed.e c.sink_error.result _ _ _ _ b c.sink_error.ensures m)
 
 pub shape_of-buf-in-Ready-Ok-eq0 : goal.shape_of-buf-in-Ready-Ok-eq0
 shape_of-buf-in-Ready-Ok-eq0 g c = omega (arith, c.read.auto.buf, c.loop-e.invariant.4)
@@ -33,55 +38,44 @@ shape_of-buf-in-Pending g c = omega (arith, c.read.auto.buf, c.loop-e.invariant.
 pub returns-in-Ready-Ok-eq0-clause-pumps : goal.returns-in-Ready-Ok-eq0-clause-pumps
 returns-in-Ready-Ok-eq0-clause-pumps g c =
     let a = rw c.in-Ready-Ok-eq0.field-0-is at c.in-Ready-Ok-eq0.ensures.answer in
+    let asks = rw c.in-Ready-Ok-eq0.field-0-is at c.in-Ready-Ok-eq0.ensures.by_gate in
     let all = rw c.in-All.is at c.send-n.ensures.stops in
+    let feeds = rw c.in-All.is at c.send-n.ensures.feeds in
     let none : between (c.loop-e.from + c.send-n.result.0) c.loop-e.to c.loop-e.buf ≡ [] = between-none (c.loop-e.from + c.send-n.result.0) c.loop-e.to c.loop-e.buf (omega (arith, all, c.loop-e.invariant.1, c.loop-e.invariant.2, length-take (c.loop-e.to - c.loop-e.from) (drop c.loop-e.from c.loop-e.buf), length-drop c.loop-e.from c.loop-e.buf)) in
-    Pumps-read [] (Pumps-sent c.loop-e.from c.loop-e.to c.send-n.result.0 c.loop-e.buf c.loop-e.invariant.0 (omega (arith, c.send-n.ensures.within, c.loop-e.invariant.1, length-take (c.loop-e.to - c.loop-e.from) (drop c.loop-e.from c.loop-e.buf))) c.send-n.ensures.keeps c.send-n.ensures.gains) none refl c.read.ensures.follows c.read.ensures.bound c.read.ensures.probed (Gained-none (omega (arith, a.1, c.in-Ready-Ok-eq0.field-0-0-is)))
+    Pumps-read (Ready (Ok tt)) (Ready (Ok tt)) [] (Pumps-sent (Ready (Ok tt)) (Ready (Ok tt)) c.loop-e.from c.loop-e.to c.send-n.result.0 c.loop-e.buf c.loop-e.invariant.0 (omega (arith, c.send-n.ensures.within, c.loop-e.invariant.1, length-take (c.loop-e.to - c.loop-e.from) (drop c.loop-e.from c.loop-e.buf))) c.send-n.ensures.keeps c.send-n.ensures.gains feeds (λ b m. m)) none refl c.read.ensures.follows c.read.ensures.bound c.read.ensures.probed (Gained-none (omega (arith, a.1, c.in-Ready-Ok-eq0.field-0-0-is)))
+    (ByGate-once g.S.Source.polled c.args.gate (Ready (Ok c.in-Ready-Ok-eq0.field-0-0)) c.loop-e.pipe.opened.tap c.read.new.self.opened.tap asks) (λ b m. m)
 
 pub returns-in-Ready-Err-clause-pumps : goal.returns-in-Ready-Err-clause-pumps
 returns-in-Ready-Err-clause-pumps g c =
     let a = rw c.in-Ready-Err.field-0-is at c.in-Ready-Err.ensures.answer in
+    let asks = rw c.in-Ready-Err.field-0-is at c.in-Ready-Err.ensures.by_gate in
     let all = rw c.in-All.is at c.send-n.ensures.stops in
+    let feeds = rw c.in-All.is at c.send-n.ensures.feeds in
     let none : between (c.loop-e.from + c.send-n.result.0) c.loop-e.to c.loop-e.buf ≡ [] = between-none (c.loop-e.from + c.send-n.result.0) c.loop-e.to c.loop-e.buf (omega (arith, all, c.loop-e.invariant.1, c.loop-e.invariant.2, length-take (c.loop-e.to - c.loop-e.from) (drop c.loop-e.from c.loop-e.buf), length-drop c.loop-e.from c.loop-e.buf)) in
-    Pumps-read [] (Pumps-sent c.loop-e.from c.loop-e.to c.send-n.result.0 c.loop-e.buf c.loop-e.invariant.0 (omega (arith, c.send-n.ensures.within, c.loop-e.invariant.1, length-take (c.loop-e.to - c.loop-e.from) (drop c.loop-e.from c.loop-e.buf))) c.send-n.ensures.keeps c.send-n.ensures.gains) none refl c.read.ensures.follows c.read.ensures.bound c.read.ensures.probed (Gained-none (a.0))
+    Pumps-read (Ready (Err c.in-Ready-Err.e)) (Ready (Err c.error_of.result)) [] (Pumps-sent (Ready (Ok tt)) (Ready (Ok tt)) c.loop-e.from c.loop-e.to c.send-n.result.0 c.loop-e.buf c.loop-e.invariant.0 (omega (arith, c.send-n.ensures.within, c.loop-e.invariant.1, length-take (c.loop-e.to - c.loop-e.from) (drop c.loop-e.from c.loop-e.buf))) c.send-n.ensures.keeps c.send-n.ensures.gains feeds (λ b m. m)) none refl c.read.ensures.follows c.read.ensures.bound c.read.ensures.probed (Gained-none (a.0))
+    (ByGate-once g.S.Source.polled c.args.gate (Ready (Err c.in-Ready-Err.e)) c.loop-e.pipe.opened.tap c.read.new.self.opened.tap asks)
+    (λ b m. CallsAs-source g.S.Source.polled g.K.Sink.written c.args.gate c.in-Ready-Err.e c.error_of.result _ _ _ _ b c.error_of.ensures m)
 
 pub returns-in-Pending-clause-pumps : goal.returns-in-Pending-clause-pumps
 returns-in-Pending-clause-pumps g c =
     let all = rw c.in-All.is at c.send-n.ensures.stops in
+    let feeds = rw c.in-All.is at c.send-n.ensures.feeds in
     let none : between (c.loop-e.from + c.send-n.result.0) c.loop-e.to c.loop-e.buf ≡ [] = between-none (c.loop-e.from + c.send-n.result.0) c.loop-e.to c.loop-e.buf (omega (arith, all, c.loop-e.invariant.1, c.loop-e.invariant.2, length-take (c.loop-e.to - c.loop-e.from) (drop c.loop-e.from c.loop-e.buf), length-drop c.loop-e.from c.loop-e.buf)) in
-    Pumps-read [] (Pumps-sent c.loop-e.from c.loop-e.to c.send-n.result.0 c.loop-e.buf c.loop-e.invariant.0 (omega (arith, c.send-n.ensures.within, c.loop-e.invariant.1, length-take (c.loop-e.to - c.loop-e.from) (drop c.loop-e.from c.loop-e.buf))) c.send-n.ensures.keeps c.send-n.ensures.gains) none refl c.read.ensures.follows c.read.ensures.bound c.read.ensures.probed (Gained-none (c.in-Pending.ensures.answer.0))
+    Pumps-read Pending Pending [] (Pumps-sent (Ready (Ok tt)) (Ready (Ok tt)) c.loop-e.from c.loop-e.to c.send-n.result.0 c.loop-e.buf c.loop-e.invariant.0 (omega (arith, c.send-n.ensures.within, c.loop-e.invariant.1, length-take (c.loop-e.to - c.loop-e.from) (drop c.loop-e.from c.loop-e.buf))) c.send-n.ensures.keeps c.send-n.ensures.gains feeds (λ b m. m)) none refl c.read.ensures.follows c.read.ensures.bound c.read.ensures.probed (Gained-none (c.in-Pending.ensures.answer.0))
+    (ByGate-once g.S.Source.polled c.args.gate Pending c.loop-e.pipe.opened.tap c.read.new.self.opened.tap c.in-Pending.ensures.by_gate) (λ b m. inl m)
 
 pub loop-e-preserved : goal.loop-e-preserved
 loop-e-preserved g c =
     let a = rw c.in-Ready-Ok.field-0-is at c.in-Ready-Ok.ensures.answer in
     let asks = rw c.in-Ready-Ok.field-0-is at c.in-Ready-Ok.ensures.by_gate in
     let all = rw c.in-All.is at c.send-n.ensures.stops in
+    let feeds = rw c.in-All.is at c.send-n.ensures.feeds in
     let none : between (c.loop-e.from + c.send-n.result.0) c.loop-e.to c.loop-e.buf ≡ [] = between-none (c.loop-e.from + c.send-n.result.0) c.loop-e.to c.loop-e.buf (omega (arith, all, c.loop-e.invariant.1, c.loop-e.invariant.2, length-take (c.loop-e.to - c.loop-e.from) (drop c.loop-e.from c.loop-e.buf), length-drop c.loop-e.from c.loop-e.buf)) in (
-      Pumps-read (take c.in-Ready-Ok.k c.read.new.buf) (Pumps-sent c.loop-e.from c.loop-e.to c.send-n.result.0 c.loop-e.buf c.loop-e.invariant.0 (omega (arith, c.send-n.ensures.within, c.loop-e.invariant.1, length-take (c.loop-e.to - c.loop-e.from) (drop c.loop-e.from c.loop-e.buf))) c.send-n.ensures.keeps c.send-n.ensures.gains) none (between-front c.in-Ready-Ok.k c.read.new.buf) c.read.ensures.follows c.read.ensures.bound c.read.ensures.probed
-          (Gained-read c.in-Ready-Ok.k c.read.new.buf (omega (arith, a.0, c.read.auto.buf)) a.1 (λ b t. (a.2 b t).0)),
+      Pumps-read (Ready (Ok tt)) (Ready (Ok tt)) (take c.in-Ready-Ok.k c.read.new.buf) (Pumps-sent (Ready (Ok tt)) (Ready (Ok tt)) c.loop-e.from c.loop-e.to c.send-n.result.0 c.loop-e.buf c.loop-e.invariant.0 (omega (arith, c.send-n.ensures.within, c.loop-e.invariant.1, length-take (c.loop-e.to - c.loop-e.from) (drop c.loop-e.from c.loop-e.buf))) c.send-n.ensures.keeps c.send-n.ensures.gains feeds (λ b m. m)) none (between-front c.in-Ready-Ok.k c.read.new.buf) c.read.ensures.follows c.read.ensures.bound c.read.ensures.probed
+          (Gained-read c.in-Ready-Ok.k c.read.new.buf (omega (arith, a.0, c.read.auto.buf)) a.1 (λ b t. (a.2 b t).0))
+          (ByGate-once g.S.Source.polled c.args.gate (Ready (Ok c.in-Ready-Ok.k)) c.loop-e.pipe.opened.tap c.read.new.self.opened.tap asks) (λ b m. m),
       omega arith,
       omega (arith, a.0, c.read.auto.buf),
       omega (arith, c.read.auto.buf, c.loop-e.invariant.3),
       omega (arith, c.read.auto.buf, c.loop-e.invariant.4),
-      ByGate-trans g.S.Source.polled c.args.gate (Ready (Ok tt)) c.args.pipe.now.opened.tap c.loop-e.pipe.opened.tap c.read.new.self.opened.tap c.loop-e.invariant.5 (ByGate-once g.S.Source.polled c.args.gate (Ready (Ok c.in-Ready-Ok.k)) c.loop-e.pipe.opened.tap c.read.new.self.opened.tap asks),
     )
-
-pub returns-in-Waiting-clause-by_gate : goal.returns-in-Waiting-clause-by_gate
-returns-in-Waiting-clause-by_gate g c = inr c.loop-e.invariant.5
-
-pub returns-in-Failed-clause-by_gate : goal.returns-in-Failed-clause-by_gate
-returns-in-Failed-clause-by_gate g c = ByGate-sunk g.S.Source.polled c.args.gate c.in-Failed.e c.sink_error.result _ _ c.sink_error.ensures c.loop-e.invariant.5
-
-pub returns-in-Ready-Ok-eq0-clause-by_gate : goal.returns-in-Ready-Ok-eq0-clause-by_gate
-returns-in-Ready-Ok-eq0-clause-by_gate g c =
-    let asks = rw c.in-Ready-Ok-eq0.field-0-is at c.in-Ready-Ok-eq0.ensures.by_gate in
-    ByGate-trans g.S.Source.polled c.args.gate (Ready (Ok tt)) _ c.loop-e.pipe.opened.tap _ c.loop-e.invariant.5 (ByGate-once g.S.Source.polled c.args.gate (Ready (Ok c.in-Ready-Ok-eq0.field-0-0)) c.loop-e.pipe.opened.tap c.read.new.self.opened.tap asks)
-
-pub returns-in-Ready-Err-clause-by_gate : goal.returns-in-Ready-Err-clause-by_gate
-returns-in-Ready-Err-clause-by_gate g c =
-    let asks = rw c.in-Ready-Err.field-0-is at c.in-Ready-Err.ensures.by_gate in
-    ByGate-caused g.S.Source.polled c.args.gate c.in-Ready-Err.e c.error_of.result _ _ c.error_of.ensures
-    (ByGate-trans g.S.Source.polled c.args.gate (Ready (Err c.in-Ready-Err.e)) _ c.loop-e.pipe.opened.tap _ c.loop-e.invariant.5 (ByGate-once g.S.Source.polled c.args.gate (Ready (Err c.in-Ready-Err.e)) c.loop-e.pipe.opened.tap c.read.new.self.opened.tap asks))
-
-pub returns-in-Pending-clause-by_gate : goal.returns-in-Pending-clause-by_gate
-returns-in-Pending-clause-by_gate g c =
-    inl (ByGate-trans g.S.Source.polled c.args.gate Pending _ c.loop-e.pipe.opened.tap _ c.loop-e.invariant.5 (ByGate-once g.S.Source.polled c.args.gate Pending c.loop-e.pipe.opened.tap c.read.new.self.opened.tap c.in-Pending.ensures.by_gate))

@@ -1,14 +1,24 @@
-use Rattle.std.proofs.Common.{◌≡◌, ◌∙◌, length, take, ap, arith}
+use Rattle.std.proofs.Common.{◌≡◌, ◌∙◌, length, take, ap, arith, sym}
 use Rattle.std.proofs.lemmas.List.{with_items_is}
 use Rattle.rkt_source.specs.Buffer.{items_of}
 use Rattle.rkt_data.specs.Sending.{between}
 use Rattle.rkt_data.proofs.Drains.{Follows-refl}
-use Rattle.rkt_data.proofs.Sends.{SentOf-pumped, SinkKeeps-refl, HasRoom-resumed, between-same}
-use Rattle.rkt_data.proofs.Taps.{ByGate-refl}
+use Rattle.rkt_data.proofs.Sends.{SendsNext-none, SendsNext-pumped, SentOf-pumped, SinkKeeps-refl, HasRoom-resumed, between-same}
 use Rattle.rkt_data.proofs.sender.Sender.run.Goals as goal
 
-pub returns-in-Err-clause-by_gate : goal.returns-in-Err-clause-by_gate
-returns-in-Err-clause-by_gate g c = rw (← c.self.view_is) (ByGate-refl g.S.Source.polled c.args.gate c.self.inside.pipe.opened.tap)
+pub returns-in-Err-clause-calls : goal.returns-in-Err-clause-calls
+returns-in-Err-clause-calls g c =
+    let same : c.resume.new.buf ≡ c.self.inside.buf = c.resume.ensures.taken ∙ sym c.in-Err.ensures.err in
+    rw (← c.self.view_is, same) (SendsNext-none g.S.Source.meaning g.S.Source.polled g.K.Sink.written c.args.gate c.self.inside.pipe.opened c.self.inside.sink _)
+
+pub returns-clause-calls : goal.returns-clause-calls
+returns-clause-calls g c =
+    let same : length c.pump-at.new.buf ≡ c.in-Ok.buf.len = omega (arith, c.pump-at.auto.buf, c.as_mut_slice.ensures.len) in
+    let old : between c.self.inside.at c.self.inside.end c.as_mut_slice.result.now ≡ between c.self.inside.at c.self.inside.end (items_of c.self.inside.buf) =
+    between-same c.self.inside.at c.self.inside.end c.as_mut_slice.result.now (items_of c.self.inside.buf) c.self.invariant.1 (ap (take c.self.inside.end) c.as_mut_slice.ensures.value ∙ c.in-Ok.ensures.ok c.self.inside.end c.self.invariant.2) in
+    let pumps = rw old at c.pump-at.ensures.pumps in
+    rw (← c.self.view_is, with_items_is c.in-Ok.buf c.pump-at.new.buf same)
+    (SendsNext-pumped g.S.Source.meaning g.S.Source.polled g.K.Sink.meaning g.K.Sink.written c.args.gate _ c.self.inside.pipe c.pump-at.new.pipe c.self.inside.sink c.pump-at.new.sink c.self.inside.begun.value c.self.inside.from _ _ c.self.invariant.0 pumps)
 
 pub invariant_of-self-2 : goal.invariant_of-self-2
 invariant_of-self-2 g c =
@@ -18,7 +28,7 @@ invariant_of-self-2 g c =
     let pumps = rw old at c.pump-at.ensures.pumps in
     let some = HasRoom-resumed c.self.inside.buf c.in-Ok.buf c.self.invariant.3 c.in-Ok.ensures.some in
     rw (with_items_is c.in-Ok.buf c.pump-at.new.buf same) (
-      SentOf-pumped g.S.Source.meaning g.K.Sink.meaning c.args.gate c.self.inside.pipe c.pump-at.new.pipe c.self.inside.sink c.pump-at.new.sink c.self.inside.begun.value c.self.inside.from _ _ c.self.invariant.0 pumps,
+      SentOf-pumped g.S.Source.meaning g.S.Source.polled g.K.Sink.meaning g.K.Sink.written c.args.gate _ c.self.inside.pipe c.pump-at.new.pipe c.self.inside.sink c.pump-at.new.sink c.self.inside.begun.value c.self.inside.from _ _ c.self.invariant.0 pumps,
       c.pump-at.ensures.order,
       c.pump-at.ensures.room,
       omega (arith, some, same),
