@@ -1,5 +1,5 @@
 -- A jar's originals, kept by name in a map, as a list of cookies.
-use Rattle.std.proofs.Common.{◌≡◌, ℕ, cond, List, [], ◌∷◌, ◌++◌, Some, String, string_bytes, map, fold, refl, sym, ap, ◌∙◌, subst, append_assoc, append-nil}
+use Rattle.std.proofs.Common.{◌≡◌, ℕ, Bool, true, false, cond, List, [], ◌∷◌, ◌++◌, Option, Some, String, string_bytes, map, fold, refl, sym, ap, ◌∙◌, subst, append_assoc, append-nil}
 use Rattle.std.specs.declared.cmp.Ordering.{Ordering}
 use Rattle.std.specs.declared.cmp.Ordering.TheVariants.{Less, Equal, Greater}
 use Rattle.std.specs.Global.{Global}
@@ -99,3 +99,37 @@ put_in_order front [] h = sym (append-nil front)
 put_in_order front (c ∷ cs) h =
     ap (λ cookies. fold with_cookie cookies cs) (with_last front c cs h)
     ∙ (put_in_order (front ++ c ∷ []) cs (subst NamesAscend (sym (append_assoc front (c ∷ []) cs)) h) ∙ append_assoc front (c ∷ []) cs)
+
+-- ---- the cookie of a name, once another one is put in
+
+same_test : (p q : Bool) (a b rest : Option Parts) → p ≡ q → cond p a rest ≡ cond p a (cond q b rest)
+same_test true q a b rest e = refl
+same_test false true a b rest e = absurd (cc e)
+same_test false false a b rest e = refl
+
+swapped : (p q : Bool) (a b rest : Option Parts) → (p ≡ true → q ≡ true → ⊥) → cond q b (cond p a rest) ≡ cond p a (cond q b rest)
+swapped true true a b rest apart = absurd (apart refl refl)
+swapped true false a b rest apart = refl
+swapped false true a b rest apart = refl
+swapped false false a b rest apart = refl
+
+unequal_names : (name a b : List ℕ) → slice_cmp nat_cmp a b ≡ Greater → bytes_eq name a ≡ true → bytes_eq name b ≡ true → ⊥
+unequal_names name a b order one other =
+    let same : a ≡ b = sym ((bytes_eq-Decides name a).0 one) ∙ (bytes_eq-Decides name b).0 other in
+    let equal : is_eq Greater ≡ true = sym (ap is_eq order) ∙ is_eq-slice_cmp a b ∙ (bytes_eq-Decides a b).1 same in
+    absurd (cc equal)
+
+found_at : (name : List ℕ) (cookie other : Parts) (others : List Parts) (order : Ordering) → slice_cmp nat_cmp cookie.name other.name ≡ order
+    → cookie_of name (with_cookie others cookie) ≡ cond (is_named name cookie) (Some cookie) (cookie_of name others)
+    → cookie_of name (match_ordering order (cookie ∷ other ∷ others) (cookie ∷ others) (other ∷ with_cookie others cookie)) ≡ cond (is_named name cookie) (Some cookie) (cookie_of name (other ∷ others))
+found_at name cookie other others Less is behind = refl
+found_at name cookie other others Equal is behind =
+    same_test (is_named name cookie) (is_named name other) (Some cookie) (Some other) (cookie_of name others) (ap (bytes_eq name) (same_bytes cookie.name other.name is))
+found_at name cookie other others Greater is behind =
+    ap (λ rest. cond (is_named name other) (Some other) rest) behind
+    ∙ swapped (is_named name cookie) (is_named name other) (Some cookie) (Some other) (cookie_of name others) (unequal_names name cookie.name other.name is)
+
+-- it is the one that was put in under its own name, and else the one that it was
+pub found_with : (name : List ℕ) (cookies : List Parts) (cookie : Parts) → cookie_of name (with_cookie cookies cookie) ≡ cond (is_named name cookie) (Some cookie) (cookie_of name cookies)
+found_with name [] cookie = refl
+found_with name (other ∷ others) cookie = found_at name cookie other others (slice_cmp nat_cmp cookie.name other.name) refl (found_with name others cookie)

@@ -3,6 +3,7 @@ pub mod EncodeLemmas
 pub mod EscapeLemmas
 pub mod JarDelta
 pub mod JarLemmas
+pub mod LastSaid
 pub mod OneReading
 pub mod ParseLemmas
 pub mod PrintedLemmas

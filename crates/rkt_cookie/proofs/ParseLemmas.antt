@@ -7,9 +7,8 @@ use Rattle.std.specs.Str.{str_eq_ignore_ascii_case}
 use Rattle.std.specs.Str.Parse.{ParsesUnsigned, digits_value}
 use Rattle.std.proofs.lemmas.Bool.{cond-true, cond-false, and_from, and_parts, lt-ltb, ltb-true, false_from_ne_true, both_ways}
 use Rattle.std.proofs.lemmas.Str.Parse.{IsNumeralModel, IsDigitsTest, numerals_by_value, parse_digits}
-use Rattle.std.proofs.lemmas.Option.{same_Some}
-use Rattle.rkt_cookie.specs.Cookie.{Parts, bare}
-use Rattle.rkt_cookie.specs.Reading.{is_number, seconds_of, valued, attribute_by, with_piece, later_pieces, Reads}
+use Rattle.rkt_cookie.specs.Cookie.{Parts}
+use Rattle.rkt_cookie.specs.Reading.{is_number, seconds_of, valued, attribute_by, with_piece}
 
 goes_on : (first : Bool) (place len : ℕ) (rest : Bool) → cond (not first) (1 + place) 0 ≡ suc len → (place ≡ len → rest ≡ false) → (first || rest) ≡ false
 goes_on true place len rest e h = absurd (omega arith)
@@ -61,11 +60,3 @@ attribute_by_valued name value a b = cond-false _ _ _ a ∙ cond-false _ _ _ b
 pub fold_more : (cookie : Parts) (pieces : List (List ℕ)) (piece : List ℕ) → fold with_piece cookie (pieces ++ piece ∷ []) ≡ with_piece (fold with_piece cookie pieces) piece
 fold_more cookie [] piece = refl
 fold_more cookie (p ∷ ps) piece = fold_more (with_piece cookie p) ps piece
-
--- a text is read as one cookie at most
-pub Reads_unique : (text : List ℕ) (a b : Parts) → Reads text a → Reads text b → a ≡ b
-Reads_unique text a b h k =
-    let name = h.pair.name_read ∙ sym k.pair.name_read in
-    let value = same_Some _ _ (sym h.pair.value_read ∙ k.pair.value_read) in
-    h.attributes ∙ ap (λ n. fold with_piece (bare n h.value) (later_pieces text)) name
-    ∙ ap (λ v. fold with_piece (bare k.name v) (later_pieces text)) value ∙ sym k.attributes

@@ -23,6 +23,7 @@ use Rattle.rkt_cookie.specs.Encoded.{appended, escaped, encoded_text}
 use Rattle.rkt_cookie.specs.Reading.{IsPair, Reads, attribute_of, first_piece, later_pieces, is_semicolon, is_equals, name_in, value_in, with_any, with_piece}
 use Rattle.rkt_cookie.specs.ReadBack.{IsPrintable, flag_back, read_back}
 use Rattle.rkt_cookie.proofs.EscapeLemmas.{IsEscapedByte, All-escaped, escaped_nonempty}
+use Rattle.rkt_cookie.proofs.LastSaid.{last_said_is}
 use Rattle.rkt_cookie.proofs.PrintedLemmas.{IsReadable, attribute_read, no_semicolon}
 use Rattle.rkt_cookie.proofs.TrimLemmas.{IsGraphic, trim_graphic}
 
@@ -234,5 +235,5 @@ read_again c h name value small =
       name = c.name;
       value = c.value;
       pair = rw pieces.0 (pair_read c h.named name value);
-      attributes = sym (pieces.1 ∙ attributes_set c);
+      attributes = sym (pieces.1 ∙ attributes_set c) ∙ last_said_is c.name c.value (later_pieces (printed_pair c ++ flat_map appended (attributes_of c)));
     })

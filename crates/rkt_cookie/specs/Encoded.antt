@@ -6,9 +6,16 @@ use Rattle.rkt_cookie.specs.declared.attribute.Attribute.{Attribute}
 use Rattle.rkt_cookie.specs.Attribute.{attribute_text, attributes_of}
 use Rattle.rkt_cookie.specs.Cookie.{Parts}
 
+-- the graphic bytes of ASCII, from `!` to `~`
+abbrev pub first_graphic : ℕ
+first_graphic = 33
+
+abbrev pub last_graphic : ℕ
+last_graphic = 126
+
 -- a byte that name and value have escaped: any but the graphic ones of ASCII, and some of these
 abbrev pub is_escaped : ℕ → Bool
-is_escaped b = nat_lt b 33 || nat_lt 126 b || list_any (λ c. c == b) (codes "\"<>#?{}/:;=@[\\]^|%(),`")
+is_escaped b = nat_lt b first_graphic || nat_lt last_graphic b || list_any (λ c. c == b) (codes "\"<>#?{}/:;=@[\\]^|%(),`")
 
 -- a name or a value, each such byte as `%` and two hexadecimal digits
 abbrev pub escaped : List ℕ → List ℕ

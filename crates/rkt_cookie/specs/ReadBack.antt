@@ -5,10 +5,11 @@ use Rattle.std.specs.Str.{trim}
 use Rattle.rkt_cookie.specs.Attribute.{shown_secure}
 use Rattle.rkt_cookie.specs.Cookie.{Parts}
 use Rattle.rkt_cookie.specs.Date.{dated}
+use Rattle.rkt_cookie.specs.Reading.{semicolon}
 
 -- a path or a domain that stays as it is between semicolons: with none of its own, and no white space at its ends
 abbrev pub IsPlain : List ℕ → Type 0
-IsPlain value = All (λ b. b ≢ 59) value × (trim value ≡ value)
+IsPlain value = All (λ b. b ≢ semicolon) value × (trim value ≡ value)
 
 -- a cookie that is read again from its text
 pub record IsPrintable (cookie : Parts) : Type 0 where

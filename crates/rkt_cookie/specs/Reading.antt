@@ -1,6 +1,6 @@
 -- How a cookie's text is read (RFC 6265, section 5.2), with name and value unescaped.
-use Rattle.std.specs.Prelude.{ℕ, ◌≡◌, ◌≢◌, ◌⊎◌, ◌^◌, List, [], Bool, ◌==◌, ◌&&◌, nat_lt, length, codes, Option, Some, None, option_map, fold, IsUtf8, if◌then◌else◌}
-use Rattle.std.specs.List.{list_any, list_all, before_first, after_first, slice_split}
+use Rattle.std.specs.Prelude.{ℕ, ◌≡◌, ◌≢◌, ◌⊎◌, ◌^◌, List, [], Bool, ◌==◌, ◌&&◌, nat_lt, length, codes, Option, Some, None, option_map, true, IsUtf8, if◌then◌else◌}
+use Rattle.std.specs.List.{list_any, list_all, before_first, after_first, filter_map, last_or, slice_split}
 use Rattle.std.specs.Char.{is_ascii_digit}
 use Rattle.std.specs.Str.{trim, str_eq_ignore_ascii_case}
 use Rattle.std.specs.Str.Parse.{digits_value}
@@ -11,13 +11,19 @@ use Rattle.rkt_cookie.specs.declared.same_site.SameSite.TheVariants as site
 use Rattle.rkt_cookie.specs.declared.attribute.Attribute.{Attribute}
 use Rattle.rkt_cookie.specs.declared.attribute.Attribute.TheVariants as attribute
 use Rattle.rkt_cookie.specs.Attribute.{with_attribute}
-use Rattle.rkt_cookie.specs.Cookie.{Parts, bare}
+use Rattle.rkt_cookie.specs.Cookie.{Parts}
+
+abbrev pub semicolon : ℕ
+semicolon = 59
+
+abbrev pub equals_sign : ℕ
+equals_sign = 61
 
 abbrev pub is_semicolon : ℕ → Bool
-is_semicolon b = b == 59
+is_semicolon b = b == semicolon
 
 abbrev pub is_equals : ℕ → Bool
-is_equals b = b == 61
+is_equals b = b == equals_sign
 
 -- what stands before the first semicolon
 abbrev pub first_piece : List ℕ → List ℕ
@@ -101,9 +107,57 @@ with_any cookie None = cookie
 abbrev pub with_piece : Parts → List ℕ → Parts
 with_piece cookie piece = with_any cookie (attribute_of piece)
 
--- a text that is read as this cookie: a name and a value, and then one attribute after another, the last of a kind
+-- what an attribute says, where it is of this kind
+abbrev pub http_only_in : Attribute → Option Bool
+http_only_in attribute.HttpOnly = Some true
+http_only_in _ = None
+
+abbrev pub same_site_in : Attribute → Option SameSite
+same_site_in (attribute.SameSite site) = Some site
+same_site_in _ = None
+
+abbrev pub secure_in : Attribute → Option Bool
+secure_in attribute.Secure = Some true
+secure_in _ = None
+
+abbrev pub path_in : Attribute → Option (List ℕ)
+path_in (attribute.Path path) = Some path
+path_in _ = None
+
+abbrev pub domain_in : Attribute → Option (List ℕ)
+domain_in (attribute.Domain domain) = Some domain
+domain_in _ = None
+
+abbrev pub max_age_in : Attribute → Option ℕ
+max_age_in (attribute.MaxAge seconds) = Some seconds
+max_age_in _ = None
+
+abbrev pub expires_in : Attribute → Option ℕ
+expires_in (attribute.Expires moment) = Some moment
+expires_in _ = None
+
+-- the last that is said of a kind, if any is
+abbrev pub last_said : {A : Type 0} → (Attribute → Option A) → List Attribute → Option A
+last_said kind attributes = last_or None (filter_map kind attributes)
+
+-- the cookie of this name and value that has of each kind what is said last
+abbrev pub with_last_said : List ℕ → List ℕ → List Attribute → Parts
+with_last_said name value attributes =
+    record {
+      name = name;
+      value = value;
+      http_only = last_said http_only_in attributes;
+      same_site = last_said same_site_in attributes;
+      secure = last_said secure_in attributes;
+      path = last_said path_in attributes;
+      domain = last_said domain_in attributes;
+      max_age = last_said max_age_in attributes;
+      expires = last_said expires_in attributes;
+    }
+
+-- a text that is read as this cookie: a name and a value, and then attributes, of each kind the last one. A piece that says none is passed over
 pub record Reads (text : List ℕ) (cookie : Parts) : Type 0 where
   pub name : List ℕ
   pub value : List ℕ
   pub pair : IsPair (first_piece text) name value
-  pub attributes : cookie ≡ fold with_piece (bare name value) (later_pieces text)
+  pub attributes : cookie ≡ with_last_said name value (filter_map attribute_of (later_pieces text))

@@ -1,8 +1,8 @@
-ghost use Rattle.std.specs.Prelude.{◌≡◌, ◌++◌, ◌∷◌, [], IfOk, OnOk, OnErr, length, option_to_list};
+ghost use Rattle.std.specs.Prelude.{◌≡◌, ◌++◌, ◌∷◌, [], if◌then◌else◌, List, ℕ, Some, IfOk, OnOk, OnErr, length, option_to_list};
 ghost use Rattle.std.specs.Option.{option_copied};
 ghost use Rattle.std.specs.Iterator.{YieldsFirstRef, item_count};
 ghost use Rattle.rkt_cookie.specs.JarEntries.{IsByName, cookies_in};
-ghost use Rattle.rkt_cookie.specs.Jar.{NamesAscend, addition, cookie_of, delta, last_change, left_by, pending_changes, removal_of, sent, with_cookie, with_defaults};
+ghost use Rattle.rkt_cookie.specs.Jar.{NamesAscend, addition, cookie_of, delta, is_named, last_change, left_by, pending_changes, removal_of, sent, with_cookie, with_defaults};
 
 use crate::change::Change;
 use crate::cookie::Cookie;
@@ -200,6 +200,8 @@ impl CookieJar {
 
     /// Keeps a cookie that came with the request, in place of an earlier one of its name.
     pub fn add_original(&mut self, cookie: Cookie) -> Result<(), NoMemory>
+        // It is found under its name, and under any other name what was found before.
+        ensures found { OnOk result ((name : List ℕ) → cookie_of name self.new.originals ≡ (if is_named name cookie then Some cookie else cookie_of name self.old.originals)) }
         ensures ok { OnOk result (self.new ≡ record self.old { originals = with_cookie self.old.originals cookie }) }
         ensures err { OnErr result (self.new ≡ self.old) }
     {
