@@ -11,8 +11,8 @@ use Rattle.rkt_source.specs.declared.sink.SinkError.TheVariants as sink_error
 use Rattle.rkt_source.specs.declared.source.Gate.{Gate}
 use Rattle.rkt_source.specs.declared.source.SourceError.{SourceError}
 use Rattle.rkt_source.specs.declared.source.SourceError.TheVariants as source_error
-use Rattle.rkt_demo.specs.declared.stream.StreamError.{StreamError}
-use Rattle.rkt_demo.specs.declared.stream.StreamError.TheVariants as error
+use Rattle.rkt_script.specs.declared.stream.StreamError.{StreamError}
+use Rattle.rkt_script.specs.declared.stream.StreamError.TheVariants as error
 
 -- reads gave these bytes, of a source that was never warned
 pub record Reads (before after : Meaning) (bytes : List ℕ) : Type 0 where
