@@ -89,7 +89,7 @@ impl ContentType {
 impl PartialEq for ContentType {
     ghost use Rattle.std.specs.Cmp.{partial_equiv_from_equiv};
     ghost use Rattle.rkt_media.specs.Media.{same_media};
-    ghost use Rattle.rkt_media.specs.MediaEquality.{same_media_equiv};
+    ghost use Rattle.rkt_media.specs.MediaEqualityLaws.{same_media_equiv};
 
     ghost eq = { same_media };
 
@@ -101,7 +101,7 @@ impl PartialEq for ContentType {
 }
 
 impl Eq for ContentType {
-    ghost use Rattle.rkt_media.specs.MediaEquality.{same_media_equiv};
+    ghost use Rattle.rkt_media.specs.MediaEqualityLaws.{same_media_equiv};
 
     ghost laws = { same_media_equiv };
 }

@@ -8,9 +8,9 @@ use Rattle.rkt_grammar.specs.ByteLaws.{equal}
 use Rattle.rkt_media.specs.Runs.{run, behind_run, Starts}
 use Rattle.rkt_media.specs.Media.{Media, Parameter}
 use Rattle.rkt_grammar.specs.Grammar.{is_token_byte}
-use Rattle.rkt_media.specs.MediaText.{is_blank, ByteThen, ValueThen, ParameterThen, ParametersThen, MediaThen}
+use Rattle.rkt_media.specs.MediaText.{is_blank, ByteThen, ValueThen, ParameterThen, MediaThen}
 use Rattle.rkt_media.specs.MediaRestLaws.{along, run_on, run_off, byte_in, byte_out, byte_other, byte_none, run_stays, run_ends, mark_stays, parameter_spelled, media_spelled}
-use Rattle.rkt_media.specs.MediaRests.{Any, RunOn, WordOn, TopOn, ValueOn, NameOn}
+use Rattle.rkt_media.specs.MediaRests.{RunOn, WordOn, TopOn, ValueOn, NameOn}
 use Rattle.rkt_media.specs.Accept.{is_weight, weighed}
 use Rattle.rkt_media.specs.AcceptText.{is_gap, is_digit_to, IsWeight, AreWeighed, CommaThen, ListsMedia, IsAccept}
 use Rattle.rkt_media.specs.AcceptRests.{is_q, Left, Follow, Given, Tail, WeightOn, WeightNameOn, ParameterOn}

@@ -2,7 +2,7 @@
 use Rattle.std.proofs.Common.{◌≡◌, ℕ, List, [], ◌∷◌, ◌++◌, Bool, true, false, ◌==◌, ◌||◌, if◌then◌else◌, refl, inl, inr, ◌⊎◌, ◌↔◌, Some, None, sym, ◌∙◌, ap, subst}
 use Rattle.std.proofs.lemmas.Bool.{false≢true}
 use Rattle.rkt_grammar.specs.ByteLaws.{equal, differ}
-use Rattle.rkt_media.specs.Runs.{run, behind_run, Starts}
+use Rattle.rkt_media.specs.Runs.{run, behind_run}
 use Rattle.rkt_media.specs.Media.{Parameter}
 use Rattle.rkt_grammar.specs.Grammar.{is_token_byte}
 use Rattle.rkt_media.specs.MediaText.{is_blank, is_escapable, is_quoted_byte, behind_quoted, TokenThen, ByteThen, ValueThen, ParameterThen}

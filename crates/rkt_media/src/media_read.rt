@@ -5,6 +5,7 @@ ghost use Rattle.std.specs.Str.{IsUtf8, IsCharBoundary};
 ghost use Rattle.rkt_media.specs.Runs.{run, behind_run};
 ghost use Rattle.rkt_media.specs.Media.{Media, Parameter};
 ghost use Rattle.rkt_grammar.specs.Grammar.{is_token_byte};
+ghost use Rattle.rkt_grammar.specs.Bytes.{quotation_mark};
 ghost use Rattle.rkt_media.specs.MediaText.{is_blank, behind_quoted, quote_step, ValueThen, SemicolonThen, ParametersThen, MediaThen, Exactly, NoSemicolon};
 
 use crate::byte_run::{ByteClass, run_cut, run_len};
@@ -41,7 +42,7 @@ fn quote_after(escaped: bool, byte: u8) -> Option<bool>
 /// How long a quoted string is behind its opening mark, with its closing one.
 fn quoted_len(inside: &[u8]) -> usize
     ensures within { result ≤ length inside.now }
-    ensures closes { result < length inside.now → (0 < result) × (slice_index inside.now (result - 1) ≡ 34) }
+    ensures closes { result < length inside.now → (0 < result) × (slice_index inside.now (result - 1) ≡ quotation_mark) }
     ensures rest { (more : List ℕ) → behind_quoted false inside.now ≡ Some more → more ≡ drop result inside.now }
 {
     let mut escaped = false;

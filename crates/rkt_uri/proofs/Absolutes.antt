@@ -6,7 +6,6 @@ use Rattle.std.proofs.lemmas.Bool.Decides.{Decides-eqb}
 use Rattle.std.specs.Option.{option_map, option_and_then}
 use Rattle.std.specs.Char.{is_ascii_alphabetic, is_ascii_digit}
 use Rattle.rkt_grammar.specs.Grammar.{OnlyOf, IsFrontOf, LeavesAt, has_byte, behind_first}
-use Rattle.rkt_grammar.specs.ByteLaws.{equal}
 use Rattle.rkt_uri.specs.Words.{Then}
 use Rattle.rkt_uri.specs.Origin.{is_slash, is_question, query_text, is_query_byte}
 use Rattle.rkt_uri.specs.Host.{Authority, MaybePort, MaybeHost, Address, is_name_byte, is_address_byte, is_colon, domain_in, port_behind, IsDomain, SpellsPort, SpellsAuthority}

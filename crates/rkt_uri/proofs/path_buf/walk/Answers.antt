@@ -1,4 +1,4 @@
-use Rattle.std.proofs.Common.{◌≡◌, ◌∙◌, [], List, ℕ, map, drop, ap, sym, arith}
+use Rattle.std.proofs.Common.{◌≡◌, ◌∙◌, [], map, drop, ap, sym, arith}
 use Rattle.std.proofs.lemmas.List.{drop_all}
 use Rattle.rkt_uri.proofs.Paths.{names_behind, all_left}
 use Rattle.rkt_uri.proofs.path_buf.walk.Goals as goal
