@@ -1,5 +1,5 @@
 -- Writes to a sink, one after another.
-use Rattle.std.proofs.Common.{◌≡◌, ℕ, ◌<◌, ◌++◌, List, take, Result, Ok, Err, append_assoc, append-nil}
+use Rattle.std.proofs.Common.{ℕ, ◌++◌, List, take, Result, Ok, Err, append_assoc, append-nil}
 use Rattle.rkt_base.specs.declared.poll.Poll.{Poll}
 use Rattle.rkt_base.specs.declared.poll.Poll.TheVariants.{Ready, Pending}
 use Rattle.rkt_source.specs.Sink.{Feeds, FeedEnding, FeedsTo}

@@ -1,5 +1,5 @@
 -- What every reader of a source knows of it.
-use Rattle.std.proofs.Common.{◌≡◌, ℕ, ◌∙◌, inr, inl, ⊎_elim, List, drop, Option, None, Some, refl, rules, le_refl, le_trans}
+use Rattle.std.proofs.Common.{◌≡◌, ℕ, ◌∙◌, inr, inl, ⊎_elim, List, drop, Option, None, Some, refl, le_refl, le_trans}
 use Rattle.std.specs.Prelude.{option_map}
 use Rattle.rkt_source.specs.Source.{Meaning, Keeps}
 

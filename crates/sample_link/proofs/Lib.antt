@@ -1,2 +1,3 @@
+pub mod Feedings
 pub mod Places
 pub mod Refusals

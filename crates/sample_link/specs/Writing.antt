@@ -2,7 +2,7 @@
 use Rattle.std.specs.Prelude.{◌≡◌, ℕ, ◌<◌, ◌++◌, List, [], length, Option, option_map, Result, Ok, Err}
 use Rattle.rkt_base.specs.declared.poll.Poll.{Poll}
 use Rattle.rkt_base.specs.declared.poll.Poll.TheVariants.{Ready, Pending}
-use Rattle.rkt_source.specs.Sink.{SinkMeaning, SinkWaits, SinkErrs}
+use Rattle.rkt_source.specs.Sink.{SinkMeaning, SinkWaits, SinkErrs, FeedEnding, FeedsTo}
 use Rattle.rkt_source.specs.declared.sink.SinkError.{SinkError}
 
 -- the bytes that a sink has taken, and these behind them, where it tells them
@@ -12,6 +12,10 @@ followed sink rest = option_map (λ held. held ++ rest) sink.held
 -- what was to be written was taken or is still to be written: no byte is lost, and none is written twice
 abbrev pub NoneLost : SinkMeaning → List ℕ → SinkMeaning → List ℕ → Type 0
 NoneLost old before new after = followed new after ≡ followed old before
+
+-- writes that have ended so took a front of what was to be written, and the rest is left
+abbrev pub FeedsFront : {K : Type 0} → (K → List ℕ → Poll (Result ℕ SinkError) → K → Type 0) → FeedEnding → K → List ℕ → K → List ℕ → Type 0
+FeedsFront written how k before l after = (bytes : List ℕ) × (before ≡ bytes ++ after) × FeedsTo written how k bytes l
 
 -- one write: some of the bytes were taken, or the sink has answered otherwise
 abbrev pub WritesSome : Poll (Result (Unit {0}) SinkError) → SinkMeaning → List ℕ → SinkMeaning → List ℕ → Type 0

@@ -2,7 +2,7 @@
 ghost use Rattle.std.specs.Prelude.{◌≡◌, ◌≤◌, ◌<◌, ◌↔◌, [], IsTrue, OnOk, OnErr, drop, length};
 ghost use Rattle.rkt_source.specs.Sink.{SinkKeeps};
 ghost use Rattle.sample_link.specs.Encoding.{encoding};
-ghost use Rattle.sample_link.specs.Writing.{NoneLost, WritesSome, EndsAs};
+ghost use Rattle.sample_link.specs.Writing.{NoneLost, WritesSome, EndsAs, FeedsFront};
 
 use crate::encoding::encode;
 use rkt_base::{NoMemory, Poll};
@@ -86,6 +86,7 @@ impl Outbox {
         requires { 0 < length self.old }
         ensures kept { SinkKeeps (K.meaning sink.old) (K.meaning sink.new) }
         ensures bytes { NoneLost (K.meaning sink.old) self.old (K.meaning sink.new) self.new }
+        ensures feeds { FeedsFront K.written result sink.old self.old sink.new self.new }
         ensures answer { WritesSome result (K.meaning sink.old) self.old (K.meaning sink.new) self.new }
     {
         match sink.poll_write(self.rest()) {
@@ -105,6 +106,7 @@ impl Outbox {
     pub fn flush<K: Sink>(&mut self, sink: &mut K) -> Poll<Result<(), SinkError>>
         ensures kept { SinkKeeps (K.meaning sink.old) (K.meaning sink.new) }
         ensures bytes { NoneLost (K.meaning sink.old) self.old (K.meaning sink.new) self.new }
+        ensures feeds { FeedsFront K.written result sink.old self.old sink.new self.new }
         ensures answer { EndsAs result (K.meaning sink.old) (K.meaning sink.new) self.new }
     {
         while !self.is_empty() {

@@ -71,14 +71,16 @@ impl PipeSink {
 }
 
 impl Sink for PipeSink {
-    ghost use Rattle.sample_link.specs.Pipes.{taking_meaning};
+    ghost use Rattle.sample_link.specs.Pipes.{TakesMore, taking_meaning};
 
     ghost meaning = { taking_meaning };
 
+    ghost written = { λ s piece answer t. TakesMore s piece answer t };
+
     fn poll_write(&mut self, buf: &[u8]) -> Poll<Result<usize, SinkError>>
+        ensures written { TakesMore self.old buf.now result self.new }
         ensures kept { SinkKeeps (taking_meaning self.old) (taking_meaning self.new) }
         ensures answer { Writes (taking_meaning self.old) (taking_meaning self.new) buf.now result }
-        ensures takes { TakesMore self.old buf.now result self.new }
     {
         match self.calls.turn() {
             Turn::Waits => Poll::Pending,
