@@ -6,7 +6,8 @@ use Rattle.std.specs.Str.Parse.{digits_value, ParsesUnsigned}
 use Rattle.std.proofs.lemmas.Bool.Decides.{Decides-and, Decides-ltb}
 use Rattle.std.proofs.lemmas.Str.Parse.{IsNumeralModel, numerals_by_value, tells_all_ascii_digits, parse_plain}
 use Rattle.std.proofs.lemmas.Bool.{false≢true, eq-eqb}
-use Rattle.rkt_config.specs.Numbers.{is_number, number_below, has_leading_zero, number_without_zeros}
+use Rattle.rkt_grammar.specs.Numbers.{is_number}
+use Rattle.rkt_config.specs.Numbers.{number_below, has_leading_zero, number_without_zeros}
 
 own : IsNumeralModel (λ ds. all_ascii_digits ds ≡ true) (digits_value 10)
 own = numerals_by_value _ tells_all_ascii_digits

@@ -1,12 +1,14 @@
 -- What a table of names and texts sets.
 use Rattle.std.specs.Prelude.{◌≡◌, ℕ, Bool, true, not, ◌==◌, ◌&&◌, ◌||◌, List, [], ◌∷◌, Option, Some, None, map, drop, find, fold, unwrap_or, is_some, nat_eq, nat_le, if◌then◌else◌, option_and_then, codes}
 use Rattle.std.specs.Option.{option_map_or}
-use Rattle.std.specs.List.{list_all, list_any, starts_with}
+use Rattle.std.specs.List.{list_all, starts_with}
 use Rattle.std.specs.Str.{bytes_eq}
-use Rattle.std.specs.Char.{to_ascii_lowercase, is_ascii_alphanumeric}
+use Rattle.std.specs.Char.{to_ascii_lowercase}
 use Rattle.std.specs.Ordering.{nat_cmp}
 use Rattle.std.specs.Cmp.Lexicographic.{slice_cmp}
 use Rattle.std.specs.BTreeMap.{insert_entry}
+use Rattle.rkt_grammar.specs.Bytes.{space, delete}
+use Rattle.rkt_grammar.specs.Grammar.{is_token_byte}
 use Rattle.rkt_data.specs.declared.data_stream.ByteUnit.{ByteUnit}
 use Rattle.rkt_config.specs.declared.config.Config.{Config}
 use Rattle.rkt_config.specs.ConfigTable.{text_of}
@@ -15,11 +17,7 @@ use Rattle.rkt_config.specs.Numbers.{number_below, number_without_zeros}
 
 -- neither a control character of ASCII nor its last code
 abbrev pub is_ident_byte : ℕ → Bool
-is_ident_byte b = nat_le 32 b && not (b == 127)
-
--- a character of a token (RFC 9110, section 5.6.2)
-abbrev pub is_token_byte : ℕ → Bool
-is_token_byte b = is_ascii_alphanumeric b || list_any (λ c. c == b) (codes "!#$%&'*+-.^_`|~")
+is_ident_byte b = nat_le space b && not (b == delete)
 
 -- a number of turns is not 0
 abbrev pub turns_of : List ℕ → Option ℕ

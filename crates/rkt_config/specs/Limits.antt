@@ -4,11 +4,12 @@ use Rattle.std.specs.Fmt.{decimal}
 use Rattle.std.specs.List.{join_by}
 use Rattle.std.specs.Str.{bytes_eq}
 use Rattle.std.specs.Map.{lookup}
+use Rattle.rkt_grammar.specs.Bytes.{slash}
 use Rattle.rkt_data.specs.declared.data_stream.ByteUnit.{ByteUnit}
 
 -- a front of whole layers of a name: the name, or what stands before one of its slashes
 abbrev pub IsFront : List ℕ → List ℕ → Type 0
-IsFront front name = (name ≡ front) ⊎ ((rest : List ℕ) × (name ≡ front ++ 47 ∷ rest))
+IsFront front name = (name ≡ front) ⊎ ((rest : List ℕ) × (name ≡ front ++ slash ∷ rest))
 
 -- the limit of the longest front of a name that has one
 pub record IsOfLongest (limits : List (List ℕ × ByteUnit)) (name : List ℕ) (limit : ByteUnit) : Type 0 where

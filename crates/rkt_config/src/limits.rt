@@ -5,6 +5,7 @@ ghost use Rattle.std.specs.Cmp.Lexicographic.{slice_cmp};
 ghost use Rattle.std.specs.BTreeMap.{insert_entry};
 ghost use Rattle.std.specs.List.{join_with_byte};
 ghost use Rattle.std.specs.Fmt.{DisplaysOnOk};
+ghost use Rattle.rkt_grammar.specs.Bytes.{slash};
 ghost use Rattle.rkt_config.specs.Limits.{IsLimitOf, default_limits, limit_text, limits_text};
 ghost use Rattle.rkt_config.specs.Joined.{bytes_of};
 
@@ -104,7 +105,7 @@ impl Limits {
     /// What `get` gives for the layers, joined by `/`, without the memory for such a text.
     pub fn find(&self, layers: &[String]) -> Option<ByteUnit>
         ensures none { layers.now ≡ [] → result ≡ None }
-        ensures law { layers.now ≢ [] → IsLimitOf self.now (map to_ascii_lowercase (join_with_byte 47 (map string_bytes layers.now))) result }
+        ensures law { layers.now ≢ [] → IsLimitOf self.now (map to_ascii_lowercase (join_with_byte slash (map string_bytes layers.now))) result }
     {
         let (piece, pieces) = layers.split_first()?;
         self.longest(Joined {
@@ -133,7 +134,8 @@ impl Limits {
 
 impl PartialEq for Limits {
     ghost use Rattle.std.specs.Cmp.{partial_equiv_from_equiv};
-    ghost use Rattle.rkt_config.specs.SameLimits.{same_limits, same_limits_equiv};
+    ghost use Rattle.rkt_config.specs.SameLimitsLaws.{same_limits_equiv};
+    ghost use Rattle.rkt_config.specs.SameLimits.{same_limits};
 
     ghost eq = { same_limits };
 

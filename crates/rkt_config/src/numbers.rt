@@ -1,9 +1,10 @@
 ghost use Rattle.std.specs.Prelude.{◌≡◌, ◌==◌, slice_index};
+ghost use Rattle.rkt_grammar.specs.Bytes.{plus_sign};
 ghost use Rattle.rkt_config.specs.Numbers.{number_below, number_without_zeros, has_leading_zero};
 
 /// Whether a sign stands first, which std would read.
 fn has_plus(text: &str) -> bool
-    ensures { result ≡ (slice_index text.now 0 == 43) }
+    ensures { result ≡ (slice_index text.now 0 == plus_sign) }
 {
     !text.is_empty() && text.as_bytes()[0] == b'+'
 }

@@ -1,8 +1,9 @@
 ghost use Rattle.std.specs.Prelude.{◌≡◌, option_copied, drop};
 ghost use Rattle.std.specs.List.{list_all};
-ghost use Rattle.rkt_config.specs.Config.{fits, turns_of, limit_name_of, is_ident_byte, is_token_byte};
+ghost use Rattle.rkt_config.specs.Config.{fits, turns_of, limit_name_of, is_ident_byte};
 
 use crate::numbers::{number, number_without_zeros};
+use rkt_grammar::has_token_bytes;
 
 /// How many turns a text grants, which are never none.
 pub(crate) fn turns(text: &str) -> Option<u32>
@@ -27,22 +28,10 @@ fn is_ident_byte(byte: u8) -> bool
     byte >= 32 && byte != 127
 }
 
-fn is_token_byte(byte: u8) -> bool
-    ensures { result ≡ is_token_byte byte }
-{
-    byte.is_ascii_alphanumeric() || b"!#$%&'*+-.^_`|~".contains(&byte)
-}
-
 fn is_ident(text: &str) -> bool
     ensures { result ≡ list_all is_ident_byte text.now }
 {
     text.as_bytes().iter().all(|byte| is_ident_byte(*byte))
-}
-
-fn is_token_or_empty(text: &str) -> bool
-    ensures { result ≡ list_all is_token_byte text.now }
-{
-    text.as_bytes().iter().all(|byte| is_token_byte(*byte))
 }
 
 /// Whether a text is what a name takes.
@@ -53,7 +42,7 @@ pub(crate) fn fits(name: &str, text: &str) -> bool
         return is_ident(text);
     }
     if name == "ip_header" {
-        return is_token_or_empty(text);
+        return has_token_bytes(text);
     }
     if name == "grace" || name == "mercy" {
         return number_without_zeros(text).is_some();

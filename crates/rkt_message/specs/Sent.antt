@@ -4,7 +4,7 @@ use Rattle.std.specs.Option.{ForSome}
 use Rattle.std.specs.Prelude.{◌≡◌, ⊤, ◌<◌, ◌≤◌, ◌++◌, ℕ, List, [], ◌∷◌, Bool, true, ◌==◌, ◌&&◌, ◌||◌, nat_le, not, Option, None, Some, length, map, take, codes, is_some, unwrap_or, if◌then◌else◌}
 use Rattle.rkt_source.specs.Source.{Meaning}
 use Rattle.rkt_http.specs.Headers.{Field, Group, group_of, fields_of}
-use Rattle.rkt_media.specs.MediaText.{is_token_byte}
+use Rattle.rkt_grammar.specs.Grammar.{is_token_byte}
 use Rattle.rkt_message.specs.Body.{BodyOf, left_of, size_of}
 use Rattle.rkt_message.specs.Lines.{Line, lines_of, with_length, without_length}
 use Rattle.rkt_message.specs.Response.{ResponseOf}

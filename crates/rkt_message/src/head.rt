@@ -3,7 +3,6 @@ ghost use Rattle.std.specs.Fmt.{decimal};
 ghost use Rattle.std.specs.List.{list_all};
 ghost use Rattle.std.specs.Prelude.{◌≡◌, ◌++◌, [], IfOk};
 ghost use Rattle.rkt_http.specs.Headers.{fields_of};
-ghost use Rattle.rkt_media.specs.MediaText.{is_token_byte};
 ghost use Rattle.rkt_message.specs.Body.{size_of};
 ghost use Rattle.rkt_message.specs.Lines.{lines_of, only_length};
 ghost use Rattle.rkt_message.specs.Sent.{has_head, head_of, is_sendable, is_token, is_value_byte, sent_headers};
@@ -14,27 +13,16 @@ use crate::piece::Piece;
 use crate::response::Response;
 use rkt_base::{NoMemory, Seq, Text};
 use rkt_data::Source;
+use rkt_grammar::has_token_bytes;
 use rkt_http::HeaderMap;
 use std::alloc::Global;
 
 const CONTENT_LENGTH: &str = "Content-Length";
 
-fn is_token_byte(byte: u8) -> bool
-    ensures { result ≡ is_token_byte byte }
-{
-    byte.is_ascii_alphanumeric() || b"!#$%&'*+-.^_`|~".contains(&byte)
-}
-
 fn is_value_byte(byte: u8) -> bool
     ensures { result ≡ is_value_byte byte }
 {
     byte == b'\t' || byte >= 32 && byte != 127
-}
-
-fn has_token_bytes(text: &str) -> bool
-    ensures { result ≡ list_all is_token_byte text.now }
-{
-    text.as_bytes().iter().all(|byte| is_token_byte(*byte))
 }
 
 fn is_token(text: &str) -> bool

@@ -7,7 +7,7 @@ use Rattle.std.specs.Str.{IsUtf8}
 use Rattle.std.proofs.lemmas.Bool.{false≢true}
 use Rattle.std.proofs.lemmas.Bool.Decides.{nat_tests}
 use Rattle.std.proofs.lemmas.Str.{IsUtf8-from_ascii}
-use Rattle.rkt_media.specs.MediaText.{is_token_byte}
+use Rattle.rkt_grammar.specs.Grammar.{is_token_byte}
 use Rattle.rkt_script.proofs.Requests.{all_of_word, ascii_of_all, first_of_both}
 use Rattle.rkt_script.specs.Script.{IsHeader, IsPiece, IsRequest, header_of, is_capital, is_word, with_last}
 use Rattle.rkt_script.specs.declared.script.ScriptRequest.{ScriptRequest}

@@ -2,7 +2,7 @@
 use Rattle.std.specs.Prelude.{◌≡◌, ◌≤◌, ◌<◌, ◌⊎◌, ℕ, ◌+◌, ◌-◌, ◌==◌, ◌&&◌, List, [], ◌∷◌, ◌++◌, Bool, true, IsTrue, if◌then◌else◌, codes, drop, fold, length, take, slice_index, nat_le, not, None}
 use Rattle.std.specs.List.{onto_first, list_all, before_first, after_first, take_while}
 use Rattle.std.specs.Str.{bytes_eq}
-use Rattle.rkt_media.specs.MediaText.{is_token_byte}
+use Rattle.rkt_grammar.specs.Grammar.{is_token_byte}
 use Rattle.rkt_request.specs.declared.head.Head.{Head}
 use Rattle.rkt_script.specs.declared.script.ScriptRequest.{ScriptRequest}
 

@@ -2,10 +2,11 @@
 ghost use Rattle.std.specs.Prelude.{◌≡◌, ◌<◌, ◌∷◌, ◌++◌, [], List, ℕ, None, IfOk, IfSome, IfNone, IsTrue, OnOk, codes, length};
 ghost use Rattle.std.specs.List.{list_all, take_while};
 ghost use Rattle.rkt_base.specs.Want.{IfRefused};
-ghost use Rattle.rkt_media.specs.MediaText.{is_token_byte};
+ghost use Rattle.rkt_grammar.specs.Grammar.{is_token_byte};
 ghost use Rattle.rkt_script.specs.Script.{AreGood, IsContent, IsFirstBad, IsHeader, IsPiece, IsRequest, add_line, content_of, head_of, header_of, is_capital, is_shutdown, is_visible, is_word, lines_of, requests_of, with_header, with_last, with_piece, piece_of};
 
 use rkt_base::{Bytes, NoMemory, Seq, Text, Want};
+use rkt_grammar::is_token_byte;
 use rkt_request::Head;
 use std::alloc::Global;
 use std::mem;
@@ -134,12 +135,6 @@ fn read_request(
         body: Bytes::new(alloc),
     })?;
     Ok(())
-}
-
-fn is_token_byte(byte: u8) -> bool
-    ensures { result ≡ is_token_byte byte }
-{
-    byte.is_ascii_alphanumeric() || b"!#$%&'*+-.^_`|~".contains(&byte)
 }
 
 // The longest token that begins a text, and what is behind it.

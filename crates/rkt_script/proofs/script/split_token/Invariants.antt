@@ -1,5 +1,5 @@
 use Rattle.std.proofs.Common.{◌≡◌, ◌<◌, ℕ, true, get_or}
-use Rattle.rkt_media.specs.MediaText.{is_token_byte}
+use Rattle.rkt_grammar.specs.Grammar.{is_token_byte}
 use Rattle.rkt_script.proofs.script.split_token.Given as goal
 
 abbrev pub invariant-loop-at : goal.invariant-loop-at
