@@ -1,8 +1,7 @@
 //! Lines that send the response at hand.
 ghost use Rattle.std.specs.Bool.{OnFalse};
-ghost use Rattle.std.specs.Prelude.{◌≡◌, ◌≢◌, IfOk};
-ghost use Rattle.rkt_message.specs.Sending.{stage_after};
-ghost use Rattle.rkt_message.specs.declared.stage.Stage.{Stage};
+ghost use Rattle.std.specs.Prelude.{◌≡◌, IfOk, false};
+ghost use Rattle.rkt_message.specs.Sending.{is_end};
 
 use crate::look::GATE;
 use crate::shown::{Answer, push_bytes, push_field};
@@ -47,7 +46,7 @@ fn push_piece(alloc: Global, piece: &Piece, out: &mut String) -> Result<(), NoMe
 }
 
 fn is_last(piece: &Piece) -> bool
-    ensures { OnFalse result (stage_after piece.now ≡ Stage.Body) }
+    ensures { result ≡ is_end piece.now }
 {
     match piece {
         Piece::Head { .. } | Piece::Chunk(_) => false,
@@ -69,8 +68,8 @@ fn push_next(
     pieces: &mut Pieces<Stalling>,
     out: &mut String,
 ) -> Result<bool, NoMemory>
-    requires { pieces.old.stage ≢ Stage.Done }
-    ensures { IfOk result (λ last. OnFalse last (pieces.new.stage ≢ Stage.Done)) }
+    requires { pieces.old.is_over ≡ false }
+    ensures { IfOk result (λ last. OnFalse last (pieces.new.is_over ≡ false)) }
 {
     match pieces.poll_next(alloc, GATE) {
         Poll::Ready(Ok(piece)) => {
@@ -95,7 +94,7 @@ fn push_answers(
     most: u32,
     out: &mut String,
 ) -> Result<(), NoMemory>
-    requires { pieces.old.stage ≢ Stage.Done }
+    requires { pieces.old.is_over ≡ false }
 {
     for _ in 0..most {
         if push_next(alloc, pieces, out)? {

@@ -1,8 +1,7 @@
 //! The pieces of a response on their way to a link in memory, beside a loop that keeps copies of the same chunks.
 ghost use Rattle.std.specs.Bool.{OnFalse};
-ghost use Rattle.std.specs.Prelude.{◌≡◌, ◌≢◌, IfOk};
-ghost use Rattle.rkt_message.specs.Sending.{stage_after};
-ghost use Rattle.rkt_message.specs.declared.piece.Piece.TheVariants.{End};
+ghost use Rattle.std.specs.Prelude.{◌≡◌, IfOk, false};
+ghost use Rattle.rkt_message.specs.Sending.{is_end};
 
 use crate::body::{GATE, body, place_behind};
 use anyhow::{Error, bail};
@@ -36,7 +35,7 @@ fn is_body(chunks: &[Bytes], length: usize) -> bool {
 
 // Keeps the chunk of a piece, and answers whether the piece was the last.
 fn keep(link: &mut Vec<Bytes>, piece: Piece) -> Result<bool, AllocError>
-    ensures { IfOk result (λ last. OnFalse last (stage_after piece ≢ stage_after End)) }
+    ensures { IfOk result (λ last. OnFalse last (is_end piece ≡ false)) }
 {
     match piece {
         Piece::Head { .. } => Ok(false),

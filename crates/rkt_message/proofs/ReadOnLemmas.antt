@@ -1,5 +1,5 @@
 -- A response that is read on, poll by poll.
-use Rattle.std.proofs.Common.{◌≡◌, ◌<◌, ◌+◌, ◌∙◌, inl, inr, ⊎_elim, ℕ, arith, Option, Some, Result, Ok, Err, le_trans, refl, sym, subst}
+use Rattle.std.proofs.Common.{◌≡◌, ◌<◌, ◌+◌, ◌∙◌, inl, inr, ⊎_elim, ℕ, arith, List, [], Option, Some, Result, Ok, Err, le_trans, refl, sym, subst}
 use Rattle.rkt_source.specs.Source.{Meaning, Keeps}
 use Rattle.rkt_message.specs.Body.{preset_of}
 use Rattle.rkt_base.specs.declared.poll.Poll.{Poll}
@@ -8,14 +8,14 @@ use Rattle.rkt_source.specs.declared.source.Gate.{Gate}
 use Rattle.rkt_source.specs.declared.source.SourceError.{SourceError}
 use Rattle.rkt_message.specs.Reading.{Follows, LeftAlone, ReadsOn, StreamWaits, Takes}
 use Rattle.rkt_message.specs.Response.{ResponseOf}
-use Rattle.rkt_message.specs.Sending.{Answers, HasWaited, IsSending, PieceByGate, ReadOn, ReadsOnUnder, Sending}
+use Rattle.rkt_message.specs.Sending.{Answers, HasWaited, IsSending, PieceByGate, ReadOn, ReadsOnUnder, Sending, StandsAt}
 use Rattle.rkt_message.specs.declared.content.Content.{Content}
 use Rattle.rkt_message.specs.declared.content.Content.TheVariants as content
 use Rattle.rkt_message.specs.declared.piece.Piece.{Piece}
 use Rattle.rkt_message.specs.declared.piece.Piece.TheVariants.{Head, Chunk, End}
 use Rattle.rkt_message.specs.declared.piece.PieceError.{PieceError}
 use Rattle.rkt_message.specs.declared.piece.PieceError.TheVariants as error
-use Rattle.rkt_message.specs.declared.stage.Stage.TheVariants as stage
+use Rattle.rkt_message.specs.declared.stage.Stage.{Stage}
 use Rattle.rkt_message.proofs.Readings.{ReadsOn-refl, ReadsOn-trans}
 
 -- a response that is left alone is read on
@@ -31,12 +31,12 @@ left_alone (content.Phantom length size) = tt
 left_alone (content.Streamed s) = refl
 
 -- the head is formed without a read of the body
-pub head_asks : {S : Type 0} (meaning : S → Meaning) (polled : S → Gate → Poll (Result ℕ SourceError) → S → Type 0) (gate : Gate) (s t : Sending S) (answer : Result Piece PieceError) (c : Content S) → s.stage ≡ stage.Head → Answers meaning s t (Ready answer) → PieceByGate polled gate (Ready answer) c c
+pub head_asks : {S : Type 0} (meaning : S → Meaning) (polled : S → Gate → Poll (Result ℕ SourceError) → S → Type 0) (gate : Gate) (s t : Sending S) (answer : Result Piece PieceError) (c : Content S) → s.given ≡ [] → Answers meaning s t (Ready answer) → PieceByGate polled gate (Ready answer) c c
 head_asks meaning polled gate s t (Ok (Head status headers)) c at h = left_alone c
-head_asks meaning polled gate s t (Ok (Chunk bytes)) c at h = absurd (h.head.1 at)
-head_asks meaning polled gate s t (Ok End) c at h = absurd (h.head.1 at)
+head_asks meaning polled gate s t (Ok (Chunk bytes)) c at h = absurd (h.0.head.1 at)
+head_asks meaning polled gate s t (Ok End) c at h = absurd (h.0.head.1 at)
 head_asks meaning polled gate s t (Err error.BadHead) c at h = left_alone c
-head_asks meaning polled gate s t (Err error.BodyFault) c at h = absurd (cc (h.0))
+head_asks meaning polled gate s t (Err error.BodyFault) c at h = absurd (h.0 at)
 head_asks meaning polled gate s t (Err error.NoMemory) c at h = left_alone c
 
 pub takes_nothing : {S : Type 0} (meaning : S → Meaning) (c : Content S) → Takes meaning c c 0
@@ -74,13 +74,14 @@ reads_more meaning trip p q r on status headers follows preset = (
 )
 
 -- a state goes on with a response that is read on once more
-pub sends_on : {S : Type 0} (meaning : S → Meaning) (trip : Option ℕ) (begun q r : ResponseOf S) (turns waits n : ℕ) → IsSending meaning q begun turns waits → r.status ≡ q.status → r.headers ≡ q.headers
-    → Follows meaning trip q.body r.body → preset_of r.body.content ≡ preset_of q.body.content → n < turns → HasWaited meaning n r.body.content → IsSending meaning r begun turns n
-sends_on meaning trip begun q r turns waits n sending status headers follows preset below waited = record {
+pub sends_on : {S : Type 0} (meaning : S → Meaning) (trip : Option ℕ) (before at : Stage) (begun q r : ResponseOf S) (turns waits n : ℕ) (old new : List Piece) → IsSending meaning before q begun turns waits old → StandsAt meaning at r begun new → r.status ≡ q.status → r.headers ≡ q.headers
+    → Follows meaning trip q.body r.body → preset_of r.body.content ≡ preset_of q.body.content → n < turns → HasWaited meaning n r.body.content → IsSending meaning at r begun turns n new
+sends_on meaning trip before at begun q r turns waits n old new sending stands status headers follows preset below waited = record {
   read_on = reads_more meaning trip begun q r sending.read_on status headers follows preset;
   below = below;
   waited = waited;
   chunk = rw follows.chunk sending.chunk;
+  stands = stands;
 }
 
 -- the source was Pending once more

@@ -1,5 +1,5 @@
 -- What a state holds that sends a response, and what one poll of it answers.
-use Rattle.std.specs.Prelude.{◌≡◌, ⊤, ℕ, ◌+◌, ◌<◌, ◌≤◌, ◌⊎◌, ◌↔◌, true, false, List, [], ◌∷◌, length, Option, Result, Ok, Err}
+use Rattle.std.specs.Prelude.{◌≡◌, ⊤, ℕ, ◌+◌, ◌<◌, ◌≤◌, ◌⊎◌, ◌↔◌, ◌++◌, ◌≢◌, Bool, true, false, List, [], ◌∷◌, length, Option, Result, Ok, Err}
 use Rattle.rkt_base.specs.declared.poll.Poll.{Poll}
 use Rattle.rkt_base.specs.declared.poll.Poll.TheVariants.{Ready, Pending}
 use Rattle.rkt_source.specs.Source.{Meaning}
@@ -26,7 +26,10 @@ pub record Sending (S : Type 0) : Type 0 where
   pub turns : ℕ
   -- how many there were
   pub waits : ℕ
-  pub stage : Stage
+  -- the pieces that it was sent as so far
+  pub given : List Piece
+  -- whether the last answer was given: the end, or an error other than want of memory
+  pub is_over : Bool
 
 -- the same response, but for its body, which may have been read further under Gates with this trip; a size that was computed may be kept
 pub record ReadsOnUnder {S : Type 0} (meaning : S → Meaning) (trip : Option ℕ) (p q : ResponseOf S) : Type 0 where
@@ -44,33 +47,48 @@ abbrev pub HasWaited : {S : Type 0} → (S → Meaning) → ℕ → Content S �
 HasWaited meaning waits (content.Streamed s) = waits ≤ (meaning s).pended
 HasWaited meaning waits _ = ⊤
 
+abbrev pub is_done : Stage → Bool
+is_done stage.Head = false
+is_done stage.Body = false
+is_done stage.Done = true
+
+-- where a state stands: before the head nothing was given, and behind it what is left of the body completes what was given
+abbrev pub StandsAt : {S : Type 0} → (S → Meaning) → Stage → ResponseOf S → ResponseOf S → List Piece → Type 0
+StandsAt meaning stage.Head response begun given = (given ≡ []) × (response ≡ begun)
+StandsAt meaning stage.Body response begun given = (given ≢ []) × ((rest : List Piece) → SentBody meaning response.body rest → Sent meaning begun (given ++ rest))
+StandsAt meaning stage.Done response begun given = ⊤
+
 -- what every state keeps
-pub record IsSending {S : Type 0} (meaning : S → Meaning) (response begun : ResponseOf S) (turns waits : ℕ) : Type 0 where
+pub record IsSending {S : Type 0} (meaning : S → Meaning) (at : Stage) (response begun : ResponseOf S) (turns waits : ℕ) (given : List Piece) : Type 0 where
   pub read_on : ReadOn meaning begun response
   pub below : waits < turns
   pub waited : HasWaited meaning waits response.body.content
   pub chunk : 0 < response.body.chunk
+  pub stands : StandsAt meaning at response begun given
 
--- what a response has still to be sent as
-abbrev pub OwesAt : {S : Type 0} → (S → Meaning) → ResponseOf S → Stage → List Piece → Type 0
-OwesAt meaning response stage.Head pieces = Sent meaning response pieces
-OwesAt meaning response stage.Body pieces = SentBody meaning response.body pieces
-OwesAt meaning response stage.Done pieces = pieces ≡ []
+-- what has still to be given behind the head: nothing once the last answer was given, and until then what is left of the body
+abbrev pub OwesBehindHead : {S : Type 0} → (S → Meaning) → Bool → BodyOf S → List Piece → Type 0
+OwesBehindHead meaning true body pieces = pieces ≡ []
+OwesBehindHead meaning false body pieces = SentBody meaning body pieces
 
--- the pieces that a state has still to give
+-- the pieces that a state has still to give that gave a piece
 abbrev pub Owes : {S : Type 0} → (S → Meaning) → Sending S → List Piece → Type 0
-Owes meaning s pieces = OwesAt meaning s.response s.stage pieces
+Owes meaning s pieces = OwesBehindHead meaning s.is_over s.response.body pieces
+
+-- what was given so far is a front of a list that the response is sent as, and what is still owed is the rest of it; something is owed always
+pub record IsFront {S : Type 0} (meaning : S → Meaning) (s : Sending S) : Type 0 where
+  pub completed : (rest : List Piece) → Owes meaning s rest → Sent meaning s.begun (s.given ++ rest)
+  pub goes_on : (rest : List Piece) × Owes meaning s rest
 
 abbrev pub IsHead : Piece → Type 0
 IsHead (Head status headers) = ⊤
 IsHead (Chunk bytes) = ⊥
 IsHead End = ⊥
 
--- how far a response is sent behind a piece
-abbrev pub stage_after : Piece → Stage
-stage_after (Head status headers) = stage.Body
-stage_after (Chunk bytes) = stage.Body
-stage_after End = stage.Done
+abbrev pub is_end : Piece → Bool
+is_end (Head status headers) = false
+is_end (Chunk bytes) = false
+is_end End = true
 
 -- how many bytes of the body are in a piece
 abbrev pub bytes_in : Piece → ℕ
@@ -87,11 +105,10 @@ TakesFull body End = ⊤
 -- a state gives a piece
 pub record Gives {S : Type 0} (meaning : S → Meaning) (s : Sending S) (piece : Piece) (t : Sending S) : Type 0 where
   -- the head comes first, and once
-  pub head : IsHead piece ↔ (s.stage ≡ stage.Head)
-  pub stage : t.stage ≡ stage_after piece
-  -- what completes the state now, completed it before behind this piece; and something does
-  pub and_then : (pieces : List Piece) → Owes meaning t pieces → Owes meaning s (piece ∷ pieces)
-  pub goes_on : (pieces : List Piece) × Owes meaning t pieces
+  pub head : IsHead piece ↔ (s.given ≡ [])
+  pub given : t.given ≡ s.given ++ piece ∷ []
+  -- the end comes last
+  pub over : t.is_over ≡ is_end piece
   -- a source gave as many bytes as are in the piece, told or not
   pub takes : Takes meaning s.response.body.content t.response.body.content (bytes_in piece)
   pub waits : t.waits ≡ 0
@@ -101,7 +118,9 @@ pub record Waits {S : Type 0} (meaning : S → Meaning) (s t : Sending S) : Type
   pub pending : StreamWaits meaning s.response.body.content t.response.body.content
   pub once_more : t.waits ≡ s.waits + 1
   pub below : t.waits < s.turns
-  pub stage : t.stage ≡ s.stage
+  pub given : t.given ≡ s.given
+  pub over : t.is_over ≡ s.is_over
+  -- what completes the state now, completed it before
   pub left : (pieces : List Piece) → Owes meaning t pieces → Owes meaning s pieces
   pub takes : Takes meaning s.response.body.content t.response.body.content 0
 
@@ -131,10 +150,14 @@ PieceByGate polled gate (Ready (Err error.BadHead)) c d = LeftAlone c d
 PieceByGate polled gate (Ready (Err error.BodyFault)) c d = Asked polled gate Pending c d ⊎ ((e : SourceError) × Asked polled gate (Ready (Err e)) c d)
 PieceByGate polled gate (Ready (Err error.NoMemory)) c d = LeftAlone c d
 
+-- nothing more is given
+abbrev pub Stops : {S : Type 0} → Sending S → Sending S → Type 0
+Stops s t = (t.given ≡ s.given) × (t.is_over ≡ true)
+
 -- what a poll answers
 abbrev pub Answers : {S : Type 0} → (S → Meaning) → Sending S → Sending S → Poll (Result Piece PieceError) → Type 0
-Answers meaning s t (Ready (Ok piece)) = Gives meaning s piece t
-Answers meaning s t (Ready (Err error.BadHead)) = (s.stage ≡ stage.Head) × (has_head s.response ≡ false) × (t.stage ≡ stage.Done)
-Answers meaning s t (Ready (Err error.BodyFault)) = (s.stage ≡ stage.Body) × GivesUp meaning s t × (t.stage ≡ stage.Done)
-Answers meaning s t (Ready (Err error.NoMemory)) = (s.stage ≡ stage.Head → has_head s.response ≡ true) × (t ≡ s)
-Answers meaning s t Pending = (s.stage ≡ stage.Body) × Waits meaning s t
+Answers meaning s t (Ready (Ok piece)) = Gives meaning s piece t × IsFront meaning t
+Answers meaning s t (Ready (Err error.BadHead)) = (s.given ≡ []) × (has_head s.begun ≡ false) × Stops s t
+Answers meaning s t (Ready (Err error.BodyFault)) = (s.given ≢ []) × GivesUp meaning s t × Stops s t
+Answers meaning s t (Ready (Err error.NoMemory)) = (s.given ≡ [] → has_head s.begun ≡ true) × (t ≡ s)
+Answers meaning s t Pending = (s.given ≢ []) × Waits meaning s t

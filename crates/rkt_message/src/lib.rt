@@ -6,6 +6,7 @@ mod builder;
 mod chunk;
 mod content;
 mod drain;
+mod given;
 mod head;
 mod lends;
 mod piece;

@@ -1,5 +1,5 @@
 //! How a response is sent.
-ghost use Rattle.std.specs.Prelude.{◌≡◌, ◌≢◌, ◌↔◌, ℕ, Err, List, IfOk, IsTrue, true, false, max};
+ghost use Rattle.std.specs.Prelude.{◌≡◌, ◌≢◌, ◌↔◌, ℕ, Err, List, [], IfOk, IsTrue, true, false, max};
 ghost use Rattle.rkt_base.specs.declared.poll.Poll.{Poll};
 ghost use Rattle.rkt_cancel.specs.Cancel.{is_gone};
 ghost use Rattle.rkt_cancel.specs.declared.stage.Stage.{Stage};
@@ -8,7 +8,6 @@ ghost use Rattle.rkt_message.specs.Sending.{ReadOn};
 ghost use Rattle.rkt_message.specs.Sent.{has_head};
 ghost use Rattle.rkt_message.specs.declared.piece.Piece.{Piece};
 ghost use Rattle.rkt_message.specs.declared.piece.PieceError.{PieceError};
-ghost use Rattle.rkt_message.specs.declared.stage.Stage.TheVariants as stage;
 ghost use Rattle.rkt_link.specs.Link.{AfterHand, ComesBack};
 ghost use Rattle.rkt_board.specs.declared.history.End.TheVariants.{Cut};
 ghost use Rattle.rkt_serve.specs.Gates.{IsCutOff, MayStand, word_in};
@@ -120,8 +119,8 @@ fn next_piece<R: Wait, G: Gates, S: Source>(
     pieces: &mut Pieces<S>,
 ) -> Result<Piece, PieceError>
     requires keeps { G.keeps gates.old }
-    requires going { pieces.old.stage ≢ stage.Done }
-    requires read_on { pieces.old.stage ≡ stage.Body → ReadOn S.meaning pieces.old.begun pieces.old.response }
+    requires going { pieces.old.is_over ≡ false }
+    requires read_on { pieces.old.given ≢ [] → ReadOn S.meaning pieces.old.begun pieces.old.response }
     ensures keeps { G.keeps gates.new }
     ensures leads { G.leads gates.old gates.new }
     ensures begun { pieces.new.begun ≡ pieces.old.begun }
@@ -129,8 +128,8 @@ fn next_piece<R: Wait, G: Gates, S: Source>(
     ensures read_on { ReadOn S.meaning pieces.new.begun pieces.new.response }
     ensures reads { ReadsOn S.meaning (word_in (G.watched gates.new).trip) pieces.old.response.body.content pieces.new.response.body.content }
     ensures piece { IfOk result (λ piece. Advances S.meaning pieces.old piece pieces.new) }
-    ensures bad_head { result ≡ Err PieceError.BadHead → (pieces.old.stage ≡ stage.Head) × (has_head pieces.old.response ≡ false) }
-    ensures body_fault { result ≡ Err PieceError.BodyFault → (pieces.old.stage ≡ stage.Body) × BodyFails S.meaning pieces.old.turns pieces.old.begun pieces.new.response }
+    ensures bad_head { result ≡ Err PieceError.BadHead → (pieces.old.given ≡ []) × (has_head pieces.old.begun ≡ false) }
+    ensures body_fault { result ≡ Err PieceError.BodyFault → (pieces.old.given ≢ []) × BodyFails S.meaning pieces.old.turns pieces.old.begun pieces.new.response }
 {
     for _ in rt.forever() {
         let gate = gates.next_gate();
@@ -152,8 +151,8 @@ fn put_all<R: Wait, G: Gates, K: Link, S: Source>(
 ) -> Result<End, NoMemory>
     requires keeps { G.keeps gates.old }
     requires stands { MayStand (G.watched gates.old) io.old.stage }
-    requires begins { pieces.old.stage ≡ stage.Head }
-    requires first { pieces.old.response ≡ pieces.old.begun }
+    requires going { pieces.old.is_over ≡ false }
+    requires first { pieces.old.given ≡ [] }
     ensures keeps { G.keeps gates.new }
     ensures leads { G.leads gates.old gates.new }
     ensures begun { pieces.new.begun ≡ pieces.old.begun }

@@ -3,11 +3,11 @@ use Rattle.rkt_link.specs.Link.{LinkMeaning, with_taken}
 use Rattle.rkt_serve.proofs.Pieces.{with_taken-nil, with_taken-with_taken}
 use Rattle.rkt_serve.proofs.BodyReads.{reads_none}
 use Rattle.rkt_serve.proofs.Cutting.{reads_both}
-use Rattle.rkt_serve.proofs.Sendings.{sent_nothing, sent_more, sent_all}
+use Rattle.rkt_serve.proofs.Sendings.{put_ends, sent_all, sent_front, sent_more, sent_nothing}
 use Rattle.rkt_serve.proofs.sending.put_all.Goals as goal
 
 pub loop-init : goal.loop-init
-loop-init g c = (tt, tt, c.requires.keeps, g.met.G.Gates.stays c.args.gates.now, c.requires.stands, ([], sent_nothing g.S.Source.meaning c.args.pieces.now c.requires.begins c.requires.first, sym (with_taken-nil _)), reads_none g.S.Source.meaning _ c.args.pieces.now.response.body.content)
+loop-init g c = (tt, tt, c.requires.keeps, g.met.G.Gates.stays c.args.gates.now, c.requires.stands, ([], sent_nothing g.S.Source.meaning c.args.pieces.now c.requires.going c.requires.first, sym (with_taken-nil _)), reads_none g.S.Source.meaning _ c.args.pieces.now.response.body.content)
 
 pub returns-then-last-clause-ended : goal.returns-then-last-clause-ended
 returns-then-last-clause-ended g c =
@@ -15,7 +15,7 @@ returns-then-last-clause-ended g c =
     let piece = c.in-Ok.piece in
     let taken = rw c.in_default.is at c.in_ok-ended.ensures.put in (
       inv.0 ++ piece ∷ [],
-      sent_all g.S.Source.meaning c.args.pieces.now c.loop.pieces c.next_piece.new.pieces inv.0 piece inv.1 c.in-Ok.ensures.piece (c.is_end-last.ensures.0 c.if-last.true),
+      sent_all g.S.Source.meaning c.args.pieces.now c.loop.pieces c.next_piece.new.pieces inv.0 piece inv.1 c.in-Ok.ensures.piece c.next_piece.ensures.begun (c.is_end-last.ensures.0 c.if-last.true),
       taken.0 ∙ ap (λ (m : LinkMeaning). with_taken m (piece ∷ [])) inv.2 ∙ with_taken-with_taken _ inv.0 (piece ∷ []),
     )
 
@@ -38,3 +38,11 @@ loop-preserved g c =
       ),
       reads_both g.S.Source.meaning _ _ _ _ _ _ (g.met.G.Gates.tells _ _ c.next_piece.ensures.leads) (g.met.G.Gates.tells _ _ put.leads) inv.6 c.next_piece.ensures.reads,
     )
+
+pub returns-in-Some-clause-ended : goal.returns-in-Some-clause-ended
+returns-in-Some-clause-ended g c =
+    let inv = c.loop.invariant.5 in
+    let put = rw c.in-Some.is at c.in_ok-ended.ensures.put in
+    let front = sent_front g.S.Source.meaning c.args.pieces.now c.loop.pieces c.next_piece.new.pieces inv.0 c.in-Ok.piece inv.1 c.in-Ok.ensures.piece c.next_piece.ensures.begun in
+    let ends = put_ends g.K.Link.meaning g.S.Source.meaning _ c.loop.io c.put.new.io c.in-Ok.piece c.in-Some.ended c.args.pieces.now.turns c.args.pieces.now.begun c.next_piece.new.pieces.response inv.0 (g.K.Link.meaning c.args.io.now.io) put front inv.2 in
+    (inv.0, ends.0, ends.1)
