@@ -1,5 +1,6 @@
--- Which media types are accepted, with their weights (RFC 9110, 12.4.2), and which of them is preferred: of those with the
--- greatest weight one of the most specific. The RFC asks a recipient for the weights alone; the rest is this project's order.
+-- Which media types are accepted, with their weights (RFC 9110, 12.4.2), and which of them is preferred: one of the greatest
+-- weight, of those one of the most specific, and of those the first with the most parameters. The order among equal weights
+-- is this project's.
 use Rattle.std.specs.Prelude.{ℕ, ◌+◌, ◌-◌, ◌*◌, ◌/◌, ◌≡◌, ◌<◌, ◌⊎◌, List, [], ◌∷◌, Bool, not, codes, filter, length, slice_get, Option, Some, None, unwrap_or, if◌then◌else◌}
 use Rattle.std.specs.Char.{is_ascii_digit}
 use Rattle.std.specs.Str.{str_eq_ignore_ascii_case}

@@ -10,7 +10,7 @@ use Rattle.rkt_media.specs.Media.{Media, Parameter}
 abbrev pub is_blank : ℕ → Bool
 is_blank b = b == space || b == tab
 
--- what may stand behind a backslash: a byte of a text, a tab or a byte past ASCII (5.6.4)
+-- what may stand behind a backslash: a tab, a space, a visible byte, or one past ASCII
 abbrev pub is_escapable : ℕ → Bool
 is_escapable b = b == tab || (nat_le space b && not (b == delete))
 
