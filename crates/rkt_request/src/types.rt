@@ -1,22 +1,22 @@
 use rkt_data::{CancellableIo, Data, Source};
 use rkt_turn::Reason;
 
-/// The types that an application chooses.
+/// The types that an application chooses. Each may be handed to another thread, and threads may share what a server manages.
 pub trait Types {
     /// Where the body of a request comes from.
-    type Source: Source;
+    type Source: Source + Send;
 
     /// Where a streamed body of a response comes from.
-    type Stream: Source;
+    type Stream: Source + Send;
 
     /// What a request's cache keeps.
-    type Cached: Copy;
+    type Cached: Copy + Send;
 
     /// What a server manages under a key.
-    type Value: Drop;
+    type Value: Drop + Send + Sync;
 
     /// Why a server shuts down.
-    type Reason: Reason;
+    type Reason: Reason + Send;
 }
 
 /// The body of a request, whose source may be cut off.

@@ -4,7 +4,7 @@ ghost use Rattle.std.specs.Prelude.{◌≡◌, IsSome};
 use rkt_data::{MemorySource, Source};
 
 /// A source that tells its bytes, and whose reads are never Pending.
-pub trait ToldSource: Source {
+pub trait ToldSource: Source + Send {
     /// It tells all its bytes.
     ghost tells: { (s : Self) → IsSome (Self.Source.meaning s).whole };
 
