@@ -6,13 +6,12 @@ use Rattle.std.specs.declared.alloc.Global.{Global}
 use Rattle.rkt_base.specs.declared.poll.Poll.{Poll}
 use Rattle.rkt_base.specs.declared.poll.Poll.TheVariants.{Ready, Pending}
 use Rattle.rkt_source.specs.Source.{Meaning}
-use Rattle.rkt_data.specs.Gathering.{cause_of}
+use Rattle.rkt_data.specs.Gathering.{Causes, cause_of}
 use Rattle.rkt_data.specs.Tap.{Ending}
 use Rattle.rkt_data.specs.declared.error.DataError.{DataError}
 use Rattle.rkt_data.specs.declared.error.DataError.TheVariants as error
 use Rattle.rkt_source.specs.declared.source.Gate.{Gate}
 use Rattle.rkt_source.specs.declared.source.SourceError.{SourceError}
-use Rattle.rkt_source.specs.declared.source.SourceError.TheVariants as source_error
 use Rattle.rkt_message.specs.Body.{BodyOf, left_of, lowered, preset_of}
 use Rattle.rkt_message.specs.Reading.{ByGate, Follows, StreamErrs, StreamWaits, Moves}
 use Rattle.rkt_message.specs.declared.content.Content.{Content}
@@ -48,12 +47,7 @@ pub record Draws {S : Type 0} (meaning : S → Meaning) (polled : S → Gate →
 
 -- when each error may come
 abbrev pub BytesErr : {S : Type 0} → (S → Meaning) → Content S → Content S → DataError → Type 0
-BytesErr meaning c d error.SourceFault = StreamErrs meaning source_error.SourceFault c d
-BytesErr meaning c d error.Gone = StreamErrs meaning source_error.Gone c d
-BytesErr meaning c d error.TimedOut = StreamErrs meaning source_error.TimedOut c d
-BytesErr meaning c d (error.NotUtf8 valid_up_to) = ⊥
-BytesErr meaning c d error.SinkFault = ⊥
-BytesErr meaning c d error.NoMemory = ⊤
+BytesErr meaning c d e = Causes (λ cause. StreamErrs meaning cause c d) ⊥ (λ valid_up_to. ⊥) ⊤ e
 
 -- why reading ended: nothing is left, an error, or a source that was Pending
 abbrev pub Stops : {S : Type 0} → (S → Meaning) → Content S → Content S → Stop → Type 0
@@ -86,12 +80,12 @@ LowersBytes c d (Ready (Ok v)) = preset_of d ≡ lowered c (length v.items)
 
 -- when a reading of text may fail with each error: NotUtf8 where all was read and is no UTF-8
 abbrev pub TextErr : {S : Type 0} → (S → Meaning) → Gathering S → Gathering S → DataError → Type 0
-TextErr meaning a b error.SourceFault = StreamErrs meaning source_error.SourceFault a.body.content b.body.content
-TextErr meaning a b error.Gone = StreamErrs meaning source_error.Gone a.body.content b.body.content
-TextErr meaning a b error.TimedOut = StreamErrs meaning source_error.TimedOut a.body.content b.body.content
-TextErr meaning a b (error.NotUtf8 valid_up_to) = ForSome (all_of meaning a.got a.body.content) (λ w. (valid_up_to ≡ utf8_valid_len w) × (IsUtf8 w → ⊥) × (left_of meaning b.body.content ≡ Some []))
-TextErr meaning a b error.SinkFault = ⊥
-TextErr meaning a b error.NoMemory = ⊤
+TextErr meaning a b e = Causes
+    (λ cause. StreamErrs meaning cause a.body.content b.body.content)
+    ⊥
+    (λ valid_up_to. ForSome (all_of meaning a.got a.body.content) (λ w. (valid_up_to ≡ utf8_valid_len w) × (IsUtf8 w → ⊥) × (left_of meaning b.body.content ≡ Some [])))
+    ⊤
+    e
 
 -- what a poll answers that gathers text: all bytes, which are UTF-8
 abbrev pub GathersText : {S : Type 0} → (S → Meaning) → Gathering S → Gathering S → Poll (Result (String Global) DataError) → Type 0
