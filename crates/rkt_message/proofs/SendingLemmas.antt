@@ -4,9 +4,8 @@ use Rattle.std.specs.List.{AllByRecursion, concat}
 use Rattle.std.specs.Option.{ForSome}
 use Rattle.rkt_source.specs.Source.{Meaning}
 use Rattle.rkt_message.specs.Body.{BodyOf, left_of}
-use Rattle.rkt_message.specs.Chunks.{IsAtEnd, ReadsChunk}
+use Rattle.rkt_message.specs.Chunks.{ReadsChunk}
 use Rattle.rkt_message.specs.Response.{ResponseOf}
-use Rattle.rkt_message.specs.Reading.{Takes}
 use Rattle.rkt_message.specs.Sending.{Gives, IsFront, IsHead, OwesBehindHead, Sending, StandsAt, TakesFull, is_done, is_end}
 use Rattle.rkt_message.specs.Sent.{IsChunk, Sent, SentBody, has_head, head_of}
 use Rattle.rkt_message.specs.declared.chunk.ChunkRead.TheVariants as chunk_read
