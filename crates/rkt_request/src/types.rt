@@ -1,22 +1,22 @@
 use rkt_data::{CancellableIo, Data, Source};
 use rkt_turn::Reason;
 
-/// The types that an application chooses. Each may be handed to another thread, and threads may share what a server manages.
+/// The types that an application chooses.
 pub trait Types {
     /// Where the body of a request comes from.
-    type Source: Source + Send;
+    type Source: Source;
 
     /// Where a streamed body of a response comes from.
-    type Stream: Source + Send;
+    type Stream: Source;
 
     /// What a request's cache keeps.
-    type Cached: Copy + Send;
+    type Cached: Copy;
 
     /// What a server manages under a key.
-    type Value: Drop + Send + Sync;
+    type Value: Drop;
 
     /// Why a server shuts down.
-    type Reason: Reason + Send;
+    type Reason: Reason;
 }
 
 /// The body of a request, whose source may be cut off.

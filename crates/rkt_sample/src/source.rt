@@ -4,7 +4,7 @@ ghost use Rattle.std.specs.Prelude.{◌≡◌, IsSome};
 use rkt_data::{MemorySource, Source};
 
 /// A source that tells its bytes, and whose reads are never Pending.
-pub trait ToldSource: Source + Send {
+pub trait ToldSource: Source {
     /// It tells all its bytes.
     ghost tells: { (s : Self) → IsSome (Self.Source.meaning s).whole };
 

@@ -4,7 +4,7 @@ ghost use Rattle.std.specs.Prelude.{◌≡◌, ℕ};
 use rkt_turn::Reason;
 
 /// The reasons of an application that `/stop` shuts down.
-pub trait StopReason: Reason + Send {
+pub trait StopReason: Reason {
     /// The word that stands once `/stop` has notified, or 0 where it tells nobody.
     ghost stop_word: { ℕ };
 
