@@ -164,6 +164,15 @@ module _ {S : Type 0} (stream : S → Meaning) where
         subst (Sent stream first.begun) (append_assoc taken (piece ∷ []) rest.0) (whole first next (taken ++ piece ∷ []) rest.0 (begun ∙ partly.begun) given (advances.front.completed rest.0 rest.1)),
       )
 
+  -- a body failed of which some pieces were sent
+  pub sent_fails : (first now : Sending S) (taken : List Piece) (last : ResponseOf S) → PartlySent stream first now taken → (now.given ≢ []) × BodyFails stream now.turns now.begun last
+      → BodyFails stream first.turns first.begun last × IsProperFront (Sent stream first.begun) taken × (taken ≢ [])
+  sent_fails first now taken last partly fault = (
+    subst (λ (n : ℕ). BodyFails stream n first.begun last) partly.turns (subst (λ (p : ResponseOf S). BodyFails stream now.turns p last) partly.begun fault.1),
+    partly.front fault.0,
+    partly.head_sent fault.0,
+  )
+
   -- the last piece was sent
   pub sent_all : (first now next : Sending S) (taken : List Piece) (piece : Piece) → PartlySent stream first now taken → Advances stream now piece next → next.begun ≡ now.begun → piece ≡ End
       → Sent stream first.begun (taken ++ piece ∷ [])

@@ -1,9 +1,10 @@
-use Rattle.std.proofs.Common.{◌∙◌, ◌++◌, ◌∷◌, [], ap, sym}
+use Rattle.std.proofs.Common.{Err, ◌∙◌, ◌++◌, ◌∷◌, [], ap, sym}
 use Rattle.rkt_link.specs.Link.{LinkMeaning, with_taken}
 use Rattle.rkt_serve.proofs.Pieces.{with_taken-nil, with_taken-with_taken}
 use Rattle.rkt_serve.proofs.BodyReads.{reads_none}
 use Rattle.rkt_serve.proofs.Cutting.{reads_both}
-use Rattle.rkt_serve.proofs.Sendings.{put_ends, sent_all, sent_front, sent_more, sent_nothing}
+use Rattle.rkt_serve.proofs.Handings.{stands_on}
+use Rattle.rkt_serve.proofs.Sendings.{put_ends, sent_all, sent_fails, sent_front, sent_more, sent_nothing}
 use Rattle.rkt_serve.proofs.sending.put_all.Goals as goal
 
 pub loop-init : goal.loop-init
@@ -39,10 +40,43 @@ loop-preserved g c =
       reads_both g.S.Source.meaning _ _ _ _ _ _ (g.met.G.Gates.tells _ _ c.next_piece.ensures.leads) (g.met.G.Gates.tells _ _ put.leads) inv.6 c.next_piece.ensures.reads,
     )
 
-pub returns-in-Some-clause-ended : goal.returns-in-Some-clause-ended
-returns-in-Some-clause-ended g c =
+pub returns-in-Some-2-clause-ended : goal.returns-in-Some-2-clause-ended
+returns-in-Some-2-clause-ended g c =
     let inv = c.loop.invariant.5 in
-    let put = rw c.in-Some.is at c.in_ok-ended.ensures.put in
+    let put = rw c.in-Some-2.is at c.in_ok-ended.ensures.put in
     let front = sent_front g.S.Source.meaning c.args.pieces.now c.loop.pieces c.next_piece.new.pieces inv.0 c.in-Ok.piece inv.1 c.in-Ok.ensures.piece c.next_piece.ensures.begun in
-    let ends = put_ends g.K.Link.meaning g.S.Source.meaning _ c.loop.io c.put.new.io c.in-Ok.piece c.in-Some.ended c.args.pieces.now.turns c.args.pieces.now.begun c.next_piece.new.pieces.response inv.0 (g.K.Link.meaning c.args.io.now.io) put front inv.2 in
+    let ends = put_ends g.K.Link.meaning g.S.Source.meaning _ c.loop.io c.put.new.io c.in-Ok.piece c.in-Some-2.ended c.args.pieces.now.turns c.args.pieces.now.begun c.next_piece.new.pieces.response inv.0 (g.K.Link.meaning c.args.io.now.io) put front inv.2 in
     (inv.0, ends.0, ends.1)
+
+pub returns-in-Err-BadHead-clause-reads : goal.returns-in-Err-BadHead-clause-reads
+returns-in-Err-BadHead-clause-reads g c =
+    reads_both g.S.Source.meaning _ _ _ _ _ _ (g.met.G.Gates.tells _ _ c.next_piece.ensures.leads) (g.met.G.Gates.tells _ _ (g.met.G.Gates.stays _)) c.loop.invariant.6 c.next_piece.ensures.reads
+
+pub returns-in-Err-BodyFault-clause-reads : goal.returns-in-Err-BodyFault-clause-reads
+returns-in-Err-BodyFault-clause-reads g c =
+    reads_both g.S.Source.meaning _ _ _ _ _ _ (g.met.G.Gates.tells _ _ c.next_piece.ensures.leads) (g.met.G.Gates.tells _ _ (g.met.G.Gates.stays _)) c.loop.invariant.6 c.next_piece.ensures.reads
+
+pub returns-in-Err-NoMemory-clause-reads : goal.returns-in-Err-NoMemory-clause-reads
+returns-in-Err-NoMemory-clause-reads g c =
+    reads_both g.S.Source.meaning _ _ _ _ _ _ (g.met.G.Gates.tells _ _ c.next_piece.ensures.leads) (g.met.G.Gates.tells _ _ (g.met.G.Gates.stays _)) c.loop.invariant.6 c.next_piece.ensures.reads
+
+pub returns-in_err-ended-clause-reads : goal.returns-in_err-ended-clause-reads
+returns-in_err-ended-clause-reads g c =
+    reads_both g.S.Source.meaning _ _ _ _ _ _ (g.met.G.Gates.tells _ _ c.next_piece.ensures.leads) (g.met.G.Gates.tells _ _ c.put.ensures.leads) c.loop.invariant.6 c.next_piece.ensures.reads
+
+pub returns-in-Some-2-clause-reads : goal.returns-in-Some-2-clause-reads
+returns-in-Some-2-clause-reads g c =
+    reads_both g.S.Source.meaning _ _ _ _ _ _ (g.met.G.Gates.tells _ _ c.next_piece.ensures.leads) (g.met.G.Gates.tells _ _ c.put.ensures.leads) c.loop.invariant.6 c.next_piece.ensures.reads
+
+pub returns-then-last-clause-reads : goal.returns-then-last-clause-reads
+returns-then-last-clause-reads g c =
+    reads_both g.S.Source.meaning _ _ _ _ _ _ (g.met.G.Gates.tells _ _ c.next_piece.ensures.leads) (g.met.G.Gates.tells _ _ c.put.ensures.leads) c.loop.invariant.6 c.next_piece.ensures.reads
+
+pub put-requires-clause-stands : goal.put-requires-clause-stands
+put-requires-clause-stands g c = stands_on _ _ c.loop.io.stage (g.met.G.Gates.tells _ _ c.next_piece.ensures.leads) c.loop.invariant.4
+
+pub returns-in-Err-BodyFault-clause-ended : goal.returns-in-Err-BodyFault-clause-ended
+returns-in-Err-BodyFault-clause-ended g c =
+    let inv = c.loop.invariant.5 in
+    let fault = c.in-Err-BodyFault.ensures.body_fault (ap (λ e. Err e) c.in-Err-BodyFault.field-0-is) in
+    (inv.0, sent_fails g.S.Source.meaning c.args.pieces.now c.loop.pieces inv.0 c.next_piece.new.pieces.response inv.1 fault, inv.2)
