@@ -3,11 +3,13 @@
 #![tactic(auto)]
 
 mod poll;
+mod refusal;
 mod seq;
 mod text;
 mod want;
 
 pub use poll::Poll;
+pub use refusal::accepted;
 pub use seq::{Bytes, Seq};
 pub use text::Text;
 pub use want::{NoMemory, Want};

@@ -25,7 +25,7 @@ use Rattle.rkt_cookie.specs.Date.{date_of, last_second, moment_text}
 use Rattle.rkt_cookie.specs.Reading.{attribute_of, seconds_of, domain_of}
 use Rattle.rkt_cookie.specs.ReadBack.{IsPlain}
 use Rattle.rkt_cookie.proofs.DateLemmas.{date_of_valid, date_of_secs}
-use Rattle.rkt_cookie.proofs.ParseLemmas.{own_digits}
+use Rattle.rkt_cookie.proofs.ParseLemmas.{all_digits, own_digits}
 use Rattle.rkt_cookie.proofs.TrimLemmas.{IsGraphic, begins_graphic, trim_graphic, trim_between}
 
 -- ---- numbers
@@ -36,7 +36,7 @@ IsDigit b = (48 ≤ b) × (b ≤ 57)
 decimal_digits : (n : ℕ) → n < 2 ^ 64 → All IsDigit (decimal n)
 decimal_digits n small =
     All-weaker (λ b. is_ascii_digit b ≡ true) IsDigit (λ b digit. (grind (arith, nat_tests), grind (arith, nat_tests))) (decimal n)
-    (AllPass-from_list_all is_ascii_digit (decimal n) (digits_decimal own_digits n small))
+    (AllPass-from_list_all is_ascii_digit (decimal n) (all_digits (decimal n) ∙ digits_decimal own_digits n small))
 
 trim_decimal : (n : ℕ) → n < 2 ^ 64 → trim (decimal n) ≡ decimal n
 trim_decimal n small =
@@ -45,7 +45,7 @@ trim_decimal n small =
 seconds_decimal : (n : ℕ) → n < 2 ^ 64 → seconds_of (decimal n) ≡ Some n
 seconds_decimal n small =
     let value = digits_value-decimal own_digits n small in
-    cond-true _ _ _ (and_from _ _ (and_from _ _ (lt-ltb 0 (length (decimal n)) (decimal_nonempty n small)) (digits_decimal own_digits n small)) (rw value (lt-ltb n _ small)))
+    cond-true _ _ _ (and_from _ _ (digits_decimal own_digits n small) (and_from _ _ (lt-ltb 0 (length (decimal n)) (decimal_nonempty n small)) (rw value (lt-ltb n _ small))))
     ∙ ap Some value
 
 -- ---- dates

@@ -2,10 +2,10 @@
 use Rattle.std.specs.Prelude.{ℕ, ◌≡◌, ◌≢◌, List, [], Bool, true, false, Option, Some, None, All, option_map}
 use Rattle.std.specs.Option.{ForSome}
 use Rattle.std.specs.Str.{trim}
+use Rattle.rkt_grammar.specs.Bytes.{semicolon}
 use Rattle.rkt_cookie.specs.Attribute.{shown_secure}
 use Rattle.rkt_cookie.specs.Cookie.{Parts}
 use Rattle.rkt_cookie.specs.Date.{dated}
-use Rattle.rkt_cookie.specs.Reading.{semicolon}
 
 -- a path or a domain that stays as it is between semicolons: with none of its own, and no white space at its ends
 abbrev pub IsPlain : List ℕ → Type 0

@@ -1,23 +1,18 @@
 -- How a cookie's text is read (RFC 6265, section 5.2), with name and value unescaped.
-use Rattle.std.specs.Prelude.{ℕ, ◌≡◌, ◌≢◌, ◌⊎◌, ◌^◌, List, [], Bool, ◌==◌, ◌&&◌, nat_lt, length, codes, Option, Some, None, option_map, true, IsUtf8, if◌then◌else◌}
-use Rattle.std.specs.List.{list_any, list_all, before_first, after_first, filter_map, last_or, slice_split}
-use Rattle.std.specs.Char.{is_ascii_digit}
+use Rattle.std.specs.Prelude.{ℕ, ◌≡◌, ◌≢◌, ◌⊎◌, List, [], Bool, ◌==◌, length, codes, Option, Some, None, option_map, true, IsUtf8, if◌then◌else◌}
+use Rattle.std.specs.List.{list_any, before_first, after_first, filter_map, last_or, slice_split}
 use Rattle.std.specs.Str.{trim, str_eq_ignore_ascii_case}
 use Rattle.std.specs.Str.Parse.{digits_value}
 use Rattle.httpdate.specs.Date.{parse_secs}
 use Rattle.percent_encoding.specs.Percent.{percent_decode}
+use Rattle.rkt_grammar.specs.Bytes.{semicolon, equals_sign}
+use Rattle.rkt_grammar.specs.Numbers.{is_number}
 use Rattle.rkt_cookie.specs.declared.same_site.SameSite.{SameSite}
 use Rattle.rkt_cookie.specs.declared.same_site.SameSite.TheVariants as site
 use Rattle.rkt_cookie.specs.declared.attribute.Attribute.{Attribute}
 use Rattle.rkt_cookie.specs.declared.attribute.Attribute.TheVariants as attribute
 use Rattle.rkt_cookie.specs.Attribute.{with_attribute}
 use Rattle.rkt_cookie.specs.Cookie.{Parts}
-
-abbrev pub semicolon : ℕ
-semicolon = 59
-
-abbrev pub equals_sign : ℕ
-equals_sign = 61
 
 abbrev pub is_semicolon : ℕ → Bool
 is_semicolon b = b == semicolon
@@ -63,12 +58,8 @@ site_of value =
     else (if str_eq_ignore_ascii_case value (codes "Lax") then Some site.Lax
     else (if str_eq_ignore_ascii_case value (codes "None") then Some site.None else None))
 
--- one decimal digit or more, of a number below 2 ^ 64
-abbrev pub is_number : List ℕ → Bool
-is_number digits = nat_lt 0 (length digits) && list_all is_ascii_digit digits && nat_lt (digits_value 10 digits) (2 ^ 64)
-
 abbrev pub seconds_of : List ℕ → Option ℕ
-seconds_of digits = if is_number digits then Some (digits_value 10 digits) else None
+seconds_of digits = if is_number 64 digits then Some (digits_value 10 digits) else None
 
 -- a domain that is not empty
 abbrev pub domain_of : List ℕ → Option (List ℕ)

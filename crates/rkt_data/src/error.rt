@@ -1,7 +1,4 @@
 //! Why a call that reads a body gave no value.
-ghost use Rattle.std.specs.Prelude.{◌≡◌};
-ghost use Rattle.rkt_data.specs.Gathering.{data_error_of};
-
 use rkt_source::SourceError;
 use thiserror::Error;
 
@@ -28,12 +25,17 @@ pub enum DataError {
     NoMemory,
 }
 
-pub(crate) fn error_of(e: SourceError) -> DataError
-    ensures { result ≡ data_error_of e }
-{
-    match e {
-        SourceError::SourceFault => DataError::SourceFault,
-        SourceError::Gone => DataError::Gone,
-        SourceError::TimedOut => DataError::TimedOut,
+impl From<SourceError> for DataError {
+    ghost use Rattle.std.specs.Prelude.{◌≡◌};
+    ghost use Rattle.rkt_data.specs.Gathering.{data_error_of};
+
+    ghost from_gives = { λ e error. error ≡ data_error_of e };
+
+    fn from(e: SourceError) -> DataError {
+        match e {
+            SourceError::SourceFault => DataError::SourceFault,
+            SourceError::Gone => DataError::Gone,
+            SourceError::TimedOut => DataError::TimedOut,
+        }
     }
 }

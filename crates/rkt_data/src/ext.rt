@@ -2,7 +2,7 @@
 ghost use Rattle.std.specs.Prelude.{◌≡◌, false, max};
 ghost use Rattle.rkt_base.specs.declared.poll.Poll.{Poll};
 
-use crate::error::{DataError, error_of};
+use crate::error::DataError;
 use rkt_base::Poll;
 use rkt_source::{Gate, Source};
 use std::alloc::Global;
@@ -82,7 +82,7 @@ impl<R: Source> ReaderStream<R> {
             }
             Poll::Ready(Err(e)) => {
                 self.ended = true;
-                Poll::Ready(Some(Err(error_of(e))))
+                Poll::Ready(Some(Err(DataError::from(e))))
             }
             Poll::Pending => Poll::Pending,
         }

@@ -9,7 +9,7 @@ ghost use Rattle.rkt_data.specs.Tap.{ByGate};
 use crate::capped::{Capped, N};
 use crate::data_stream::DataStream;
 use crate::drain::{Drained, drain, resume};
-use crate::error::{DataError, error_of};
+use crate::error::DataError;
 use crate::pipe::Pipe;
 use rkt_base::Poll;
 use rkt_source::{Gate, Source};
@@ -123,12 +123,12 @@ fn finish<S: Source>(
 {
     let (count, drained) = drain(pipe, gate, room, count);
     let finished = match drained {
-        Drained::Failed(e) => Finished::Failed(error_of(e)),
+        Drained::Failed(e) => Finished::Failed(DataError::from(e)),
         Drained::Waiting => Finished::Waiting,
         Drained::NoMemory => Finished::Failed(DataError::NoMemory),
         Drained::End => match pipe.close(gate) {
             Poll::Pending => Finished::Waiting,
-            Poll::Ready(Err(e)) => Finished::Failed(error_of(e)),
+            Poll::Ready(Err(e)) => Finished::Failed(DataError::from(e)),
             Poll::Ready(Ok(complete)) => Finished::Bytes(complete),
         },
     };

@@ -10,7 +10,7 @@ ghost use Rattle.rkt_data.specs.Tap.{ByGate};
 use crate::capped::{Capped, N};
 use crate::data_stream::DataStream;
 use crate::drain::{Drained, drain};
-use crate::error::{DataError, error_of};
+use crate::error::DataError;
 use crate::pipe::Pipe;
 use rkt_base::Poll;
 use rkt_source::{Gate, Source};
@@ -101,7 +101,7 @@ impl<S: Source> IntoString<S> {
                         Poll::Pending
                     }
                     Poll::Ready(Err(e)) => {
-                        let e = error_of(e);
+                        let e = DataError::from(e);
                         self.failed = Some(e);
                         Poll::Ready(Err(e))
                     }
@@ -157,7 +157,7 @@ fn read_bytes<S: Source>(pipe: &mut Pipe<S>, gate: Gate, mut room: Vec<u8>, coun
 {
     let (count, drained) = drain(pipe, gate, &mut room, count);
     match drained {
-        Drained::Failed(e) => Texted::Failed(error_of(e)),
+        Drained::Failed(e) => Texted::Failed(DataError::from(e)),
         Drained::Waiting => Texted::Waiting(room, count),
         Drained::NoMemory => Texted::Failed(DataError::NoMemory),
         Drained::End => {

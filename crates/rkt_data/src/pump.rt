@@ -5,7 +5,7 @@ ghost use Rattle.rkt_data.specs.Sending.{Pumps, PumpStops, SendStops, between, p
 ghost use Rattle.rkt_source.specs.Sink.{SinkKeeps, FeedsTo, Gains};
 ghost use Rattle.rkt_data.specs.Stream.{TakesAtMost};
 
-use crate::error::{DataError, error_of};
+use crate::error::DataError;
 use crate::pipe::Pipe;
 use rkt_base::{NoMemory, Poll};
 use rkt_source::{Gate, Sink, SinkError, Source};
@@ -65,7 +65,7 @@ pub(crate) fn pump<S: Source, K: Sink>(
                 from = 0;
                 to = k;
             }
-            Poll::Ready(Err(e)) => return (0, 0, Pumped::Failed(error_of(e))),
+            Poll::Ready(Err(e)) => return (0, 0, Pumped::Failed(DataError::from(e))),
             Poll::Pending => return (0, 0, Pumped::Waiting),
         }
     }

@@ -8,7 +8,7 @@ ghost use Rattle.rkt_data.specs.Stream.{Follows, PullsAtMost, TakesAtMost};
 
 use crate::capped::N;
 use crate::data_stream::DataStream;
-use crate::error::{DataError, error_of};
+use crate::error::DataError;
 use crate::pump::Pumped;
 use crate::sender::Sender;
 use rkt_base::Poll;
@@ -95,7 +95,7 @@ impl<S: Source, K: Sink> StreamTo<S, K> {
                 match closed {
                     Poll::Pending => Poll::Pending,
                     Poll::Ready(Err(e)) => {
-                        let e = error_of(e);
+                        let e = DataError::from(e);
                         self.failed = Some(e);
                         Poll::Ready(Err(e))
                     }

@@ -3,3 +3,4 @@ pub mod OtherGroups
 pub mod Places
 pub mod Outcomes
 pub mod Pages
+pub mod ReadingLemmas

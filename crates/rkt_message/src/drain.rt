@@ -1,11 +1,10 @@
 //! Reads all that is left of a body.
 ghost use Rattle.std.specs.Prelude.{◌≡◌, ◌≤◌, ◌<◌, MatchOption, OnOk, length, take, vec_len};
-ghost use Rattle.rkt_data.specs.Gathering.{data_error_of};
 ghost use Rattle.rkt_message.specs.Whole.{Draws, Stops, end_if_stopped, stop_end};
 
 use crate::body::Body;
 use rkt_base::{NoMemory, Poll};
-use rkt_data::{DataError, Gate, Source, SourceError};
+use rkt_data::{DataError, Gate, Source};
 use std::alloc::Global;
 
 /// Why reading stopped.
@@ -79,21 +78,11 @@ fn pour<S: Source>(
         match body.poll_read(gate, &mut room[n..]) {
             Poll::Ready(Ok(0)) => return (n, Some(Stop::End)),
             Poll::Ready(Ok(k)) => n += k,
-            Poll::Ready(Err(e)) => return (n, Some(Stop::Failed(error_of(e)))),
+            Poll::Ready(Err(e)) => return (n, Some(Stop::Failed(DataError::from(e)))),
             Poll::Pending => return (n, Some(Stop::Waiting)),
         }
     }
     (n, None)
-}
-
-fn error_of(e: SourceError) -> DataError
-    ensures { result ≡ data_error_of e }
-{
-    match e {
-        SourceError::SourceFault => DataError::SourceFault,
-        SourceError::Gone => DataError::Gone,
-        SourceError::TimedOut => DataError::TimedOut,
-    }
 }
 
 // Makes room for at least one byte more, by doubling the buffer.

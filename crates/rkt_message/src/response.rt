@@ -2,13 +2,13 @@
 ghost use Rattle.std.specs.Option.{ForSome};
 ghost use Rattle.std.specs.Prelude.{◌≡◌, ◌+◌, List, ℕ, None, Some, IfOk, OnOk, OnErr, codes, drop, is_some, max, option_map, unwrap_or};
 ghost use Rattle.rkt_http.specs.Headers.{added, first_value, group_of, removed, replaced, values_of};
-ghost use Rattle.rkt_http.specs.Reading.{MaybeReadAs};
+ghost use Rattle.rkt_http.specs.Reading.{MaybeReadAs, ReadAs};
 ghost use Rattle.rkt_media.specs.MediaText.{SpellsMedia};
 ghost use Rattle.rkt_message.specs.declared.content.Content.{Content};
 
 use crate::body::Body;
 use crate::builder::Builder;
-use rkt_base::{NoMemory, Want};
+use rkt_base::{NoMemory, Want, accepted};
 use rkt_cookie::Cookie;
 use rkt_data::Source;
 use rkt_http::{ContentType, Header, HeaderMap, Status};
@@ -22,6 +22,13 @@ pub struct Response<S> {
     status: Option<Status>,
     headers: HeaderMap,
     pub(crate) body: Body<S>,
+}
+
+/// The content type that a text spells.
+fn read_content_type(alloc: Global, text: &str) -> Result<Option<ContentType>, NoMemory>
+    ensures { IfOk result (ReadAs SpellsMedia text.now) }
+{
+    accepted(ContentType::parse(alloc, text))
 }
 
 impl<S> Model for Response<S> {
@@ -93,11 +100,7 @@ impl<S: Source> Response<S> {
     {
         match self.headers.get_one("Content-Type") {
             None => Ok(None),
-            Some(text) => match ContentType::parse(self.alloc, text) {
-                Ok(content_type) => Ok(Some(content_type)),
-                Err(Want::Refused(_)) => Ok(None),
-                Err(Want::NoMemory) => Err(AllocError),
-            },
+            Some(text) => read_content_type(self.alloc, text),
         }
     }
 

@@ -10,7 +10,7 @@ ghost use Rattle.rkt_request.specs.Seen.{MaybeReadAs, ReadAs, first_value};
 
 use crate::bad::Bad;
 use crate::request_headers::RequestHeaders;
-use rkt_base::{Bytes, NoMemory, Seq, Text, Want};
+use rkt_base::{Bytes, NoMemory, Seq, Text, accepted};
 use rkt_cookie::{Cookie, CookieJar};
 use rkt_http::{Header, HeaderMap, Host, Method, Origin};
 use std::alloc::{AllocError, Global};
@@ -19,11 +19,7 @@ use std::alloc::{AllocError, Global};
 fn read_target(alloc: Global, target: &str) -> Result<Option<Origin>, NoMemory>
     ensures { IfOk result (ReadAs (Spells OfRequest) target.now) }
 {
-    match Origin::parse(alloc, target) {
-        Ok(origin) => Ok(Some(origin)),
-        Err(Want::Refused(_)) => Ok(None),
-        Err(Want::NoMemory) => Err(AllocError),
-    }
+    accepted(Origin::parse(alloc, target))
 }
 
 /// An origin, or else `/`.
@@ -91,17 +87,20 @@ fn read_headers(alloc: Global, headers: &[(Text, Bytes)]) -> Result<HeaderMap, N
     Ok(map)
 }
 
+/// The host that a text spells.
+fn read_host(alloc: Global, text: &str) -> Result<Option<Host>, NoMemory>
+    ensures { IfOk result (ReadAs SpellsHost text.now) }
+{
+    accepted(Host::parse(alloc, text))
+}
+
 /// The host that the first Host header spells.
-fn read_host(alloc: Global, headers: &HeaderMap) -> Result<Option<Host>, NoMemory>
+fn first_host(alloc: Global, headers: &HeaderMap) -> Result<Option<Host>, NoMemory>
     ensures { IfOk result (MaybeReadAs SpellsHost (first_value headers.now (codes "Host"))) }
 {
-    let Some(text) = headers.get_one("Host") else {
-        return Ok(None);
-    };
-    match Host::parse(alloc, text) {
-        Ok(host) => Ok(Some(host)),
-        Err(Want::Refused(_)) => Ok(None),
-        Err(Want::NoMemory) => Err(AllocError),
+    match headers.get_one("Host") {
+        Some(text) => read_host(alloc, text),
+        None => Ok(None),
     }
 }
 
@@ -138,11 +137,7 @@ fn add_cookie(alloc: Global, jar: &mut CookieJar, piece: &str) -> Result<(), NoM
 fn read_cookie(alloc: Global, piece: &str) -> Result<Option<Cookie>, NoMemory>
     ensures { IfOk result (ReadAs Reads piece.now) }
 {
-    match Cookie::parse_encoded(alloc, piece) {
-        Ok(cookie) => Ok(Some(cookie)),
-        Err(Want::Refused(_)) => Ok(None),
-        Err(Want::NoMemory) => Err(AllocError),
-    }
+    accepted(Cookie::parse_encoded(alloc, piece))
 }
 
 /// What the headers of a head say: those whose values are texts, the host, and the cookies.
@@ -155,7 +150,7 @@ pub(crate) fn read_fields(
     ensures cookies { IfOk result (λ said. IsJar (values_of (headers_of headers.now) (codes "Cookie")) said.2) }
 {
     let map = read_headers(alloc, headers)?;
-    let host = read_host(alloc, &map)?;
+    let host = first_host(alloc, &map)?;
     let jar = read_jar(alloc, &map)?;
     let headers = RequestHeaders::new(alloc, map)?;
     Ok((headers, host, jar))

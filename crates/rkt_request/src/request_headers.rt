@@ -9,9 +9,9 @@ ghost use Rattle.rkt_media.specs.MediaText.{SpellsMedia};
 ghost use Rattle.rkt_media.specs.declared.known.Known.TheVariants.{Any};
 ghost use Rattle.rkt_request.specs.Seen.{IsAccept, IsContentType, ReadAs, first_value};
 
-use rkt_base::{NoMemory, Want};
+use rkt_base::{NoMemory, accepted};
 use rkt_http::{Accept, ContentType, Header, HeaderMap, Known, MediaType};
-use std::alloc::{AllocError, Global};
+use std::alloc::Global;
 use std::marker::Model;
 
 /// A header map, of which the first Content-Type and the first Accept are each read once, when they change.
@@ -40,22 +40,14 @@ impl Model for RequestHeaders {
 fn read_content_type(alloc: Global, text: &str) -> Result<Option<ContentType>, NoMemory>
     ensures { IfOk result (ReadAs SpellsMedia text.now) }
 {
-    match ContentType::parse(alloc, text) {
-        Ok(content_type) => Ok(Some(content_type)),
-        Err(Want::Refused(_)) => Ok(None),
-        Err(Want::NoMemory) => Err(AllocError),
-    }
+    accepted(ContentType::parse(alloc, text))
 }
 
 /// The media types that a text spells.
 fn read_accept(alloc: Global, text: &str) -> Result<Option<Accept>, NoMemory>
     ensures { IfOk result (ReadAs SpellsAccept text.now) }
 {
-    match Accept::parse(alloc, text) {
-        Ok(accept) => Ok(Some(accept)),
-        Err(Want::Refused(_)) => Ok(None),
-        Err(Want::NoMemory) => Err(AllocError),
-    }
+    accepted(Accept::parse(alloc, text))
 }
 
 fn first_content_type(alloc: Global, headers: &HeaderMap) -> Result<Option<ContentType>, NoMemory>

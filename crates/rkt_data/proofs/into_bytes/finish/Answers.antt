@@ -7,7 +7,7 @@ use Rattle.rkt_data.proofs.into_bytes.finish.Goals as goal
 pub returns-in-Failed-clause-by_gate : goal.returns-in-Failed-clause-by_gate
 returns-in-Failed-clause-by_gate g c =
     let draws = rw c.in-Failed.is at c.drain-count.ensures.draws in
-    ByGate-caused g.S.Source.polled c.args.gate c.in-Failed.e c.error_of.result _ _ c.error_of.ensures draws.by_gate
+    ByGate-caused g.S.Source.polled c.args.gate c.in-Failed.e c.from.result _ _ c.from.ensures draws.by_gate
 
 pub returns-in-Waiting-clause-by_gate : goal.returns-in-Waiting-clause-by_gate
 returns-in-Waiting-clause-by_gate g c = let draws = rw c.in-Waiting.is at c.drain-count.ensures.draws in draws.by_gate
@@ -24,7 +24,7 @@ pub returns-in-Ready-Err-clause-by_gate : goal.returns-in-Ready-Err-clause-by_ga
 returns-in-Ready-Err-clause-by_gate g c =
     let draws = rw c.in-End.is at c.drain-count.ensures.draws in
     let closed = rw c.in-Ready-Err.field-0-is at c.in-Ready-Err.ensures.by_gate in
-    ByGate-caused g.S.Source.polled c.args.gate c.in-Ready-Err.e _ _ _ c.error_of-in-Ready-Err.ensures
+    ByGate-caused g.S.Source.polled c.args.gate c.in-Ready-Err.e _ _ _ c.from-in-Ready-Err.ensures
     (ByGate-trans g.S.Source.polled c.args.gate (Ready (Err c.in-Ready-Err.e)) _ c.drain-count.new.pipe.opened.tap _ draws.by_gate closed)
 
 pub returns-in-Ready-Ok-clause-by_gate : goal.returns-in-Ready-Ok-clause-by_gate

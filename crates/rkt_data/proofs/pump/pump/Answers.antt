@@ -52,9 +52,9 @@ returns-in-Ready-Err-clause-pumps g c =
     let all = rw c.in-All.is at c.send-n.ensures.stops in
     let feeds = rw c.in-All.is at c.send-n.ensures.feeds in
     let none : between (c.loop-e.from + c.send-n.result.0) c.loop-e.to c.loop-e.buf ≡ [] = between-none (c.loop-e.from + c.send-n.result.0) c.loop-e.to c.loop-e.buf (omega (arith, all, c.loop-e.invariant.1, c.loop-e.invariant.2, length-take (c.loop-e.to - c.loop-e.from) (drop c.loop-e.from c.loop-e.buf), length-drop c.loop-e.from c.loop-e.buf)) in
-    Pumps-read (Ready (Err c.in-Ready-Err.e)) (Ready (Err c.error_of.result)) [] (Pumps-sent (Ready (Ok tt)) (Ready (Ok tt)) c.loop-e.from c.loop-e.to c.send-n.result.0 c.loop-e.buf c.loop-e.invariant.0 (omega (arith, c.send-n.ensures.within, c.loop-e.invariant.1, length-take (c.loop-e.to - c.loop-e.from) (drop c.loop-e.from c.loop-e.buf))) c.send-n.ensures.keeps c.send-n.ensures.gains feeds (λ b m. m)) none refl c.read.ensures.follows c.read.ensures.bound c.read.ensures.probed (Gained-none (a.0))
+    Pumps-read (Ready (Err c.in-Ready-Err.e)) (Ready (Err c.from.result)) [] (Pumps-sent (Ready (Ok tt)) (Ready (Ok tt)) c.loop-e.from c.loop-e.to c.send-n.result.0 c.loop-e.buf c.loop-e.invariant.0 (omega (arith, c.send-n.ensures.within, c.loop-e.invariant.1, length-take (c.loop-e.to - c.loop-e.from) (drop c.loop-e.from c.loop-e.buf))) c.send-n.ensures.keeps c.send-n.ensures.gains feeds (λ b m. m)) none refl c.read.ensures.follows c.read.ensures.bound c.read.ensures.probed (Gained-none (a.0))
     (ByGate-once g.S.Source.polled c.args.gate (Ready (Err c.in-Ready-Err.e)) c.loop-e.pipe.opened.tap c.read.new.self.opened.tap asks)
-    (λ b m. CallsAs-source g.S.Source.polled g.K.Sink.written c.args.gate c.in-Ready-Err.e c.error_of.result _ _ _ _ b c.error_of.ensures m)
+    (λ b m. CallsAs-source g.S.Source.polled g.K.Sink.written c.args.gate c.in-Ready-Err.e c.from.result _ _ _ _ b c.from.ensures m)
 
 pub returns-in-Pending-clause-pumps : goal.returns-in-Pending-clause-pumps
 returns-in-Pending-clause-pumps g c =

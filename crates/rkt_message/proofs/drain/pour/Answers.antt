@@ -31,12 +31,12 @@ pub returns-in-Ready-Err-clause-draws : goal.returns-in-Ready-Err-clause-draws
 returns-in-Ready-Err-clause-draws g c =
     let a = rw c.in-Ready-Err.field-0-is at c.in-Ready-Err.ensures.answer in
     let asks = rw c.in-Ready-Err.field-0-is at c.in-Ready-Err.ensures.by_gate in
-    Draws-nothing c.loop-n.n c.loop-n.room c.poll_read.new.buf _ c.loop-n.invariant.0 c.loop-n.invariant.1 c.poll_read.ensures.follows c.poll_read.ensures.preset (ByGate-caused g.S.Source.polled c.args.gate c.in-Ready-Err.e c.error_of.result _ _ c.error_of.ensures asks) a.1 a.2
+    Draws-nothing c.loop-n.n c.loop-n.room c.poll_read.new.buf _ c.loop-n.invariant.0 c.loop-n.invariant.1 c.poll_read.ensures.follows c.poll_read.ensures.preset (ByGate-caused g.S.Source.polled c.args.gate c.in-Ready-Err.e c.from.result _ _ c.from.ensures asks) a.1 a.2
 
 pub returns-in-Ready-Err-clause-stops : goal.returns-in-Ready-Err-clause-stops
 returns-in-Ready-Err-clause-stops g c =
     let a = rw c.in-Ready-Err.field-0-is at c.in-Ready-Err.ensures.answer in
-    rw c.error_of.ensures
+    rw c.from.ensures
     (BytesErr-after g.S.Source.meaning c.args.gate.tripped _ c.args.body.now.content c.loop-n.body.content c.poll_read.new.self.content c.loop-n.invariant.0.follows.content
     (BytesErr-read g.S.Source.meaning c.in-Ready-Err.e c.loop-n.body.content c.poll_read.new.self.content a.0))
 

@@ -1,4 +1,6 @@
+use Rattle.rkt_media.specs.AcceptText.{SpellsAccept}
+use Rattle.rkt_http.proofs.ReadingLemmas.{ReadAs-accepted}
 use Rattle.rkt_request.proofs.request_headers.read_accept.Goals as goal
 
-pub returns-in-Err-Refused : goal.returns-in-Err-Refused
-returns-in-Err-Refused c = λ entries spelled. let refused = rw c.in-Err-Refused.field-0-is at c.in-Err-Refused.ensures.refused in refused.outside (entries, spelled)
+pub returns : goal.returns
+returns c = ReadAs-accepted SpellsAccept c.args.text.now _ _ c.accepted.ensures.value c.accepted.ensures.refused c.accepted.ensures.no_memory c.parse.ensures.accepted c.parse.ensures.complete

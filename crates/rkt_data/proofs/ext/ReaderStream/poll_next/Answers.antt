@@ -25,7 +25,7 @@ pub returns-in-Ready-Err-clause-by_gate : goal.returns-in-Ready-Err-clause-by_ga
 returns-in-Ready-Err-clause-by_gate g c = λ unended.
     let room : 0 < length c.as_mut_slice.result.now = grind (arith, c.as_mut_slice.ensures.len, c.self.invariant) in
     let read = rw c.in-Ready-Err.field-0-is at c.in-Ready-Err.ensures.polled in
-    rw (← c.self.view_is) (caused g.R.Source.polled c.args.gate c.in-Ready-Err.e c.error_of.result _ _ c.error_of.ensures (read room))
+    rw (← c.self.view_is) (caused g.R.Source.polled c.args.gate c.in-Ready-Err.e c.from.result _ _ c.from.ensures (read room))
 
 pub returns-in-Pending-clause-by_gate : goal.returns-in-Pending-clause-by_gate
 returns-in-Pending-clause-by_gate g c = λ unended.

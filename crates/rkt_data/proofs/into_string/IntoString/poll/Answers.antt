@@ -43,7 +43,7 @@ returns-in-Ready-Err-clause-by_gate g c = λ none.
     let texts = rw c.in-Text.is at c.read_text.ensures.texts in
     let closed = rw c.in-Ready-Err.field-0-is at c.in-Ready-Err.ensures.by_gate in
     rw (← c.self.view_is)
-    (ByGate-caused g.S.Source.polled c.args.gate c.in-Ready-Err.e _ _ _ c.error_of-e.ensures
+    (ByGate-caused g.S.Source.polled c.args.gate c.in-Ready-Err.e _ _ _ c.from-e.ensures
     (ByGate-trans g.S.Source.polled c.args.gate (Ready (Err c.in-Ready-Err.e)) _ c.read_text.new.pipe.opened.tap _ texts.0.by_gate closed))
 
 pub returns-in-Ready-Ok-clause-by_gate : goal.returns-in-Ready-Ok-clause-by_gate
@@ -59,7 +59,7 @@ returns-in-Ready-Err-clause-answer g c = λ unfailed.
     let texts = rw c.in-Text.is at c.read_text.ensures.texts in
     let closes = rw c.in-Ready-Err.field-0-is at c.in-Ready-Err.ensures.closes in
     let within : c.read_text.new.pipe.opened.given ≤ c.read_text.new.pipe.opened.limit = omega (arith, c.close.ensures.within, c.close.ensures.given, c.close.ensures.follows.limit) in
-    rw (c.error_of-e.ensures, ← c.self.view_is) (
+    rw (c.from-e.ensures, ← c.self.view_is) (
       refl,
       undone,
       TextErr-closed c.self.inside.pipe.opened c.read_text.new.pipe.opened c.close.new.self.opened c.self.inside.from _ c.in-Ready-Err.e (Gathered-drawn held.0 texts.0) texts.0.follows texts.1 within (rw c.as_str.ensures.value at c.as_str.utf8)

@@ -22,8 +22,8 @@ returns-in-Ready-Err-clause-calls g c = λ none.
     let answered = rw c.in-Ready-Err.is at c.close-closed.ensures.by_gate in
     let closed = rw field at answered in
     rw (← c.self.view_is, c.close-closed.ensures.given, c.close-closed.ensures.from, c.close-closed.ensures.pending, c.close-closed.ensures.sink)
-    (SendsNext-closed g.S.Source.meaning g.S.Source.polled g.K.Sink.written c.args.gate (Ready (Err c.in-Ready-Err.e)) (Ready (Err c.error_of-e.result)) _ c.run.new.self.piped.opened _ _ _ _ _ c.in-Done.ensures.calls closed
-    (λ b m. CallsAs-source g.S.Source.polled g.K.Sink.written c.args.gate c.in-Ready-Err.e c.error_of-e.result _ _ _ _ b c.error_of-e.ensures m))
+    (SendsNext-closed g.S.Source.meaning g.S.Source.polled g.K.Sink.written c.args.gate (Ready (Err c.in-Ready-Err.e)) (Ready (Err c.from-e.result)) _ c.run.new.self.piped.opened _ _ _ _ _ c.in-Done.ensures.calls closed
+    (λ b m. CallsAs-source g.S.Source.polled g.K.Sink.written c.args.gate c.in-Ready-Err.e c.from-e.result _ _ _ _ b c.from-e.ensures m))
 
 pub returns-in-Ready-Ok-clause-calls : goal.returns-in-Ready-Ok-clause-calls
 returns-in-Ready-Ok-clause-calls g c = λ none.
