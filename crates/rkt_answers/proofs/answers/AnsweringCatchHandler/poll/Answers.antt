@@ -1,7 +1,7 @@
 use Rattle.std.proofs.Common.{inl, refl, subst, ◌≡◌, ◌++◌, ◌∷◌, []}
 use Rattle.rkt_http.specs.declared.status.Status.{Status}
 use Rattle.rkt_answers.proofs.Values.{catch_polled}
-use Rattle.rkt_router.proofs.answers.AnsweringCatchHandler.poll.Goals as goal
+use Rattle.rkt_answers.proofs.answers.AnsweringCatchHandler.poll.Goals as goal
 
 pub returns-clause-polls : goal.returns-clause-polls
 returns-clause-polls g c = λ status before gates n begun.

@@ -1,6 +1,6 @@
 use Rattle.std.proofs.Common.{inl, refl}
 use Rattle.rkt_answers.proofs.Values.{grown_on, responds_in}
-use Rattle.rkt_router.proofs.answers.AnsweringHandler.poll.Goals as goal
+use Rattle.rkt_answers.proofs.answers.AnsweringHandler.poll.Goals as goal
 
 pub returns-in-Ok-from-clause-polls : goal.returns-in-Ok-from-clause-polls
 returns-in-Ok-from-clause-polls g c = λ body before gates n begun.

@@ -1,7 +1,7 @@
 use Rattle.std.proofs.Common.{subst, ◌++◌, ◌∷◌, []}
 use Rattle.rkt_http.specs.declared.status.Status.{Status}
 use Rattle.rkt_answers.proofs.Values.{catch_polled, grown_on}
-use Rattle.rkt_router.proofs.answers.AnsweringWithCatchHandler.poll.Goals as goal
+use Rattle.rkt_answers.proofs.answers.AnsweringWithCatchHandler.poll.Goals as goal
 
 pub returns-in_default-clause-polls : goal.returns-in_default-clause-polls
 returns-in_default-clause-polls g c = λ status before gates n begun. (begun.0, grown_on before c.args.ctx.now c.catch.new.ctx begun.1 c.in_default.ensures.grows, begun.2)

@@ -1,5 +1,5 @@
 use Rattle.rkt_answers.proofs.Values.{grown_on, responds_in}
-use Rattle.rkt_router.proofs.answers.AnsweringWithHandler.poll.Goals as goal
+use Rattle.rkt_answers.proofs.answers.AnsweringWithHandler.poll.Goals as goal
 
 pub returns-in_default-clause-polls : goal.returns-in_default-clause-polls
 returns-in_default-clause-polls g c = λ body before gates n begun. (begun.0, grown_on before c.args.ctx.now c.answer.new.ctx begun.1 c.in_default.ensures.grows, begun.2)
