@@ -4,7 +4,7 @@ ghost use Rattle.rkt_request.specs.Lent.{MayGrow};
 use crate::error::CaseError;
 use crate::setting::Place;
 use rkt_base::{NoMemory, Want};
-use rkt_data::{MemorySource, Source};
+use rkt_data::{Gate, MemorySource, Source};
 use rkt_http::{InvalidUri, Method, Outcome, Status};
 use rkt_life::{App, DefaultCatcher, Fairings, Ignite, NoFairing, Parts, Rocket, TablesOf};
 use rkt_message::Response;
@@ -13,7 +13,8 @@ use rkt_router::{Handler, Route, RouteOutcome, Router, Step};
 use rkt_turn::Reason;
 use std::alloc::Global;
 
-/// Answers with its own text, once it was Pending so often. One that says `stop` notifies the wire in its first poll.
+/// Answers with its own text, once it was Pending so often. One that says `stop` or `trip` notifies the wire in its first poll, and
+/// the latter answers with the word of the trip that its last Gate shows.
 #[derive(Drop)]
 pub struct Saying {
     text: String,
@@ -30,12 +31,23 @@ fn page<S: Source>(alloc: Global, text: &str) -> Result<Response<S>, NoMemory> {
     Ok(response)
 }
 
-/// Notifies the wire, of the one reason, where that is what is said.
+/// Notifies the wire, of the one reason, where what is said asks for it.
 fn notify(text: &str, ctx: &mut Ctx<Site>)
     ensures grows { MayGrow ctx.old ctx.new }
 {
-    if text == "stop" {
+    if text == "stop" || text == "trip" {
         ctx.shutdown().notify(Stopped);
+    }
+}
+
+/// The page of what is said under a Gate.
+fn said<S: Source>(alloc: Global, text: &str, gate: Gate) -> Result<Response<S>, NoMemory> {
+    match gate.tripped {
+        Some(word) if text == "trip" => {
+            let text = format!(in alloc; "trip {word}")?;
+            page(alloc, text.as_str())
+        }
+        _ => page(alloc, text),
     }
 }
 
@@ -66,7 +78,7 @@ impl Handler<Site> for Saying {
             *task += 1;
             return Step::Pending;
         }
-        match page(alloc, self.text.as_str()) {
+        match said(alloc, self.text.as_str(), ctx.gate()) {
             Ok(response) => Step::Done(Outcome::Success(response)),
             Err(_) => Step::Starved,
         }

@@ -3,8 +3,9 @@
 //! An empty line and one that begins with `#` are headings. What is no line of these is answered with `? line`.
 //!
 //!     routes PATH=TEXT PATH=TEXT*WAITS ..  from here on the application has these routes of GET, each of which says its
-//!                                          text, once it was Pending so often; one that says `stop` notifies the wire in
-//!                                          its first poll
+//!                                          text, once it was Pending so often; one that says `stop` or `trip` notifies the
+//!                                          wire in its first poll, and the latter answers with the word of the trip that
+//!                                          its last Gate shows
 //!     header NAME: VALUE                   from here on every request has this header; without one, it has none
 //!     faults SENDS POLLS                   from here on these sends of each link fail, and these polls of a listener (from 0)
 //!     exchange MOMENT METHOD TARGET        one exchange at this moment: the status, the content type, the size of the

@@ -1,5 +1,5 @@
 -- The entries of a launch over the sample tell of the requests that its links ask.
-use Rattle.std.proofs.Common.{◌≡◌, ◌<◌, ◌++◌, ◌⊎◌, inl, inr, ℕ, List, [], ◌∷◌, Bool, true, false, ◌==◌, IsSome, Option, Some, if◌then◌else◌, length, map, min, slice_get, take, refl, ap, ◌∙◌, sym, subst, arith}
+use Rattle.std.proofs.Common.{◌≡◌, ◌<◌, ◌++◌, ◌⊎◌, inl, inr, ℕ, List, [], ◌∷◌, Bool, true, false, ◌==◌, IsSome, IsTrue, Option, Some, if◌then◌else◌, length, map, min, slice_get, take, refl, ap, ◌∙◌, sym, subst, arith}
 use Rattle.std.specs.Option.{ForSome, option_map}
 use Rattle.std.proofs.lemmas.Grind.{common_steps}
 use Rattle.std.proofs.lemmas.List.{length-map, length-take}
@@ -28,16 +28,19 @@ use Rattle.rkt_sample.specs.declared.catcher.SampleCatcher.{SampleCatcher}
 use Rattle.rkt_sample.specs.declared.route.SampleRoute.{SampleRoute}
 use Rattle.rkt_message.specs.Reading.{StreamErrs}
 use Rattle.rkt_message.specs.Sending.{MayWait}
-use Rattle.rkt_message.specs.Sent.{Sent}
+use Rattle.rkt_message.specs.Response.{ResponseOf}
+use Rattle.rkt_message.specs.Sent.{Sent, has_head}
 use Rattle.rkt_message.specs.declared.content.Content.{Content}
 use Rattle.rkt_message.specs.declared.content.Content.TheVariants as content
+use Rattle.rkt_message.specs.declared.piece.Piece.{Piece}
 use Rattle.rkt_source.specs.declared.source.SourceError.{SourceError}
 use Rattle.rkt_demo.proofs.LivesOnce.{made_once}
 use Rattle.rkt_demo.proofs.Once.{Spelling}
 use Rattle.rkt_demo.proofs.Places.{front_at, map_front}
 use Rattle.rkt_demo.proofs.SampleCalls.{IsAtHand}
 use Rattle.rkt_demo.specs.Entries.{ended_section}
-use Rattle.rkt_demo.specs.Launched.{ServesFront, told_of}
+use Rattle.rkt_demo.specs.Launched.{ServesFront, served_so, told_of}
+use Rattle.rkt_demo.specs.Output.{failed_section, sent_section}
 use Rattle.rkt_demo.specs.Sample.{IsSample, SampleTables}
 use Rattle.rkt_demo.specs.Shown.{IsMade, IsSection, LeadsTo, asked_for, served_in}
 use Rattle.rkt_script.specs.Words.{Table}
@@ -122,24 +125,51 @@ none_left k (Close m ∷ es) entry none found = none_left k es entry none found
 
 module _ (laws : Spelling) (word : ℕ) (window : Option (ℕ × ℕ)) (table : Table) (tables : SampleTables) (sample : IsSample table tables) where
   -- the response of an entry was made of its request
-  made_of : (request : ScriptRequest) (seen : Option ℕ) (entry : Kept) (ended : Ending) (ran : Ran (served_in word window) tables seen entry ended) → ServedFor word window request seen entry → IsMade table word window request ran.first
+  made_of : (request : ScriptRequest) (seen : Option ℕ) (entry : Kept) (ended : Ending) (ran : Ran (served_in word window) tables seen entry ended) → ServedFor word window request seen entry → IsMade table word window ran.shown request ran.first
   made_of request seen entry ended ran served = record {
     tables = tables;
     sample = sample;
     run = ran.run;
     timed = served.timed ran.run ran.run_kept;
-    lifecycle = subst (λ (a : Asked). LeadsTo word window tables a ran.run ran.first) served.asks (ran.lifecycle (asked_of entry.link.io) refl);
+    lifecycle = subst (λ (a : Asked). LeadsTo word window tables ran.shown a ran.run ran.first) served.asks (ran.lifecycle (asked_of entry.link.io) refl);
   }
 
-  section_of_cause : (k : ℕ) (request : ScriptRequest) (seen : Option ℕ) (entry : Kept) (ended : Ending) → was_abandoned ended ≡ false → CausedAs (served_in word window) tables seen entry ended → IsCutWithin window ended → ServedFor word window request seen entry
-      → IsSection (told_of ended) table word window k request (ended_section k ended entry.link.io.held)
+  -- what was sent of a response, with or without a trip
+  answered_so : (shown : Bool) (k : ℕ) (request : ScriptRequest) (response : ResponseOf SourceInMemory) (pieces : List Piece) → (IsTrue shown → 0 < word) → IsMade table word window shown request response → Sent source_meaning response pieces
+      → IsSection (served_so shown) table word window k request (sent_section k pieces)
+  answered_so false k request response pieces told made sent = record { response = response; made = made; told = rw sent.1 (record { pieces = pieces; sent = sent; text = refl }) }
+  answered_so true k request response pieces told made sent = record { told = told refl; response = response; made = made; text = inl (record { pieces = pieces; sent = sent; text = refl }) }
+
+  -- of one that has no head
+  headless_so : (shown : Bool) (k : ℕ) (request : ScriptRequest) (response : ResponseOf SourceInMemory) → (IsTrue shown → 0 < word) → IsMade table word window shown request response → has_head response ≡ false
+      → IsSection (served_so shown) table word window k request (failed_section k)
+  headless_so false k request response told made none = record { response = response; made = made; told = rw none refl }
+  headless_so true k request response told made none = record { told = told refl; response = response; made = made; text = inr refl }
+
+  -- and of one whose body failed, as none does without a trip
+  failed_so : (shown : Bool) (k : ℕ) (request : ScriptRequest) (turns : ℕ) (first last : ResponseOf SourceInMemory) → (IsTrue shown → 0 < word) → IsMade table word window shown request first
+      → (((e : SourceError) × StreamErrs source_meaning e first.body.content last.body.content) ⊎ MayWait source_meaning turns first.body.content) → IsSection (served_so shown) table word window k request (failed_section k)
+  failed_so false k request turns first last told made fails =
+      let one = made_once laws table word word window window request first first made made in
+      absurd (never_fails turns first.body.content last.body.content one.1 fails)
+  failed_so true k request turns first last told made fails = record { told = told refl; response = first; made = made; text = inr refl }
+
+  -- whether a Gate of an exchange may have shown a trip, where there was one
+  abbrev shown_in : (seen : Option ℕ) (entry : Kept) (ended : Ending) → CausedAs (served_in word window) tables seen entry ended → Bool
+  shown_in seen entry Answered caused = caused.shown
+  shown_in seen entry Lost caused = caused.0.shown
+  shown_in seen entry (Cut saw at) caused = caused.0.shown
+  shown_in seen entry (Failed failure) caused = caused.shown
+  shown_in seen entry Abandoned caused = true
+  shown_in seen entry Starved caused = false
+
+  section_of_cause : (k : ℕ) (request : ScriptRequest) (seen : Option ℕ) (entry : Kept) (ended : Ending) → was_abandoned ended ≡ false → (caused : CausedAs (served_in word window) tables seen entry ended) → IsCutWithin window ended
+      → ServedFor word window request seen entry → IsSection (told_of (shown_in seen entry ended caused) ended) table word window k request (ended_section k ended entry.link.io.held)
   section_of_cause k request seen entry Starved not caused cut served = refl
   section_of_cause k request seen entry Abandoned not caused cut served = absurd (cc not)
-  section_of_cause k request seen entry Answered not caused cut served = record {
-    response = caused.first;
-    made = made_of request seen entry Answered caused served;
-    told = rw caused.sent.1 (record { pieces = entry.link.io.held; sent = subst (Sent source_meaning caused.first) (sym (caused.held entry.link.io.held refl)) caused.sent; text = refl });
-  }
+  section_of_cause k request seen entry Answered not caused cut served =
+      answered_so caused.shown k request caused.first entry.link.io.held (λ is. served.told (caused.behind is)) (made_of request seen entry Answered caused served)
+      (subst (Sent source_meaning caused.first) (sym (caused.held entry.link.io.held refl)) caused.sent)
   section_of_cause k request seen entry (Cut saw at) not caused cut served = record {
     told = served.told caused.1.tripped;
     tables = tables;
@@ -148,15 +178,10 @@ module _ (laws : Spelling) (word : ℕ) (window : Option (ℕ × ℕ)) (table : 
     text = refl;
   }
   section_of_cause k request seen entry Lost not caused cut served = absurd (cc (ap (λ (a : Asked). a.never_faults) served.asks, caused.1))
-  section_of_cause k request seen entry (Failed BadHead) not caused cut served = record {
-    response = caused.first;
-    made = made_of request seen entry (Failed BadHead) caused served;
-    told = rw caused.sent.0 refl;
-  }
+  section_of_cause k request seen entry (Failed BadHead) not caused cut served =
+      headless_so caused.shown k request caused.first (λ is. served.told (caused.behind is)) (made_of request seen entry (Failed BadHead) caused served) caused.sent.0
   section_of_cause k request seen entry (Failed BodyFault) not caused cut served =
-      let made = made_of request seen entry (Failed BodyFault) caused served in
-      let one = made_once laws table word word window window request caused.first caused.first made made in
-      absurd (never_fails _ caused.first.body.content caused.response.body.content one.1 caused.sent.0)
+      failed_so caused.shown k request _ caused.first caused.response (λ is. served.told (caused.behind is)) (made_of request seen entry (Failed BodyFault) caused served) caused.sent.0
 
   -- a launch serves a front of what its listener offers
   pub launched_serves : (given : Option (List Asked)) (count : ℕ) (events : List (EventOf ℕ SourceInMemory LinkInMemory)) (requests : List ScriptRequest) → given ≡ Some (take count (map asked_for requests)) → AllAdmitted given events
@@ -176,13 +201,16 @@ module _ (laws : Spelling) (word : ℕ) (window : Option (ℕ × ℕ)) (table : 
             entry.asks (take count asks) given_is ∙ place ∙ slice_get-map asked_for requests k ∙ ap (option_map asked_for) there in (
               entry.entry,
               entry.found,
-              λ n.
-                  let times = timed_end window k events entry.entry timed entry.found in
-                  section_of_cause n request entry.seen entry.entry entry.entry.end (none_left k events entry.entry none entry.found) entry.caused times.1 (record {
-                    asks = same_Some _ _ asked;
-                    timed = times.0;
-                    told = λ some. word_told (entry.tripped some);
-                  }),
+              record {
+                shown = shown_in entry.seen entry.entry entry.entry.end entry.caused;
+                section = λ n.
+                    let times = timed_end window k events entry.entry timed entry.found in
+                    section_of_cause n request entry.seen entry.entry entry.entry.end (none_left k events entry.entry none entry.found) entry.caused times.1 (record {
+                      asks = same_Some _ _ asked;
+                      timed = times.0;
+                      told = λ some. word_told (entry.tripped some);
+                    });
+              },
             );
       }
 

@@ -109,7 +109,7 @@ OneResponse response response' = (response' ≡ response) × HasNoSource respons
 
 module _ (laws : Spelling) (word word' : ℕ) (window window' : Option (ℕ × ℕ)) (table : Table) (tables : SampleTables) (sample : IsSample table tables) where
   abbrev Rel : ℕ → Option (ℕ × ℕ) → Relations ℕ Body ℕ SourceInMemory NoFairing (Unit {0}) (Unit {0}) SampleRoute (Option Body) SampleCatcher Status
-  Rel v w = callbacks_of (served_in v w) tables
+  Rel v w = callbacks_of (served_in v w) tables false
 
   -- what routing finds of one request
   found_once : (faults : List Bad) (request : Seen ℕ) (body body' : Body) (kept kept' : Kept ℕ) (calls calls' : List Call) (found found' : Found ℕ ℕ SourceInMemory) → BodiesAlike body body' → AddedAlike kept kept'
@@ -117,13 +117,13 @@ module _ (laws : Spelling) (word word' : ℕ) (window window' : Option (ℕ × �
       → Routes (callbacks (Rel word' window')) (table_of tables) faults (record { request = request; body = body'; kept = kept' }) calls' (Finds found') → SameFound like found found'
   found_once faults request body body' kept kept' calls calls' found found' bodies kepts finds finds' =
       routes_once like (callbacks (Rel word window)) (callbacks (Rel word' window')) (table_of tables)
-      (calls_once laws word word' (gates_of window tables) (gates_of window' tables) refl refl (table_of tables)) found found' faults request body body' kept kept' calls calls' bodies kepts finds finds'
+      (calls_once laws word word' (gates_of window tables false) (gates_of window' tables false) refl refl (table_of tables)) found found' faults request body body' kept kept' calls calls' bodies kepts finds finds'
 
   -- what a request is once it has its method
   opened_as : (v : ℕ) (w : Option (ℕ × ℕ)) (request : Seen ℕ) (source : SourceInMemory) (bytes : List ℕ) (kept : Kept ℕ) (opened : RequestAt ℕ Body ℕ) → FromSource source bytes
       → Opens (Rel v w) (record { request = request; body = body_from source; kept = kept }) opened → OpenedAs request bytes kept opened
   opened_as v w request source bytes kept opened from opens =
-      let so = opened_so (gates_of w tables) refl source bytes opens.front opened.body from.all from.steady opens.peeks in
+      let so = opened_so (gates_of w tables false) refl source bytes opens.front opened.body from.all from.steady opens.peeks in
       record {
         content_type = opens.request.content_type;
         read = opens.request.read;
@@ -137,15 +137,15 @@ module _ (laws : Spelling) (word word' : ℕ) (window window' : Option (ℕ × �
   finishes : (v : ℕ) (w : Option (ℕ × ℕ)) (at : RequestAt ℕ Body ℕ) (calls : List Call) (over : Over ℕ SourceInMemory) (lives : Lives (Rel v w) tables at calls over)
       → over.response ≡ finished tables.config.ident (is_head lives.opened.request.method) (pending_cookies lives.found.kept over.moment) lives.found.response
   finishes v w at calls over lives =
-      let asked : lives.asked ≡ lives.opened = asked_nothing (gates_of w tables) tables.config.turns tables.fairings lives.opened lives.asked lives.before sample.fairings lives.asks in
-      let left = answered_shielded (gates_of w tables) tables.config.turns tables.fairings (dressed tables.config.ident over.moment lives.found) lives.left lives.behind sample.fairings lives.answers in
+      let asked : lives.asked ≡ lives.opened = asked_nothing (gates_of w tables false) tables.config.turns tables.fairings lives.opened lives.asked lives.before sample.fairings lives.asks in
+      let left = answered_shielded (gates_of w tables false) tables.config.turns tables.fairings (dressed tables.config.ident over.moment lives.found) lives.left lives.behind sample.fairings lives.answers in
       let head : is_head lives.asked.request.method ≡ is_head lives.opened.request.method = ap (λ (a : RequestAt ℕ Body ℕ). is_head a.request.method) asked in
       lives.response ∙ ap (λ (h : Bool). with_body_rule h lives.left.response) head ∙ ap (with_body_rule (is_head lives.opened.request.method)) left
 
   routed_of : (v : ℕ) (w : Option (ℕ × ℕ)) (at : RequestAt ℕ Body ℕ) (calls : List Call) (over : Over ℕ SourceInMemory) (lives : Lives (Rel v w) tables at calls over)
       → Routes (callbacks (Rel v w)) (table_of tables) [] lives.opened lives.between (Finds lives.found)
   routed_of v w at calls over lives =
-      let asked : lives.asked ≡ lives.opened = asked_nothing (gates_of w tables) tables.config.turns tables.fairings lives.opened lives.asked lives.before sample.fairings lives.asks in
+      let asked : lives.asked ≡ lives.opened = asked_nothing (gates_of w tables false) tables.config.turns tables.fairings lives.opened lives.asked lives.before sample.fairings lives.asks in
       subst (λ (a : RequestAt ℕ Body ℕ). Routes (callbacks (Rel v w)) (table_of tables) [] a lives.between (Finds lives.found)) asked lives.finds
 
   -- where two requests have their methods
@@ -187,7 +187,7 @@ module _ (laws : Spelling) (word word' : ℕ) (window window' : Option (ℕ × �
         subst HasNoSource (sym refuses.response) same.good,
       )
 
-  pub leads_once : (request : ScriptRequest) (run run' : RunOf ℕ) (response response' : Response) → LeadsTo word window tables (asked_for request) run response → LeadsTo word' window' tables (asked_for request) run' response'
+  pub leads_once : (request : ScriptRequest) (run run' : RunOf ℕ) (response response' : Response) → LeadsTo word window tables false (asked_for request) run response → LeadsTo word' window' tables false (asked_for request) run' response'
       → OneResponse response response'
   leads_once request run run' response response' life life' =
       let came = incomes_alike laws request.head tables.config tables.managed life.request life'.request life.jar life'.jar life.faults life'.faults life.incoming life'.incoming in
@@ -201,8 +201,8 @@ module _ (laws : Spelling) (word word' : ℕ) (window window' : Option (ℕ × �
       (from_source life.source request life.untouched life.gives) (from_source life'.source request life'.untouched life'.gives) kepts life.leads leads'
 
 -- so an exchange makes one response, whatever word `/stop` tells
-pub made_once : (laws : Spelling) (table : Table) (word word' : ℕ) (window window' : Option (ℕ × ℕ)) (request : ScriptRequest) (response response' : Response) → IsMade table word window request response → IsMade table word' window' request response' → OneResponse response response'
+pub made_once : (laws : Spelling) (table : Table) (word word' : ℕ) (window window' : Option (ℕ × ℕ)) (request : ScriptRequest) (response response' : Response) → IsMade table word window false request response → IsMade table word' window' false request response' → OneResponse response response'
 made_once laws table word word' window window' request response response' made made' =
     let tables = tables_once table made.tables made'.tables made.sample made'.sample in
     leads_once laws word word' window window' table made.tables made.sample request made.run made'.run response response' made.lifecycle
-    (subst (λ (t : SampleTables). LeadsTo word' window' t (asked_for request) made'.run response') tables made'.lifecycle)
+    (subst (λ (t : SampleTables). LeadsTo word' window' t false (asked_for request) made'.run response') tables made'.lifecycle)

@@ -1,5 +1,8 @@
 -- So many requests of a script are shown as one text.
-use Rattle.std.proofs.Common.{◌≡◌, ◌++◌, ◌+◌, ℕ, List, [], ◌∷◌, Bool, true, false, Option, Some, map, flat_map, take, refl, ap, ◌∙◌, sym, subst, append-nil}
+use Rattle.std.proofs.Common.{suc, ◌≡◌, ◌≢◌, ◌<◌, ◌≤◌, ◌++◌, ◌+◌, ◌⊎◌, inl, inr, ℕ, List, [], ◌∷◌, Bool, true, false, ltb, Option, Some, length, map, flat_map, min, slice_get, take, refl, ap, ◌∙◌, sym, subst, append-nil, arith}
+use borrow.Author.Tests.{ltb-true, ltb-false}
+use Rattle.std.proofs.lemmas.List.{length-take}
+use Rattle.std.proofs.lemmas.Option.{slice_get_within}
 use Rattle.std.specs.Prelude.{MatchBool}
 use Rattle.std.specs.List.{concat}
 use Rattle.rkt_message.specs.Body.{left_of}
@@ -11,10 +14,13 @@ use Rattle.rkt_message.specs.declared.piece.Piece.TheVariants.{Chunk, End}
 use Rattle.rkt_source.specs.Memory.{SourceInMemory, source_meaning}
 use Rattle.rkt_demo.proofs.LivesOnce.{made_once}
 use Rattle.rkt_demo.proofs.Once.{Spelling}
+use Rattle.rkt_demo.proofs.Places.{front_at}
+use Rattle.rkt_demo.proofs.Stops.{none_at}
 use Rattle.rkt_demo.proofs.SampleCalls.{IsAtHand, Response}
 use Rattle.rkt_demo.specs.Output.{answered_section, body_bytes, failed_section, head_text, sent_section}
 use Rattle.rkt_script.specs.Script.{lines_of, requests_of}
 use Rattle.rkt_demo.specs.Shown.{IsAnswered, IsSection, IsServed, ShownFrom, ShownOnce, Told}
+use Rattle.rkt_script.specs.Stopping.{FollowsWord, StandBefore}
 use Rattle.rkt_script.specs.Words.{Table}
 use Rattle.rkt_script.specs.declared.script.ScriptRequest.{ScriptRequest}
 
@@ -62,19 +68,38 @@ served_once laws table word word' window window' k request section section' serv
     told_once (has_head served.response) k served.response section section' one.1 served.told
     (subst (λ (r : Response). MatchBool (has_head r) (IsAnswered k r section') (section' ≡ failed_section k)) one.0 served'.told)
 
-section_once : (laws : Spelling) (table : Table) (word word' : ℕ) (window window' : Option (ℕ × ℕ)) (told : Told) (k : ℕ) (request : ScriptRequest) (section section' : List ℕ) → IsSection told table word window k request section
-    → IsSection told table word' window' k request section' → section' ≡ section
-section_once laws table word word' window window' Told.NoMemory k request section section' is is' = is' ∙ sym is
-section_once laws table word word' window window' Told.CutShort k request section section' is is' = is'.text ∙ sym is.text
-section_once laws table word word' window window' Told.Served k request section section' is is' = served_once laws table word word' window window' k request section section' is is'
+section_once : (laws : Spelling) (table : Table) (word word' : ℕ) (window window' : Option (ℕ × ℕ)) (told : Told) (k : ℕ) (request : ScriptRequest) (section section' : List ℕ) → (told ≢ Told.Warned) ⊎ (word ≡ 0)
+    → IsSection told table word window k request section → IsSection told table word' window' k request section' → section' ≡ section
+section_once laws table word word' window window' Told.NoMemory k request section section' unwarned is is' = is' ∙ sym is
+section_once laws table word word' window window' Told.CutShort k request section section' unwarned is is' = is'.text ∙ sym is.text
+section_once laws table word word' window window' Told.Warned k request section section' (inl unwarned) is is' = absurd (unwarned refl)
+section_once laws table word word' window window' Told.Warned k request section section' (inr none) is is' = absurd (omega (arith, is.told, none))
+section_once laws table word word' window window' Told.Served k request section section' unwarned is is' = served_once laws table word word' window window' k request section section' is is'
 
-from_once : (laws : Spelling) (table : Table) (word word' : ℕ) (window window' : Option (ℕ × ℕ)) (told : ℕ → Told) (k : ℕ) (requests : List ScriptRequest) (text text' : List ℕ) → ShownFrom table window told word k requests text
-    → ShownFrom table window' told word' k requests text' → text' ≡ text
-from_once laws table word word' window window' told k [] text text' is is' = is' ∙ sym is
-from_once laws table word word' window window' told k (request ∷ requests) text text' is is' =
-    let first : is'.0 ≡ is.0 = section_once laws table is.2 is'.2 window window' (told k) k request is.0 is'.0 is.4 is'.4 in
-    let rest : is'.1 ≡ is.1 = from_once laws table is.2 is'.2 window window' told (k + 1) requests is.1 is'.1 is.5 is'.5 in
-    is'.6 ∙ rw (first, rest) (sym is.6)
+module _ (laws : Spelling) (table : Table) (window window' : Option (ℕ × ℕ)) (told : ℕ → Told) (n before : ℕ) (all : List ScriptRequest) (stands : StandBefore all before) (unwarned : (i : ℕ) → before ≤ i → i < n → told i ≢ Told.Warned) where
+  -- until the first request for `/stop` no word was told
+  none_next : (k word next : ℕ) (request : ScriptRequest) → k < before → (k ≤ before → word ≡ 0) → slice_get all k ≡ Some request → FollowsWord word request next → next ≡ 0
+  none_next k word next request until none there follows = follows.other (λ is. none_at all before k request stands.before until there is) ∙ none (omega (arith, until))
+
+  from_once : (k word word' : ℕ) (requests : List ScriptRequest) (text text' : List ℕ) → k + length requests ≤ n → (k ≤ before → word ≡ 0) → ((i : ℕ) (r : ScriptRequest) → slice_get requests i ≡ Some r → slice_get all (k + i) ≡ Some r)
+      → ShownFrom table window told word k requests text → ShownFrom table window' told word' k requests text' → text' ≡ text
+  from_once k word word' [] text text' within none places is is' = is' ∙ sym is
+  from_once k word word' (request ∷ requests) text text' within none places is is' =
+      let number : k + 0 ≡ k = omega arith in
+      let there : slice_get all k ≡ Some request = ap (slice_get all) (sym number) ∙ places 0 request refl in
+      let first : is'.0 ≡ is.0 = section_once laws table is.2 is'.2 window window' (told k) k request is.0 is'.0 (by_order (ltb k before) refl there) is.4 is'.4 in
+      let rest : is'.1 ≡ is.1 = from_once (k + 1) is.2 is'.2 requests is.1 is'.1 (omega (arith, within)) (λ until. none_next k word is.2 request (omega (arith, until)) none there is.3)
+      (λ i r here. let next : k + suc i ≡ k + 1 + i = omega arith in ap (slice_get all) (sym next) ∙ places (suc i) r here) is.5 is'.5 in
+      is'.6 ∙ rw (first, rest) (sym is.6)
+    where
+      by_order : (t : Bool) → ltb k before ≡ t → slice_get all k ≡ Some request → (told k ≢ Told.Warned) ⊎ (is.2 ≡ 0)
+      by_order true until there = inr (none_next k word is.2 request (ltb-true k before until) none there is.3)
+      by_order false until there = inl (unwarned k (ltb-false k before until) (omega (arith, within)))
 
 pub one_text : Spelling → ShownOnce
-one_text laws table window window' told n script text text' is is' = from_once laws table 0 0 window window' told 0 (take n (requests_of (lines_of script))) text text' is is'
+one_text laws table window window' told n before script text text' stands unwarned is is' =
+    let all : List ScriptRequest = requests_of (lines_of script) in
+    let size : length (take n all) ≡ min n (length all) = length-take n all in
+    from_once laws table window window' told n before all stands unwarned 0 0 0 (take n all) text text' (omega (arith, size)) (λ until. refl)
+    (λ i r there. let same : 0 + i ≡ i = omega arith in
+    ap (slice_get all) same ∙ sym (front_at all n i (omega (arith, size, slice_get_within (take n all) i r there))) ∙ there) is is'

@@ -1,5 +1,5 @@
 -- The entries of two launches, one behind the other, show the requests that were offered to them.
-use Rattle.std.proofs.Common.{suc, ◌≡◌, ◌<◌, ◌≤◌, ◌+◌, ◌-◌, ◌++◌, ℕ, List, [], ◌∷◌, Bool, true, false, ltb, Option, Some, None, drop, length, slice_get, take, refl, ap, ◌∙◌, sym, subst, arith, append-nil, length-append}
+use Rattle.std.proofs.Common.{zero, suc, ◌≡◌, ◌<◌, ◌≤◌, ◌+◌, ◌-◌, ◌++◌, ℕ, List, [], ◌∷◌, Bool, true, false, ltb, Option, Some, None, drop, length, slice_get, take, refl, ap, ◌∙◌, sym, subst, arith, append-nil, length-append}
 use Rattle.std.proofs.Math.Seq.{drop-append_seam, take-append_seam, take-length}
 use borrow.Author.Tests.{ltb-true, ltb-false}
 use Rattle.std.proofs.lemmas.List.{length-drop, length-take-le}
@@ -23,11 +23,6 @@ Kept = EntryOf ℕ SourceInMemory LinkInMemory
 
 abbrev Event : Type 0
 Event = EventOf ℕ SourceInMemory LinkInMemory
-
-abbrev entry_told : Option (Option Kept) → Told
-entry_told (Some (Some entry)) = told_of entry.end
-entry_told (Some None) = Told.Served
-entry_told None = Told.Served
 
 -- none, or that of the second launch
 abbrev word_by : Bool → ℕ
@@ -59,27 +54,39 @@ module _ (table : Table) (window : Option (ℕ × ℕ)) where
   abbrev TellsAt : List (Option Kept) → ℕ → ℕ → ScriptRequest → Type 0
   TellsAt entries word i request = (entry : Kept) × (slice_get entries i ≡ Some (Some entry)) × TellsOf table word window request entry
 
-  shown_from : (told : ℕ → Told) (word : ℕ → ℕ) (k : ℕ) (entries : List (Option Kept)) (requests : List ScriptRequest) → length entries ≡ length requests → ((i : ℕ) → told (k + i) ≡ entry_told (slice_get entries i))
-      → ((i : ℕ) (request : ScriptRequest) → slice_get requests i ≡ Some request → FollowsWord (word i) request (word (suc i)) × TellsAt entries (word (suc i)) i request)
-      → ShownFrom table window told (word 0) k requests (entries_text k entries)
-  shown_from told word k [] [] same tells served = refl
-  shown_from told word k [] (request ∷ requests) same tells served = absurd (omega (arith, same))
-  shown_from told word k (entry ∷ entries) [] same tells served = absurd (omega (arith, same))
-  shown_from told word k (entry ∷ entries) (request ∷ requests) same tells served =
-      let here = served 0 request refl in
+  -- each entry tells of its request, where these words are told
+  abbrev AllTell : (ℕ → ℕ) → List (Option Kept) → List ScriptRequest → Type 0
+  AllTell word entries requests = (i : ℕ) (request : ScriptRequest) → slice_get requests i ≡ Some request → FollowsWord (word i) request (word (suc i)) × TellsAt entries (word (suc i)) i request
+
+  abbrev next_tell : (word : ℕ → ℕ) (entry : Option Kept) (entries : List (Option Kept)) (request : ScriptRequest) (requests : List ScriptRequest) → AllTell word (entry ∷ entries) (request ∷ requests) → AllTell (λ i. word (suc i)) entries requests
+  next_tell word entry entries request requests tell i other there = tell (suc i) other there
+
+  -- what is told of each place
+  abbrev told_from : (word : ℕ → ℕ) (entries : List (Option Kept)) (requests : List ScriptRequest) → AllTell word entries requests → ℕ → Told
+  told_from word [] requests tell i = Told.Served
+  told_from word (entry ∷ entries) [] tell i = Told.Served
+  told_from word (entry ∷ entries) (request ∷ requests) tell zero = told_of (tell 0 request refl).1.2.shown (tell 0 request refl).1.0.end
+  told_from word (entry ∷ entries) (request ∷ requests) tell (suc i) = told_from (λ j. word (suc j)) entries requests (next_tell word entry entries request requests tell) i
+
+  shown_from : (told : ℕ → Told) (word : ℕ → ℕ) (k : ℕ) (entries : List (Option Kept)) (requests : List ScriptRequest) (tell : AllTell word entries requests) → length entries ≡ length requests
+      → ((i : ℕ) → told (k + i) ≡ told_from word entries requests tell i) → ShownFrom table window told (word 0) k requests (entries_text k entries)
+  shown_from told word k [] [] tell same tells = refl
+  shown_from told word k [] (request ∷ requests) tell same tells = absurd (omega (arith, same))
+  shown_from told word k (entry ∷ entries) [] tell same tells = absurd (omega (arith, same))
+  shown_from told word k (entry ∷ entries) (request ∷ requests) tell same tells =
+      let here = tell 0 request refl in
       let is : entry ≡ Some here.1.0 = same_Some entry (Some here.1.0) here.1.1 in
       let number : k + 0 ≡ k = omega arith in
-      let now : told k ≡ told_of here.1.0.end = ap told (sym number) ∙ tells 0 ∙ ap (λ (e : Option Kept). entry_told (Some e)) is in
+      let now : told k ≡ told_of here.1.2.shown here.1.0.end = ap told (sym number) ∙ tells 0 in
       let section : IsSection (told k) table (word 1) window k request (entry_section k entry) =
       subst (λ (e : Option Kept). IsSection (told k) table (word 1) window k request (entry_section k e)) (sym is)
-      (subst (λ (t : Told). IsSection t table (word 1) window k request (ended_section k here.1.0.end here.1.0.link.io.held)) (sym now) (here.1.2 k)) in (
+      (subst (λ (t : Told). IsSection t table (word 1) window k request (ended_section k here.1.0.end here.1.0.link.io.held)) (sym now) (here.1.2.section k)) in (
         entry_section k entry,
         entries_text (k + 1) entries,
         word 1,
         here.0,
         section,
-        shown_from told (λ i. word (suc i)) (k + 1) entries requests (omega (arith, same)) (λ i. let next : k + 1 + i ≡ k + suc i = omega arith in ap told next ∙ tells (suc i))
-            (λ i other there. served (suc i) other there),
+        shown_from told (λ i. word (suc i)) (k + 1) entries requests (next_tell word entry entries request requests tell) (omega (arith, same)) (λ i. let next : k + 1 + i ≡ k + suc i = omega arith in ap told next ∙ tells (suc i)),
         refl,
       )
 
@@ -137,10 +144,11 @@ module _ (table : Table) (window : Option (ℕ × ℕ)) where
         let within : length (entries ++ others) ≤ length requests = omega (arith, sum, rest, are.count, are'.count, all_first, serves'.within, stands.within) in
         let more : before ≤ length (entries ++ others) = omega (arith, sum, are.count, all_first) in
         let count : length (entries ++ others) ≡ length (take (length (entries ++ others)) requests) = sym (length-take-le (length (entries ++ others)) requests within) in
-        let told : ℕ → Told = λ n. entry_told (slice_get (entries ++ others) n) in
-        let shown = shown_from told (words before) 0 (entries ++ others) (take (length (entries ++ others)) requests) count (λ i. let same : 0 + i ≡ i = omega arith in ap told same) (λ i request there.
+        let tell : AllTell (words before) (entries ++ others) (take (length (entries ++ others)) requests) = λ i request there.
         let inside : i < length (entries ++ others) = omega (arith, slice_get_within (take (length (entries ++ others)) requests) i request there, count) in
-        told_at i request inside (sym (front_at requests (length (entries ++ others)) i inside) ∙ there)) in (
+        told_at i request inside (sym (front_at requests (length (entries ++ others)) i inside) ∙ there) in
+        let told : ℕ → Told = told_from (words before) (entries ++ others) (take (length (entries ++ others)) requests) tell in
+        let shown = shown_from told (words before) 0 (entries ++ others) (take (length (entries ++ others)) requests) tell count (λ i. let same : 0 + i ≡ i = omega arith in ap told same) in (
           length (entries ++ others),
           told,
           may_serve requests before (length (entries ++ others)) stands more within,

@@ -1,5 +1,5 @@
 -- What the history of one launch tells of the requests that were offered to it.
-use Rattle.std.specs.Prelude.{◌≡◌, ◌<◌, ◌≤◌, ℕ, List, Option, Some, length, slice_get}
+use Rattle.std.specs.Prelude.{◌≡◌, ◌<◌, ◌≤◌, ℕ, Bool, true, false, List, Option, Some, length, slice_get}
 use Rattle.rkt_source.specs.Memory.{SourceInMemory}
 use Rattle.rkt_board.specs.Events.{admitted, end_of}
 use Rattle.rkt_link.specs.Memory.{LinkInMemory}
@@ -12,18 +12,24 @@ use Rattle.rkt_demo.specs.Shown.{IsSection, Told}
 use Rattle.rkt_script.specs.Words.{Table}
 use Rattle.rkt_script.specs.declared.script.ScriptRequest.{ScriptRequest}
 
+-- what is told of a request that was served, under Gates that may have shown a trip or not
+abbrev pub served_so : Bool → Told
+served_so true = Told.Warned
+served_so false = Told.Served
+
 -- what is told of what ended so
-abbrev pub told_of : End → Told
-told_of Answered = Told.Served
-told_of Lost = Told.Served
-told_of (Cut saw cut) = Told.CutShort
-told_of (Failed failure) = Told.Served
-told_of Abandoned = Told.Served
-told_of Starved = Told.NoMemory
+abbrev pub told_of : Bool → End → Told
+told_of shown Answered = served_so shown
+told_of shown Lost = served_so shown
+told_of shown (Cut saw cut) = Told.CutShort
+told_of shown (Failed failure) = served_so shown
+told_of shown Abandoned = served_so shown
+told_of shown Starved = Told.NoMemory
 
 -- whatever its number is, the section of an entry is one of this request
-abbrev pub TellsOf : Table → ℕ → Option (ℕ × ℕ) → ScriptRequest → EntryOf ℕ SourceInMemory LinkInMemory → Type 0
-TellsOf table word window request entry = (k : ℕ) → IsSection (told_of entry.end) table word window k request (ended_section k entry.end entry.link.io.held)
+pub record TellsOf (table : Table) (word : ℕ) (window : Option (ℕ × ℕ)) (request : ScriptRequest) (entry : EntryOf ℕ SourceInMemory LinkInMemory) : Type 0 where
+  pub shown : Bool
+  pub section : (k : ℕ) → IsSection (told_of shown entry.end) table word window k request (ended_section k entry.end entry.link.io.held)
 
 -- a history has admitted the first of these requests, in order, and the entry of each tells of it
 pub record ServesFront (table : Table) (word : ℕ) (window : Option (ℕ × ℕ)) (requests : List ScriptRequest) (events : List (EventOf ℕ SourceInMemory LinkInMemory)) : Type 0 where

@@ -1,5 +1,5 @@
 -- What the program writes of the requests that it served.
-use Rattle.std.specs.Prelude.{◌≡◌, ◌<◌, ◌≤◌, ℕ, ◌+◌, ◌++◌, List, [], ◌∷◌, true, MatchBool, Option, Some, take}
+use Rattle.std.specs.Prelude.{◌≡◌, ◌≢◌, ◌<◌, ◌≤◌, ◌⊎◌, ℕ, ◌+◌, ◌++◌, List, [], ◌∷◌, Bool, true, false, MatchBool, Option, Some, take}
 use Rattle.std.specs.Option.{ForSome}
 use Rattle.rkt_fairing.specs.Callbacks.{quiet}
 use Rattle.rkt_http.specs.declared.status.Status.{Status}
@@ -22,7 +22,7 @@ use Rattle.rkt_source.specs.Memory.{SourceInMemory, source_meaning}
 use Rattle.rkt_demo.specs.Output.{cut_section, failed_section, last_line, sent_section, starved_section}
 use Rattle.rkt_demo.specs.Sample.{IsSample, SampleTables}
 use Rattle.rkt_script.specs.Script.{lines_of, requests_of}
-use Rattle.rkt_script.specs.Stopping.{FollowsWord, MayServe}
+use Rattle.rkt_script.specs.Stopping.{FollowsWord, MayServe, StandBefore}
 use Rattle.rkt_script.specs.Words.{Table}
 use Rattle.rkt_script.specs.declared.script.ScriptRequest.{ScriptRequest}
 
@@ -34,18 +34,18 @@ served_in word window = serving quiet quiet (route_calling source_meaning word) 
 abbrev pub asked_for : ScriptRequest → Asked
 asked_for request = record { head = request.head; body = Some request.body; body_never_faults = true; never_faults = true }
 
--- what is asked leads by this run to this response
-abbrev pub LeadsTo : ℕ → Option (ℕ × ℕ) → SampleTables → Asked → RunOf ℕ → ResponseOf SourceInMemory → Type 0
-LeadsTo word window tables asked run response = Lifecycle (callbacks_of (served_in word window) tables) tables source_meaning asked run response
+-- what is asked leads by this run to this response, under Gates that may show a trip or not
+abbrev pub LeadsTo : ℕ → Option (ℕ × ℕ) → SampleTables → Bool → Asked → RunOf ℕ → ResponseOf SourceInMemory → Type 0
+LeadsTo word window tables shown asked run response = Lifecycle (callbacks_of (served_in word window) tables shown) tables source_meaning asked run response
 
--- an exchange of the sample, configured by a table, made this response to a request, at a moment of the window; `/stop` told
--- this word in it, if it was called
-pub record IsMade (table : Table) (word : ℕ) (window : Option (ℕ × ℕ)) (request : ScriptRequest) (response : ResponseOf SourceInMemory) : Type 0 where
+-- an exchange of the sample, configured by a table, made this response to a request, at a moment of the window, under Gates that
+-- may show a trip or not; `/stop` told this word in it, if it was called
+pub record IsMade (table : Table) (word : ℕ) (window : Option (ℕ × ℕ)) (shown : Bool) (request : ScriptRequest) (response : ResponseOf SourceInMemory) : Type 0 where
   pub tables : SampleTables
   pub sample : IsSample table tables
   pub run : RunOf ℕ
   pub timed : IsWithin window run.moment
-  pub lifecycle : LeadsTo word window tables (asked_for request) run response
+  pub lifecycle : LeadsTo word window tables shown (asked_for request) run response
 
 -- a section tells of a response that was sent
 pub record IsAnswered (k : ℕ) (response : ResponseOf SourceInMemory) (section : List ℕ) : Type 0 where
@@ -56,8 +56,16 @@ pub record IsAnswered (k : ℕ) (response : ResponseOf SourceInMemory) (section 
 -- the section of the request with this number: of a response that an exchange made, sent where a head of it can be formed
 pub record IsServed (table : Table) (word : ℕ) (window : Option (ℕ × ℕ)) (k : ℕ) (request : ScriptRequest) (section : List ℕ) : Type 0 where
   pub response : ResponseOf SourceInMemory
-  pub made : IsMade table word window request response
+  pub made : IsMade table word window false request response
   pub told : MatchBool (has_head response) (IsAnswered k response section) (section ≡ failed_section k)
+
+-- the section of a request whose exchange may have been shown a trip, since `/stop` has told its word, so that a read of its body
+-- may have been refused: of a response that an exchange made under such Gates, whether it could be sent or not
+pub record IsWarned (table : Table) (word : ℕ) (window : Option (ℕ × ℕ)) (k : ℕ) (request : ScriptRequest) (section : List ℕ) : Type 0 where
+  pub told : 0 < word
+  pub response : ResponseOf SourceInMemory
+  pub made : IsMade table word window true request response
+  pub text : IsAnswered k response section ⊎ (section ≡ failed_section k)
 
 -- the section of a request whose link was cut off: `/stop` has told its word, and so long a grace has gone by since
 pub record IsCutShort (table : Table) (word : ℕ) (window : Option (ℕ × ℕ)) (k : ℕ) (section : List ℕ) : Type 0 where
@@ -67,15 +75,18 @@ pub record IsCutShort (table : Table) (word : ℕ) (window : Option (ℕ × ℕ)
   pub long : ForSome window (λ w. w.0 + tables.config.grace ≤ w.1)
   pub text : section ≡ cut_section k
 
--- what a section tells: that its request was served, or that its link was cut off, or that there was no memory
+-- what a section tells: that its request was served, with or without a trip that its exchange may have been shown, or that its
+-- link was cut off, or that there was no memory
 pub data Told : Type 0 where
   Served : Told
+  Warned : Told
   CutShort : Told
   NoMemory : Told
 
 -- the section of a request of which this is told
 abbrev pub IsSection : Told → Table → ℕ → Option (ℕ × ℕ) → ℕ → ScriptRequest → List ℕ → Type 0
 IsSection Told.Served table word window k request section = IsServed table word window k request section
+IsSection Told.Warned table word window k request section = IsWarned table word window k request section
 IsSection Told.CutShort table word window k request section = IsCutShort table word window k section
 IsSection Told.NoMemory table word window k request section = section ≡ starved_section k
 
@@ -94,6 +105,8 @@ Shown table window told n script text = ShownFrom table window told 0 0 (take n 
 abbrev pub ShowsRequests : Table → Option (ℕ × ℕ) → List ScriptRequest → List ℕ → Type 0
 ShowsRequests table window requests text = (n : ℕ) × (told : ℕ → Told) × MayServe requests n × ShownFrom table window told 0 0 (take n requests) text
 
--- so many requests of one script are shown as one text at most, whatever the moments
+-- so many requests of one script are shown as one text at most, whatever the moments, where from the first one for `/stop` on no
+-- exchange may have been shown a trip
 abbrev pub ShownOnce : Type 0
-ShownOnce = (table : Table) (window window' : Option (ℕ × ℕ)) (told : ℕ → Told) (n : ℕ) (script text text' : List ℕ) → Shown table window told n script text → Shown table window' told n script text' → text' ≡ text
+ShownOnce = (table : Table) (window window' : Option (ℕ × ℕ)) (told : ℕ → Told) (n before : ℕ) (script text text' : List ℕ) → StandBefore (requests_of (lines_of script)) before → ((k : ℕ) → before ≤ k → k < n → told k ≢ Told.Warned)
+    → Shown table window told n script text → Shown table window' told n script text' → text' ≡ text

@@ -3,8 +3,8 @@ ghost use Rattle.rkt_demo.specs.Shown.{ShownOnce};
 
 use rkt_http::{says_what_it_spells, spells_one_host, spells_one_media_type};
 
-/// A law of texts: so many requests of a script are shown as one text, whatever the moments are, but for those that had no
-/// memory.
+/// A law of texts: so many requests of a script are shown as one text, whatever the moments are, where the same is told of each,
+/// and of none from the first one for `/stop` on that its exchange may have been shown a trip.
 pub fn shown_once()
     ensures { ShownOnce }
 {

@@ -120,8 +120,9 @@ pub fn run<R: Wait + Threads, S: Source, K: Sink, C: Clock>(
         ⊎ OfCommand (map string_bytes words.now) (λ table. OfScript (S.meaning source.old) (λ script.
         (text : List ℕ) × IsText table (C.meaning clock).window script text × GainsFront (K.meaning sink.old) (K.meaning sink.new) text)) }
 
-    // 0: the text shows as many requests of the script as may be served: all of them where none is for `/stop`. There is one such
-    // text for that number where none is cut short and none had no memory, as a law of texts says.
+    // 0: the text shows as many requests of the script as may be served: all of them where none is for `/stop`. Where the same is
+    // told of each, there is one such text for that number, as a law of texts says, unless the exchange of a request from the
+    // first one for `/stop` on may have been shown a trip.
     ensures text { result ≡ 0 → OfCommand (map string_bytes words.now) (λ table. IsAccepted table × OfScript (S.meaning source.old) (λ script.
         (n : ℕ) × (told : ℕ → Told) × (text : List ℕ) × IsCount script n × Shown table (C.meaning clock).window told n script text × Gains (K.meaning sink.old) (K.meaning sink.new) text)) }
 

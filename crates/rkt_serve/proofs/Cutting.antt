@@ -99,6 +99,8 @@ module _ {V S C R F FTask GTask H HTask K KTask L N : Type 0} (served : Serving 
     run = ran.run;
     run_kept = ran.run_kept;
     first = ran.first;
+    shown = ran.shown;
+    behind = λ is. wider (ran.behind is);
     lifecycle = ran.lifecycle;
     response = ran.response;
     response_kept = ran.response_kept;
@@ -157,7 +159,12 @@ module _ {C R L : Type 0} where
       by_trip None there = absurd (cc (none_found es there, shows.0))
       by_trip (Some t) there = ap Some (sym (ap word_of there) ∙ shows.1)
 
-  -- so a Trip that was there is still
+  -- so what is shown is seen
+  pub word_seen : (es : List (EventOf C R L)) (tripped : Option ℕ) → ShowsTrip tripped es → IsSome tripped → IsSome (word_in (trip_of es))
+  word_seen es None shows some = absurd (cc some)
+  word_seen es (Some word) shows some = subst IsSome (sym (word_found es word shows)) refl
+
+  -- and a Trip that was there is still
   pub word_still : (by : ℕ) (old new : List (MarkOf C R L)) → TripsAs by old new → IsSome (word_in (trip_of (events old))) → IsSome (word_in (trip_of (events new)))
   word_still by old new trips some = by_trip (trip_of (events old)) refl some
     where

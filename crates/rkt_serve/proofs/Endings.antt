@@ -1,6 +1,6 @@
 -- What is known of an exchange with a link that has ended.
-use Rattle.std.proofs.Common.{◌≡◌, ◌≤◌, ℕ, None, Some, Option, Result, arith, refl, sym, subst}
-use Rattle.std.specs.Prelude.{IfSome, IsNone, MatchOption}
+use Rattle.std.proofs.Common.{◌≡◌, ◌≤◌, ℕ, Bool, true, false, None, Some, Option, Result, arith, refl, sym, subst}
+use Rattle.std.specs.Prelude.{IfSome, IsNone, IsSome, MatchOption}
 use Rattle.std.specs.List.{All}
 use Rattle.rkt_base.specs.declared.poll.Poll.TheVariants.{Pending}
 use Rattle.rkt_cancel.specs.Cancel.{Cancellable}
@@ -43,23 +43,31 @@ within_window : (window : Option (ℕ × ℕ)) (moment : ℕ) → InWindow windo
 within_window None moment within v is = absurd (cc is)
 within_window (Some w) moment within v is = let same : w ≡ v = cc is in subst (λ (u : ℕ × ℕ). (u.0 ≤ moment) × (moment ≤ u.1)) same within
 
+-- a Gate shows no trip where none was seen
+none_shown : (tripped seen : Option ℕ) → (IsSome tripped → IsSome seen) → IsNone seen → IsNone tripped
+none_shown None seen shown none = refl
+none_shown (Some word) None shown none = absurd (cc (shown refl))
+none_shown (Some word) (Some w) shown none = absurd (cc none)
+
 -- every Gate of a moment of the clock's window
-pub fit_window : (grace mercy : ℕ) (old new : ClockMeaning) → AllFit (gates_with old.window grace mercy) grace mercy old new
-fit_window grace mercy old new moment amid = record { moment = in_window old.window moment amid.within; delays = (refl, refl); trip = λ no_trip. refl }
+pub fit_window : (grace mercy : ℕ) (old new : ClockMeaning) (seen : Option ℕ) (may_trip : Bool) → (may_trip ≡ false → IsNone seen) → AllFit (gates_with old.window grace mercy may_trip) grace mercy old new seen
+fit_window grace mercy old new seen may_trip none moment tripped amid shown = record { moment = in_window old.window moment amid.within; delays = (refl, refl); trip = λ untripped. none_shown tripped seen shown (none untripped) }
 
 -- and every Gate of a moment that the clock has told meanwhile
-pub fit_between : (grace mercy : ℕ) (old new : ClockMeaning) → AllFit (gates_with (Some (old.last, new.last)) grace mercy) grace mercy old new
-fit_between grace mercy old new moment amid = record { moment = (amid.from, amid.to); delays = (refl, refl); trip = λ no_trip. refl }
+pub fit_between : (grace mercy : ℕ) (old new : ClockMeaning) (seen : Option ℕ) → AllFit (gates_with (Some (old.last, new.last)) grace mercy true) grace mercy old new seen
+fit_between grace mercy old new seen moment tripped amid shown = record { moment = (amid.from, amid.to); delays = (refl, refl); trip = λ untripped. absurd (cc untripped) }
 
 -- what all Gates fit that may be told up to a moment, those fit that were told before
-pub fit_before : (rule : GateRule) (grace mercy : ℕ) (old now new : ClockMeaning) → now.last ≤ new.last → AllFit rule grace mercy old new → AllFit rule grace mercy old now
-fit_before rule grace mercy old now new rises fit moment amid = fit moment (record { from = amid.from; to = omega (arith, amid.to, rises); within = amid.within })
+pub fit_before : (rule : GateRule) (grace mercy : ℕ) (old now new : ClockMeaning) (before after : Option ℕ) → now.last ≤ new.last → (IsSome before → IsSome after) → AllFit rule grace mercy old new after → AllFit rule grace mercy old now before
+fit_before rule grace mercy old now new before after rises still fit moment tripped amid shown =
+    fit moment tripped (record { from = amid.from; to = omega (arith, amid.to, rises); within = amid.within }) (λ some. still (shown some))
 
--- the Gate of a moment that was told last fits them
-pub fit_gate : (rule : GateRule) (grace mercy : ℕ) (first old new : ClockMeaning) (gate : Gate) → AllFit rule grace mercy first new → gate ≡ gate_with gate.moment grace mercy → TellsOn first old → IsAmid old new gate.moment → GateFits rule gate
-fit_gate rule grace mercy first old new gate fit is told amid =
+-- the Gate of a moment that was told last, with what was seen by then, fits them
+pub fit_gate : (rule : GateRule) (grace mercy : ℕ) (first old new : ClockMeaning) (seen : Option ℕ) (gate : Gate) → AllFit rule grace mercy first new seen → gate ≡ gate_with gate.moment gate.tripped grace mercy → (IsSome gate.tripped → IsSome seen)
+    → TellsOn first old → IsAmid old new gate.moment → GateFits rule gate
+fit_gate rule grace mercy first old new seen gate fit is shown told amid =
     let since : IsAmid first new gate.moment = record { from = omega (arith, told.rises, amid.from); to = amid.to; within = told_within first old gate.moment told amid.within } in
-    subst (λ (x : Gate). GateFits rule x) (sym is) (fit gate.moment since)
+    subst (λ (x : Gate). GateFits rule x) (sym is) (fit gate.moment gate.tripped since shown)
 
 module _ {V B C R F FTask GTask H HTask K KTask N : Type 0} (rel : Relations V B C R F FTask GTask H HTask K KTask) (first : Beginning V B C) (tables : SeenTables F H K N V) where
   -- one that was Pending goes on

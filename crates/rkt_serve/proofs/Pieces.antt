@@ -1,5 +1,5 @@
 -- What a link holds, piece by piece.
-use Rattle.std.proofs.Common.{◌≡◌, ◌≤◌, ◌+◌, ◌++◌, ℕ, false, IsSome, arith, subst, List, [], Option, Some, None, option_map, Result, Ok, Err, IfOk, ap, ◌∙◌, sym, refl, append_assoc, append-nil}
+use Rattle.std.proofs.Common.{◌≡◌, ◌≤◌, ◌+◌, ◌++◌, ℕ, Bool, false, IsSome, IsTrue, arith, subst, List, [], Option, Some, None, option_map, Result, Ok, Err, IfOk, ap, ◌∙◌, sym, refl, append_assoc, append-nil}
 use Rattle.std.proofs.lemmas.Grind.{common_steps}
 use Rattle.std.specs.Option.{ForSome}
 use Rattle.rkt_source.specs.Source.{Meaning}
@@ -74,12 +74,14 @@ lost_may old new taken left = ap (λ (m : LinkMeaning). m.never_faults) left.onl
 module _ {V S C R F FTask GTask H HTask K KTask L N : Type 0} (served : Serving V S C R F FTask GTask H HTask K KTask L) (tables : SeenTables F H K N V) (seen : Option ℕ) (entry : EntryOf C R L) (old : LinkMeaning) (run : RunOf C) (first response : ResponseOf R) where
   -- a run whose response was sent on a fresh link, and that is kept
   ran_sent : (ended : Ending) (taken : List Piece) → entry ≡ record { link = entry.link; run = Some run; response = Some response; end = ended }
-      → ForSome old.asked (λ asked. Lifecycle (callbacks_of served tables) tables served.sources asked run first) → ForSome old.held (λ held. held ≡ []) → old.faults ≡ 0 → ReadOn served.streams first response
+      → (shown : Bool) → (IsTrue shown → IsSome seen) → ForSome old.asked (λ asked. Lifecycle (callbacks_of served tables shown) tables served.sources asked run first) → ForSome old.held (λ held. held ≡ []) → old.faults ≡ 0 → ReadOn served.streams first response
       → ReadsOn served.streams seen first.body.content response.body.content → IsSentAs served.streams (turns_of (table_of tables)) first response ended taken → LeftBy ended old taken (served.links entry.link.io) → Ran served tables seen entry ended
-  ran_sent ended taken is lifecycle fresh none on reads sent left = record {
+  ran_sent ended taken is shown behind lifecycle fresh none on reads sent left = record {
     run = run;
     run_kept = ap (λ (e : EntryOf _ _ _). e.run) is;
     first = first;
+    shown = shown;
+    behind = behind;
     lifecycle = λ asked told. lifecycle asked (sym (left_asked ended old (served.links entry.link.io) taken left) ∙ told);
     response = response;
     response_kept = ap (λ (e : EntryOf _ _ _). e.response) is;
@@ -110,11 +112,11 @@ module _ {V S C R F FTask GTask H HTask K KTask L N : Type 0} (served : Serving 
   )
 
   pub caused_sent : (ended : Ending) (taken : List Piece) → entry ≡ record { link = entry.link; run = Some run; response = Some response; end = ended }
-      → ForSome old.asked (λ asked. Lifecycle (callbacks_of served tables) tables served.sources asked run first) → ForSome old.held (λ held. held ≡ []) → old.faults ≡ 0 → ReadOn served.streams first response
+      → (shown : Bool) → (IsTrue shown → IsSome seen) → ForSome old.asked (λ asked. Lifecycle (callbacks_of served tables shown) tables served.sources asked run first) → ForSome old.held (λ held. held ≡ []) → old.faults ≡ 0 → ReadOn served.streams first response
       → ReadsOn served.streams seen first.body.content response.body.content → IsSentAs served.streams (turns_of (table_of tables)) first response ended taken → LeftBy ended old taken (served.links entry.link.io)
       → (watched : Watched) → word_in watched.trip ≡ seen → watched.grace ≡ tables.config.grace → IsCutOff watched entry.link.stage ended → Caused served tables seen entry
-  caused_sent ended taken is lifecycle fresh none on reads sent left watched word grace cut =
-      subst (CausedAs served tables seen entry) (sym (ap (λ (e : EntryOf _ _ _). e.end) is)) (caused_at ended taken (ran_sent ended taken is lifecycle fresh none on reads sent left) sent left watched word grace cut)
+  caused_sent ended taken is shown behind lifecycle fresh none on reads sent left watched word grace cut =
+      subst (CausedAs served tables seen entry) (sym (ap (λ (e : EntryOf _ _ _). e.end) is)) (caused_at ended taken (ran_sent ended taken is shown behind lifecycle fresh none on reads sent left) sent left watched word grace cut)
 
 -- how a sending ended, said of equal values
 pub ended_as : {S E : Type 0} (stream : S → Meaning) (answer : Result Ending E) (turns n : ℕ) (begun first last left : ResponseOf S) (old new : LinkMeaning) → turns ≡ n → begun ≡ first → last ≡ left

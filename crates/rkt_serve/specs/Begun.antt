@@ -1,5 +1,5 @@
 -- Where an exchange with a link begins, and under which Gates it is polled.
-use Rattle.std.specs.Prelude.{◌≡◌, ℕ, List, None, Result, IsSome}
+use Rattle.std.specs.Prelude.{◌≡◌, ℕ, List, Option, None, Result, IsSome}
 use Rattle.rkt_cancel.specs.Cancel.{Cancellable}
 use Rattle.rkt_cookie.specs.Jar.{JarParts}
 use Rattle.rkt_data.specs.Body.{Body}
@@ -24,17 +24,18 @@ use Rattle.rkt_link.specs.Clock.{ClockMeaning, IsAmid}
 use Rattle.rkt_serve.specs.Lifecycle.{body_from}
 use Rattle.rkt_serve.specs.Serving.{callbacks_with}
 
--- the Gate of a moment, with these delays and no trip
-abbrev pub gate_with : ℕ → ℕ → ℕ → Gate
-gate_with moment grace mercy = record { moment = moment; tripped = None; grace = grace; mercy = mercy }
+-- the Gate of a moment, with these delays, and with the word of a trip where there is one
+abbrev pub gate_with : ℕ → Option ℕ → ℕ → ℕ → Gate
+gate_with moment tripped grace mercy = record { moment = moment; tripped = tripped; grace = grace; mercy = mercy }
 
--- the same with the configuration's delays
+-- one without a trip, with the configuration's delays
 abbrev pub gate_at : {F H K N V : Type 0} → SeenTables F H K N V → ℕ → Gate
-gate_at tables moment = gate_with moment tables.config.grace tables.config.mercy
+gate_at tables moment = gate_with moment None tables.config.grace tables.config.mercy
 
--- all Gates with these delays and no trip fit a rule whose moments a clock may have told meanwhile
-abbrev pub AllFit : GateRule → ℕ → ℕ → ClockMeaning → ClockMeaning → Type 0
-AllFit rule grace mercy old new = (moment : ℕ) → IsAmid old new moment → GateFits rule (gate_with moment grace mercy)
+-- all Gates with these delays fit a rule whose moments a clock may have told meanwhile, and which show a trip only where this one
+-- was seen by then
+abbrev pub AllFit : GateRule → ℕ → ℕ → ClockMeaning → ClockMeaning → Option ℕ → Type 0
+AllFit rule grace mercy old new seen = (moment : ℕ) (tripped : Option ℕ) → IsAmid old new moment → (IsSome tripped → IsSome seen) → GateFits rule (gate_with moment tripped grace mercy)
 
 -- an exchange stands where what a head asks begins, with the body of this source and with this handle
 pub record IsBegun {V S C R F FTask GTask H HTask K KTask N : Type 0} (sources : S → Meaning) (requests : Calling F (Unit {0}) (RequestAt V (Body (Cancellable S)) C) (Unit {0}) FTask) (responses : Calling F (Seen V) (ResponseAt R C) (Unit {0}) GTask)

@@ -1,5 +1,5 @@
 -- What stands behind each event.
-use Rattle.std.specs.Prelude.{◌≡◌, ◌<◌, ◌≤◌, ◌+◌, ℕ, false, List, [], IsSome, Option, Some, None}
+use Rattle.std.specs.Prelude.{◌≡◌, ◌<◌, ◌≤◌, ◌+◌, ℕ, Bool, true, false, List, [], IsSome, IsTrue, Option, Some, None}
 use Rattle.std.specs.List.{All}
 use Rattle.std.specs.Option.{ForSome}
 use Rattle.rkt_cancel.specs.Cancel.{cut_of, saw_of}
@@ -35,8 +35,11 @@ module _ {V S C R F FTask GTask H HTask K KTask L N : Type 0} (served : Serving 
     pub run_kept : entry.run ≡ Some run
     -- the response that the run led to
     pub first : ResponseOf R
-    -- the run is a lifecycle of what this very link asks
-    pub lifecycle : ForSome (served.links entry.link.io).asked (λ asked. Lifecycle (callbacks_of served tables) tables served.sources asked run first)
+    -- whether a Gate of its exchange may have shown a trip: only where there is one
+    pub shown : Bool
+    pub behind : IsTrue shown → IsSome seen
+    -- the run is a lifecycle of what this very link asks, under such Gates
+    pub lifecycle : ForSome (served.links entry.link.io).asked (λ asked. Lifecycle (callbacks_of served tables shown) tables served.sources asked run first)
     -- the same, but that its body may have been read
     pub response : ResponseOf R
     pub response_kept : entry.response ≡ Some response
@@ -64,7 +67,7 @@ module _ {V S C R F FTask GTask H HTask K KTask L N : Type 0} (served : Serving 
   CausedAs seen entry Lost = Ran seen entry Lost × ((served.links entry.link.io).never_faults ≡ false)
   CausedAs seen entry (Cut saw cut) = Ran seen entry (Cut saw cut) × WasCut seen entry saw cut
   CausedAs seen entry (Failed failure) = Ran seen entry (Failed failure)
-  CausedAs seen entry Abandoned = IsSome seen × (entry.run ≡ None) × (entry.response ≡ None) × MayBePending (callbacks_of served tables) served.sources tables
+  CausedAs seen entry Abandoned = IsSome seen × (entry.run ≡ None) × (entry.response ≡ None) × MayBePending (callbacks_of served tables true) served.sources tables
   CausedAs seen entry Starved = (entry.run ≡ None) × (entry.response ≡ None)
 
   abbrev pub Caused : Option ℕ → EntryOf C R L → Type 0

@@ -1,5 +1,5 @@
 -- What an application, and what it is served over, mean.
-use Rattle.std.specs.Prelude.{ℕ, false, Option, Some, Result}
+use Rattle.std.specs.Prelude.{ℕ, Bool, Option, Some, Result}
 use Rattle.rkt_cancel.specs.Cancel.{Cancellable}
 use Rattle.rkt_data.specs.Body.{Body}
 use Rattle.rkt_fairing.specs.Callbacks.{ResponseAt}
@@ -46,15 +46,15 @@ abbrev pub callbacks_with : {V S C R F FTask GTask H HTask K KTask : Type 0} →
     → Calling K (Refused V) (Kept C) (Result (ResponseOf R) Status) KTask → GateRule → Relations V (Body (Cancellable S)) C R F FTask GTask H HTask K KTask
 callbacks_with sources requests responses handlers catchers rule = relations (peeks_of sources) (slot_request requests) (slot_response responses) handlers catchers rule
 
--- Gates of a clock's moments, with these delays and no trip
-abbrev pub gates_with : Option (ℕ × ℕ) → ℕ → ℕ → GateRule
-gates_with window grace mercy = record { window = window; delays = Some (grace, mercy); may_trip = false }
+-- Gates of a clock's moments, with these delays, which may show a trip or not
+abbrev pub gates_with : Option (ℕ × ℕ) → ℕ → ℕ → Bool → GateRule
+gates_with window grace mercy may_trip = record { window = window; delays = Some (grace, mercy); may_trip = may_trip }
 
 -- the Gates that callbacks are polled under: the delays are the configuration's
-abbrev pub gates_of : {F H K N V : Type 0} → Option (ℕ × ℕ) → SeenTables F H K N V → GateRule
-gates_of window tables = gates_with window tables.config.grace tables.config.mercy
+abbrev pub gates_of : {F H K N V : Type 0} → Option (ℕ × ℕ) → SeenTables F H K N V → Bool → GateRule
+gates_of window tables may_trip = gates_with window tables.config.grace tables.config.mercy may_trip
 
 -- what the callbacks mean under those
-abbrev pub callbacks_of : {V S C R F FTask GTask H HTask K KTask L N : Type 0} → Serving V S C R F FTask GTask H HTask K KTask L → SeenTables F H K N V
+abbrev pub callbacks_of : {V S C R F FTask GTask H HTask K KTask L N : Type 0} → Serving V S C R F FTask GTask H HTask K KTask L → SeenTables F H K N V → Bool
     → Relations V (Body (Cancellable S)) C R F FTask GTask H HTask K KTask
-callbacks_of of_ tables = relations (peeks_of of_.sources) of_.requests of_.responses of_.handlers of_.catchers (gates_of of_.window tables)
+callbacks_of of_ tables may_trip = relations (peeks_of of_.sources) of_.requests of_.responses of_.handlers of_.catchers (gates_of of_.window tables may_trip)

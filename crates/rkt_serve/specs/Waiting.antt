@@ -1,5 +1,5 @@
 -- When an exchange may be Pending, and when one that still is comes too late.
-use Rattle.std.specs.Prelude.{◌≡◌, ◌<◌, ◌+◌, ◌⊎◌, ℕ, Option, Some, slice_get}
+use Rattle.std.specs.Prelude.{◌≡◌, ◌<◌, ◌+◌, ◌⊎◌, ℕ, true, Option, Some, slice_get}
 use Rattle.std.specs.Option.{ForSome}
 use Rattle.rkt_cancel.specs.Cancel.{Cancellable}
 use Rattle.rkt_data.specs.Body.{Body}
@@ -54,4 +54,4 @@ pub record MayAbandon {V S C R F FTask GTask H HTask K KTask L N : Type 0} (allo
   pub word : ℕ
   pub allows : allowed word
   pub window : ForSome served.window (λ w. w.0 + tables.config.grace + tables.config.mercy < w.1)
-  pub waits : MayBePending (callbacks_of served tables) served.sources tables
+  pub waits : MayBePending (callbacks_of served tables true) served.sources tables

@@ -1,5 +1,5 @@
 //! One exchange, from what a link asks to its end.
-ghost use Rattle.std.specs.Prelude.{◌≡◌, ◌<◌, ◌+◌, ◌↔◌, ℕ, Some, false, IfErr, IfOk, IfSome, IsNone, IsSome, IsTrue, MatchOption};
+ghost use Rattle.std.specs.Prelude.{◌≡◌, ◌<◌, ◌↔◌, ℕ, Some, true, false, IfErr, IfOk, IfSome, IsNone, IsSome, IsTrue, MatchOption, is_some};
 ghost use Rattle.std.specs.List.{list_any, All};
 ghost use Rattle.rkt_board.specs.Board.{Keeps};
 ghost use Rattle.rkt_board.specs.Events.{is_close, trip_of};
@@ -14,7 +14,8 @@ ghost use Rattle.rkt_routing.specs.Backs.{Sees};
 ghost use Rattle.rkt_routing.specs.Beginning.{Beginning};
 ghost use Rattle.rkt_turn.specs.HandsBack.{HandsBack};
 ghost use Rattle.rkt_link.specs.Asked.{Asked, GivesBody, IsUntouched};
-ghost use Rattle.rkt_serve.specs.Begun.{AllFit, IsBegun, gate_at, gate_with};
+ghost use Rattle.rkt_serve.specs.Begun.{AllFit, IsBegun, gate_at};
+ghost use Rattle.rkt_serve.specs.Gates.{word_in};
 ghost use Rattle.rkt_link.specs.Clock.{IsAmid, TellsOn};
 ghost use Rattle.rkt_serve.specs.Lent.{cause_of};
 ghost use Rattle.rkt_serve.specs.Lifecycle.{Lifecycle};
@@ -22,10 +23,10 @@ ghost use Rattle.rkt_serve.specs.Serving.{callbacks_with, gates_of};
 ghost use Rattle.rkt_serve.specs.Waiting.{IsLate, MayBePending};
 
 use crate::causes::LentBy;
-use crate::working::CALLER;
+use crate::looking::gate_now;
 use crate::{Clock, Link, Listener};
 use rkt_base::Poll;
-use rkt_board::{BoardOf, look, marked_trip};
+use rkt_board::{BoardOf, marked_trip};
 use rkt_data::{CancellableIo, Data, Gate};
 use rkt_life::{App, Ended, EndedOf, Exchange, Tables};
 use rkt_request::{Head, Request};
@@ -33,23 +34,16 @@ use rkt_turn::Shutdown;
 use std::alloc::Global;
 use std::sync::Wait;
 
-// The Gate of a moment, with these delays. There is no trip yet.
-fn gate_with(moment: u64, grace: u32, mercy: u32) -> Gate
-    ensures { result ≡ gate_with moment grace mercy }
+// The Gate of a moment, with the configuration's delays. There is no trip yet.
+fn gate_of<A: App>(tables: &Tables<A>, moment: u64) -> Gate
+    ensures { result ≡ gate_at tables.now moment }
 {
     Gate {
         moment,
         tripped: None,
-        grace,
-        mercy,
+        grace: tables.config.grace,
+        mercy: tables.config.mercy,
     }
-}
-
-/// The Gate of a moment, with the configuration's delays.
-pub(crate) fn gate_of<A: App>(tables: &Tables<A>, moment: u64) -> Gate
-    ensures { result ≡ gate_at tables.now moment }
-{
-    gate_with(moment, tables.config.grace, tables.config.mercy)
 }
 
 // Begins the exchange of what a head asks, or hands the wire's handle back where there is no memory.
@@ -73,30 +67,6 @@ fn begin<'a, A: App>(
         return Err(shutdown);
     };
     Ok(Exchange::new(alloc, tables, incoming, body, shutdown, gate))
-}
-
-// Looks at the wire, and gives the Gate of that moment. Where it is the first to see a word, it enters the Trip.
-fn next_gate<A: App, L: Listener, C: Clock>(
-    grace: u32,
-    mercy: u32,
-    board: &mut BoardOf<A, LentBy<A>, L, C>,
-) -> Gate
-where
-    L::Link: Link<Source = A::Source>,
-    requires keeps { Keeps L.Link.meaning L.meaning C.meaning (cause_of A.Reason.allowed A.Fairing.Shuts.calling A.Fairing.Requests.calling A.Fairing.Responses.calling A.Handler.calling A.Catch.calling A.Source.meaning A.Stream.meaning L.Link.meaning) board.old }
-    requires unclosed { list_any is_close (events board.old.book.marks.items) ≡ false }
-    ensures name { board.new.name ≡ board.old.name }
-    ensures gate { result ≡ gate_with result.moment grace mercy }
-    ensures moment { IsAmid (C.meaning board.old.near.clock) (C.meaning board.new.near.clock) result.moment }
-    ensures clock { TellsOn (C.meaning board.old.near.clock) (C.meaning board.new.near.clock) }
-    // It looks with one load, unless a word was seen before.
-    ensures looked { board.old.near.handle.seen ≡ 0 → board.new.near.handle.looked ≡ board.old.near.handle.looked + 1 }
-    ensures handle { HandsBack board.old.near.handle board.new.near.handle }
-    ensures adds { TripsAs 0 board.old.book.marks.items board.new.book.marks.items }
-    ensures keeps { Keeps L.Link.meaning L.meaning C.meaning (cause_of A.Reason.allowed A.Fairing.Shuts.calling A.Fairing.Requests.calling A.Fairing.Responses.calling A.Handler.calling A.Catch.calling A.Source.meaning A.Stream.meaning L.Link.meaning) board.new }
-{
-    let (moment, _word) = look::<A, LentBy<A>, L, C>(board, CALLER);
-    gate_with(moment, grace, mercy)
 }
 
 // At this moment the grace and the mercy of a Trip are over.
@@ -127,8 +97,8 @@ where
     }
 }
 
-// Polls an exchange to its end, each time under the Gate of the next moment. Before each poll it looks at the wire. One that
-// still waits when the grace and the mercy of a Trip are over is left alone.
+// Polls an exchange to its end, each time under the Gate of the next moment. Before each poll it looks at the wire, and the Gate
+// shows what it saw. One that still waits when the grace and the mercy of a Trip are over is left alone.
 fn to_end<A: App, R: Wait, L: Listener, C: Clock>(
     rt: &R,
     exchange: &mut Exchange<'_, A>,
@@ -143,7 +113,8 @@ where
     requires unclosed { list_any is_close (events board.old.book.marks.items) ≡ false }
     ensures name { board.new.name ≡ board.old.name }
     // Whatever rule all Gates fit that it may be polled under.
-    ensures ends { (rule : GateRule) (first : Beginning A.Value (Body (Cancellable A.Source)) A.Cached) → AllFit rule grace mercy (C.meaning board.old.near.clock) (C.meaning board.new.near.clock)
+    ensures ends { (rule : GateRule) (first : Beginning A.Value (Body (Cancellable A.Source)) A.Cached)
+        → AllFit rule grace mercy (C.meaning board.old.near.clock) (C.meaning board.new.near.clock) (word_in (trip_of (events board.new.book.marks.items)))
         → StandsFor (callbacks_with A.Source.meaning A.Fairing.Requests.calling A.Fairing.Responses.calling A.Handler.calling A.Catch.calling rule) first exchange.old.tables exchange.old.phase
         → MatchOption result (MayBePending (callbacks_with A.Source.meaning A.Fairing.Requests.calling A.Fairing.Responses.calling A.Handler.calling A.Catch.calling rule) A.Source.meaning exchange.old.tables)
         (EndsSo (callbacks_with A.Source.meaning A.Fairing.Requests.calling A.Fairing.Responses.calling A.Handler.calling A.Catch.calling rule) first exchange.old.tables) }
@@ -155,7 +126,7 @@ where
 {
     let mut trip = None;
     for _ in rt.forever() {
-        let gate = next_gate::<A, L, C>(grace, mercy, board);
+        let gate = gate_now::<A, L, C>(grace, mercy, board);
         match exchange.poll(gate) {
             Poll::Ready(ended) => return Some(ended),
             Poll::Pending => {}
@@ -169,7 +140,8 @@ where
 }
 
 /// The exchange of what a head asks, with the body that a source gives, unless it still waits when the grace and the mercy of a
-/// Trip are over. It begins at this moment. Before each poll of it the wire is looked at, which may enter a Trip.
+/// Trip are over. It begins at this moment. Before each poll of it the wire is looked at, which may enter a Trip; from then on its
+/// Gates show that.
 pub(crate) fn run_exchange<A: App, R: Wait, L: Listener, C: Clock>(
     rt: &R,
     alloc: Global,
@@ -186,8 +158,8 @@ where
     requires unclosed { list_any is_close (events board.old.book.marks.items) ≡ false }
     ensures name { board.new.name ≡ board.old.name }
     ensures lifecycle { (asked : Asked) → asked.head ≡ head.now → IsUntouched (A.Source.meaning source) → GivesBody asked (A.Source.meaning source)
-        → IfSome result (λ ended. IfFinished ended (Lifecycle (callbacks_with A.Source.meaning A.Fairing.Requests.calling A.Fairing.Responses.calling A.Handler.calling A.Catch.calling (gates_of (C.meaning board.old.near.clock).window tables.now)) tables.now A.Source.meaning asked)) }
-    ensures waits { IsNone result → MayBePending (callbacks_with A.Source.meaning A.Fairing.Requests.calling A.Fairing.Responses.calling A.Handler.calling A.Catch.calling (gates_of (C.meaning board.old.near.clock).window tables.now)) A.Source.meaning tables.now }
+        → IfSome result (λ ended. IfFinished ended (Lifecycle (callbacks_with A.Source.meaning A.Fairing.Requests.calling A.Fairing.Responses.calling A.Handler.calling A.Catch.calling (gates_of (C.meaning board.old.near.clock).window tables.now (is_some (word_in (trip_of (events board.new.book.marks.items)))))) tables.now A.Source.meaning asked)) }
+    ensures waits { IsNone result → MayBePending (callbacks_with A.Source.meaning A.Fairing.Requests.calling A.Fairing.Responses.calling A.Handler.calling A.Catch.calling (gates_of (C.meaning board.old.near.clock).window tables.now true)) A.Source.meaning tables.now }
     ensures late { IsNone result → IsLate tables.now.config.grace tables.now.config.mercy (trip_of (events board.new.book.marks.items)) (C.meaning board.new.near.clock).last }
     ensures moment { IfSome result (λ ended. IfFinished ended (λ run response. IsAmid (C.meaning board.old.near.clock) (C.meaning board.new.near.clock) run.moment)) }
     ensures handle { IfSome result (λ ended. HandsBack shutdown (handle_of ended)) }

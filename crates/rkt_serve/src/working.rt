@@ -1,5 +1,5 @@
 //! What serves a link: one exchange with it, and the sending of its response.
-ghost use Rattle.std.specs.Prelude.{◌≡◌, ◌≢◌, ℕ, [], Option, None, Some, false, IfSome, IsSomeAnd};
+ghost use Rattle.std.specs.Prelude.{◌≡◌, ◌≢◌, ℕ, [], Bool, Option, None, Some, false, IfSome, IsSome, IsSomeAnd, IsTrue};
 ghost use Rattle.std.specs.List.{list_any, All};
 ghost use Rattle.std.specs.Option.{ForSome};
 ghost use Rattle.rkt_routing.specs.Backs.{Sees};
@@ -81,7 +81,8 @@ where
     ensures asked { (L.Link.meaning result.link.io).asked ≡ (L.Link.meaning link).asked }
     ensures caused { (window : Option (ℕ × ℕ)) (tables : SeenTables A.Fairing A.Handler A.Catch A.Sentinel A.Value) → tables.config.turns ≡ turns → board.old.name.served.grace ≡ tables.config.grace
         → ForSome (L.Link.meaning link).held (λ held. held ≡ []) → (L.Link.meaning link).faults ≡ 0
-        → ForSome (L.Link.meaning link).asked (λ asked. Lifecycle (callbacks_of (serving A.Fairing.Requests.calling A.Fairing.Responses.calling A.Handler.calling A.Catch.calling A.Source.meaning A.Stream.meaning L.Link.meaning window) tables) tables A.Source.meaning asked run response)
+        → (shown : Bool) → (IsTrue shown → IsSome (word_in (trip_of (events board.old.book.marks.items))))
+        → ForSome (L.Link.meaning link).asked (λ asked. Lifecycle (callbacks_of (serving A.Fairing.Requests.calling A.Fairing.Responses.calling A.Handler.calling A.Catch.calling A.Source.meaning A.Stream.meaning L.Link.meaning window) tables shown) tables A.Source.meaning asked run response)
         → Caused (serving A.Fairing.Requests.calling A.Fairing.Responses.calling A.Handler.calling A.Catch.calling A.Source.meaning A.Stream.meaning L.Link.meaning window) tables (word_in (trip_of (events board.new.book.marks.items))) result }
     ensures cut { IsCutBy (watched_by C.meaning board.new) result.end }
     ensures ended { result.end ≢ Abandoned }

@@ -9,6 +9,7 @@ use Rattle.rkt_board.specs.Events.{trip_of}
 use Rattle.rkt_board.specs.Marks.{events}
 use Rattle.rkt_board.specs.Turns.{TripsAs}
 use Rattle.rkt_serve.specs.Begun.{AllFit}
+use Rattle.rkt_serve.specs.Gates.{word_in}
 use Rattle.rkt_serve.specs.Lent.{cause_of}
 use Rattle.rkt_link.specs.Clock.{TellsOn}
 use Rattle.rkt_serve.specs.Serving.{callbacks_with}
@@ -22,7 +23,7 @@ invariant-loop g l =
     × (l.exchange.tables ≡ l.initial.exchange.tables)
     × TellsOn (g.C.Clock.meaning l.initial.board.near.clock) (g.C.Clock.meaning l.board.near.clock)
     × ((rule : GateRule) (first : Beginning g.row.A-Value.Denot (Body (Cancellable g.row.A-Source.Denot)) g.row.A-Cached.Denot)
-    → AllFit rule l.grace l.mercy (g.C.Clock.meaning l.initial.board.near.clock) (g.C.Clock.meaning l.board.near.clock)
+    → AllFit rule l.grace l.mercy (g.C.Clock.meaning l.initial.board.near.clock) (g.C.Clock.meaning l.board.near.clock) (word_in (trip_of (events l.board.book.marks.items)))
     → StandsFor (callbacks_with g.A.Source.Source.meaning g.A-Fairing-Requests-RequestCallback.calling g.A.Fairing.Responses.ResponseCallback.calling g.A-Handler-Handler.calling g.A.Catch.CatchHandler.calling rule) first l.initial.exchange.tables l.initial.exchange.phase
     → StandsFor (callbacks_with g.A.Source.Source.meaning g.A-Fairing-Requests-RequestCallback.calling g.A.Fairing.Responses.ResponseCallback.calling g.A-Handler-Handler.calling g.A.Catch.CatchHandler.calling rule) first l.exchange.tables l.exchange.phase)
     × Keeps g.L.Link.Link.meaning g.L.Listener.meaning g.C.Clock.meaning (cause_of g.A.Reason.Reason.allowed g.A.Fairing.Shuts.ShutdownCallback.calling g.A-Fairing-Requests-RequestCallback.calling g.A.Fairing.Responses.ResponseCallback.calling g.A-Handler-Handler.calling g.A.Catch.CatchHandler.calling g.A.Source.Source.meaning g.A.Stream.Source.meaning g.L.Link.Link.meaning) l.board

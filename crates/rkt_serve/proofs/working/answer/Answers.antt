@@ -1,5 +1,5 @@
 use Rattle.std.proofs.Common.{ℕ, max, ap, refl, subst, sym, ◌∙◌}
-use Rattle.rkt_serve.proofs.Cutting.{adds_trip, cut_off_by}
+use Rattle.rkt_serve.proofs.Cutting.{adds_trip, cut_off_by, word_still}
 use Rattle.rkt_serve.proofs.Pieces.{caused_sent}
 use Rattle.rkt_serve.specs.Gates.{IsCutOff}
 use Rattle.rkt_serve.specs.Looking.{watched_by}
@@ -8,14 +8,16 @@ use Rattle.rkt_serve.specs.Serving.{serving}
 use Rattle.rkt_serve.proofs.working.answer.Goals as goal
 
 pub returns-clause-caused : goal.returns-clause-caused
-returns-clause-caused g c window tables turns grace fresh none lifecycle =
+returns-clause-caused g c window tables turns grace fresh none shown behind lifecycle =
     let served = serving g.A-Fairing-Requests-RequestCallback.calling g.A.Fairing.Responses.ResponseCallback.calling g.A-Handler-Handler.calling g.A.Catch.CatchHandler.calling g.A.Source.Source.meaning g.A.Stream.Source.meaning g.L.Link.Link.meaning window in
     let watched = watched_by g.C.Clock.meaning c.send-response.new.gates in
     let sent = c.send-response.ensures in
+    let old = c.args.board.now.book.marks.items in
+    let new = c.send-response.new.gates.book.marks.items in
     let ended = rw c.in-Ok.is at sent.ended in
     let left = subst (λ k. LeftBy c.in-Ok.ended (g.L.Link.Link.meaning k) ended.0 (g.L.Link.Link.meaning c.send-response.new.io.io)) (ap (λ io. io.io) c.new-io.ensures) ended.2 in
     caused_sent served tables _ _ (g.L.Link.Link.meaning c.args.link) c.args.run c.args.response c.send-response.result.0 c.in-Ok.ended ended.0
-    (rw (c.in-Ok-new.ensures, c.in-Ok-new-2.ensures) refl) lifecycle fresh none sent.read_on sent.reads
+    (rw (c.in-Ok-new.ensures, c.in-Ok-new-2.ensures) refl) shown (λ is. word_still 0 old new (adds_trip old new sent.leads.adds sent.keeps.keeps.legal.ordered) (behind is)) lifecycle fresh none sent.read_on sent.reads
     (subst (λ (n : ℕ). IsSentAs g.A.Stream.Source.meaning (max n 1) c.args.response c.send-response.result.0 c.in-Ok.ended ended.0) (sym turns) ended.1) left
     watched refl (ap (λ n. n.served.grace) sent.leads.name ∙ grace) (rw c.in-Ok.is at sent.cut)
 

@@ -1,5 +1,7 @@
-use Rattle.std.proofs.Common.{IsSome, ap, refl, sym, subst, ◌∙◌}
+use Rattle.std.proofs.Common.{IsSome, is_some, ap, refl, sym, subst, ◌∙◌}
 use Rattle.std.specs.List.{All}
+use Rattle.rkt_board.specs.Events.{trip_of}
+use Rattle.rkt_board.specs.Marks.{events}
 use Rattle.rkt_board.specs.declared.history.EntryOf.{EntryOf}
 use Rattle.rkt_link.proofs.Telling.{tells_then}
 use Rattle.rkt_link.specs.Clock.{IsAmid}
@@ -20,7 +22,7 @@ returns-in-Finished-clause-caused g c fresh =
     let holds = sym (ap (λ (m : LinkMeaning). m.held) taken.link) in
     c.answer-entry.ensures.caused (g.C.Clock.meaning c.args.board.now.near.clock).window c.args.self.now.tables.now (sym c.turns_of-turns.ensures)
     (ap (λ n. n.served.grace) c.run_exchange-ended.ensures.name ∙ c.requires.lent.grace) (λ held told. fresh.none_held held (holds ∙ told)) (ap (λ (m : LinkMeaning). m.faults) taken.link ∙ fresh.no_fault)
-    (λ asked told. rw c.in-Finished.is at (c.in-Some-ended.ensures.lifecycle asked (c.head.ensures asked told) taken.untouched (taken.body asked (asks ∙ told))))
+    (is_some (word_in (trip_of (events c.run_exchange-ended.new.board.book.marks.items)))) (λ is. is) (λ asked told. rw c.in-Finished.is at (c.in-Some-ended.ensures.lifecycle asked (c.head.ensures asked told) taken.untouched (taken.body asked (asks ∙ told))))
 
 pub returns-in-Finished-clause-name : goal.returns-in-Finished-clause-name
 returns-in-Finished-clause-name g c = c.answer-entry.ensures.name ∙ c.run_exchange-ended.ensures.name
