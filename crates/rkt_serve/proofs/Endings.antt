@@ -53,6 +53,10 @@ none_shown (Some word) (Some w) shown none = absurd (cc none)
 pub fit_window : (grace mercy : ℕ) (old new : ClockMeaning) (seen : Option ℕ) (may_trip : Bool) → (may_trip ≡ false → IsNone seen) → AllFit (gates_with old.window grace mercy may_trip) grace mercy old new seen
 fit_window grace mercy old new seen may_trip none moment tripped amid shown = record { moment = in_window old.window moment amid.within; delays = (refl, refl); trip = λ untripped. none_shown tripped seen shown (none untripped) }
 
+-- so where it may show a trip
+pub fit_any : (grace mercy : ℕ) (old new : ClockMeaning) (seen : Option ℕ) → AllFit (gates_with old.window grace mercy true) grace mercy old new seen
+fit_any grace mercy old new seen = fit_window grace mercy old new seen true (λ untripped. absurd (cc untripped))
+
 -- and every Gate of a moment that the clock has told meanwhile
 pub fit_between : (grace mercy : ℕ) (old new : ClockMeaning) (seen : Option ℕ) → AllFit (gates_with (Some (old.last, new.last)) grace mercy true) grace mercy old new seen
 fit_between grace mercy old new seen moment tripped amid shown = record { moment = (amid.from, amid.to); delays = (refl, refl); trip = λ untripped. absurd (cc untripped) }

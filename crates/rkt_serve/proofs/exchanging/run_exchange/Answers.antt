@@ -4,7 +4,7 @@ use Rattle.rkt_board.specs.Marks.{events}
 use Rattle.rkt_lifecycle.specs.Beginning.{beginning}
 use Rattle.rkt_lifecycle.specs.Stands.{EndsSo}
 use Rattle.rkt_source.specs.declared.source.Gate.{Gate}
-use Rattle.rkt_serve.proofs.Endings.{ended_back, ended_words, ended_moment, ended_lifecycle, fit_between, fit_window, if_ended, if_so, if_waits, run_amid}
+use Rattle.rkt_serve.proofs.Endings.{ended_back, ended_words, ended_moment, ended_lifecycle, fit_any, fit_between, fit_window, if_ended, if_so, if_waits, run_amid}
 use Rattle.rkt_serve.specs.Gates.{word_in}
 use Rattle.rkt_serve.specs.Lifecycle.{body_from}
 use Rattle.rkt_serve.specs.Serving.{callbacks_with, gates_of, gates_with}
@@ -34,7 +34,7 @@ returns-in-Ok-clause-waits g c none =
     let begun = c.in-Ok.ensures.begun in
     let first = beginning begun.request begun.jar begun.faults (body_from c.args.source) c.args.shutdown in
     subst (λ ts. MayBePending (callbacks_with g.A.Source.Source.meaning g.A-Fairing-Requests-RequestCallback.calling g.A.Fairing.Responses.ResponseCallback.calling g.A-Handler-Handler.calling g.A.Catch.CatchHandler.calling (gates_of old.window c.args.tables.now true)) g.A.Source.Source.meaning ts) begun.same
-    (if_waits c.to_end-ended.result _ _ none (c.to_end-ended.ensures.ends rule first (fit_window gate.grace gate.mercy old (g.C.Clock.meaning c.to_end-ended.new.board.near.clock) seen true (λ no. absurd (cc no))) (begun.stands rule)))
+    (if_waits c.to_end-ended.result _ _ none (c.to_end-ended.ensures.ends rule first (fit_any gate.grace gate.mercy old (g.C.Clock.meaning c.to_end-ended.new.board.near.clock) seen) (begun.stands rule)))
 
 pub returns-in-Ok-clause-late : goal.returns-in-Ok-clause-late
 returns-in-Ok-clause-late g c none =
@@ -51,7 +51,7 @@ returns-in-Ok-clause-moment g c =
     let begun = c.in-Ok.ensures.begun in
     let first = beginning begun.request begun.jar begun.faults (body_from c.args.source) c.args.shutdown in
     if_so c.to_end-ended.result _ _ _ (λ ended one two. run_amid old new ended one two)
-    (if_ended c.to_end-ended.result _ _ _ (λ ended ends. ended_moment (callbacks_with g.A.Source.Source.meaning g.A-Fairing-Requests-RequestCallback.calling g.A.Fairing.Responses.ResponseCallback.calling g.A-Handler-Handler.calling g.A.Catch.CatchHandler.calling wide) first c.in-Ok.exchange.tables ended ends) (c.to_end-ended.ensures.ends wide first (fit_window gate.grace gate.mercy old new seen true (λ no. absurd (cc no))) (begun.stands wide)))
+    (if_ended c.to_end-ended.result _ _ _ (λ ended ends. ended_moment (callbacks_with g.A.Source.Source.meaning g.A-Fairing-Requests-RequestCallback.calling g.A.Fairing.Responses.ResponseCallback.calling g.A-Handler-Handler.calling g.A.Catch.CatchHandler.calling wide) first c.in-Ok.exchange.tables ended ends) (c.to_end-ended.ensures.ends wide first (fit_any gate.grace gate.mercy old new seen) (begun.stands wide)))
     (if_ended c.to_end-ended.result _ _ _ (λ ended ends. ended_moment (callbacks_with g.A.Source.Source.meaning g.A-Fairing-Requests-RequestCallback.calling g.A.Fairing.Responses.ResponseCallback.calling g.A-Handler-Handler.calling g.A.Catch.CatchHandler.calling narrow) first c.in-Ok.exchange.tables ended ends) (c.to_end-ended.ensures.ends narrow first (fit_between gate.grace gate.mercy old new seen) (begun.stands narrow)))
 
 pub returns-in-Ok-clause-handle : goal.returns-in-Ok-clause-handle
@@ -63,7 +63,7 @@ returns-in-Ok-clause-handle g c =
     let begun = c.in-Ok.ensures.begun in
     let first = beginning begun.request begun.jar begun.faults (body_from c.args.source) c.args.shutdown in
     if_ended c.to_end-ended.result _ _ _ (λ ended ends. ended_back (callbacks_with g.A.Source.Source.meaning g.A-Fairing-Requests-RequestCallback.calling g.A.Fairing.Responses.ResponseCallback.calling g.A-Handler-Handler.calling g.A.Catch.CatchHandler.calling rule) first c.in-Ok.exchange.tables ended ends)
-    (c.to_end-ended.ensures.ends rule first (fit_window gate.grace gate.mercy old (g.C.Clock.meaning c.to_end-ended.new.board.near.clock) seen true (λ no. absurd (cc no))) (begun.stands rule))
+    (c.to_end-ended.ensures.ends rule first (fit_any gate.grace gate.mercy old (g.C.Clock.meaning c.to_end-ended.new.board.near.clock) seen) (begun.stands rule))
 
 pub returns-in-Ok-clause-words : goal.returns-in-Ok-clause-words
 returns-in-Ok-clause-words g c =
@@ -74,4 +74,4 @@ returns-in-Ok-clause-words g c =
     let begun = c.in-Ok.ensures.begun in
     let first = beginning begun.request begun.jar begun.faults (body_from c.args.source) c.args.shutdown in
     if_ended c.to_end-ended.result _ _ _ (λ ended ends. ended_words (callbacks_with g.A.Source.Source.meaning g.A-Fairing-Requests-RequestCallback.calling g.A.Fairing.Responses.ResponseCallback.calling g.A-Handler-Handler.calling g.A.Catch.CatchHandler.calling rule) first c.in-Ok.exchange.tables ended ends)
-    (c.to_end-ended.ensures.ends rule first (fit_window gate.grace gate.mercy old (g.C.Clock.meaning c.to_end-ended.new.board.near.clock) seen true (λ no. absurd (cc no))) (begun.stands rule))
+    (c.to_end-ended.ensures.ends rule first (fit_any gate.grace gate.mercy old (g.C.Clock.meaning c.to_end-ended.new.board.near.clock) seen) (begun.stands rule))
