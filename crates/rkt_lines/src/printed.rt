@@ -1,6 +1,6 @@
 //! What came of a launch, on standard output: of each request the status, the headers, and the body.
-use crate::site::Site;
 use rkt_base::Text;
+use rkt_life::Types;
 use rkt_message::Piece;
 use rkt_serve::{Entry, History, MemoryLink};
 use std::alloc::Global;
@@ -31,7 +31,7 @@ fn print_piece(rt: &impl Print, piece: &Piece) -> io::Result<()> {
     }
 }
 
-fn print_entry(rt: &impl Print, entry: &Entry<Site, MemoryLink>) -> io::Result<()> {
+fn print_entry<A: Types>(rt: &impl Print, entry: &Entry<A, MemoryLink>) -> io::Result<()> {
     for piece in entry.link.kept().held() {
         print_piece(rt, piece)?;
     }
@@ -39,14 +39,14 @@ fn print_entry(rt: &impl Print, entry: &Entry<Site, MemoryLink>) -> io::Result<(
 }
 
 /// Prints each entry.
-pub fn print_history(
+pub fn print_history<A: Types>(
     rt: &impl Print,
     alloc: Global,
-    history: &History<Site, MemoryLink>,
+    history: &History<A, MemoryLink>,
 ) -> io::Result<()> {
     for entry in history.entries(alloc)? {
         if let Some(entry) = entry {
-            print_entry(rt, entry)?;
+            print_entry::<A>(rt, entry)?;
         }
     }
     Ok(())
