@@ -1,4 +1,8 @@
 //! A change that many applications make.
+ghost use Rattle.std.specs.Prelude.{◌≡◌};
+ghost use Rattle.rkt_http.specs.Headers.{added};
+ghost use Rattle.rkt_message.specs.Response.{with_headers};
+
 use rkt_life::{ChangesResponse, Ctx, NoMemory, Request, Response, Types};
 use std::alloc::Global;
 
@@ -7,6 +11,10 @@ use std::alloc::Global;
 pub struct AddsHeader(pub &'static str, pub &'static str);
 
 impl<T: Types> ChangesResponse<T> for AddsHeader {
+    // The header stands behind those of its name.
+    ghost may = { λ change request before after.
+        after ≡ record before { response = with_headers before.response (added before.response.headers (record { name = change.0.now; value = change.1.now })) } };
+
     fn on_response(
         &self,
         _alloc: Global,

@@ -1,6 +1,6 @@
 //! An application served over lines: each line of standard input is METHOD TARGET, and is answered on standard output. What an
-//! author names for this is offered here too, so that such a program imports this crate alone. Its functions promise nothing
-//! but what their types say.
+//! author names for this is offered here too, so that such a program imports this crate alone. What serves and prints promises
+//! nothing but what its types say.
 #![tactic(auto)]
 
 mod adds_header;
