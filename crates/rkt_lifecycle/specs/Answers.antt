@@ -62,14 +62,14 @@ module _ {V C S F Task : Type 0} (calling : Calling (Slot F) (Seen V) (ResponseA
     Leads calls at = Chained (answering fairings turns first.request) 0 first.at calls (Ends at)
 
     -- a call is under way, or all were made; the request stays
-    abbrev pub AnswerStands : Departure (Seen V) (Lent C) S → Option (FairingTask Task) → Type 0
-    AnswerStands departure next =
-        (departure.live.request ≡ first.request) × CallStands (answering fairings turns first.request) Leads first.at.kept.shutdown Ends (answered_at departure) departure.live.calls next
+    pub record AnswerStands (departure : Departure (Seen V) (Lent C) S) (next : Option (FairingTask Task)) : Type 0 where
+      pub request : departure.live.request ≡ first.request
+      pub calls : CallStands (answering fairings turns first.request) Leads first.at.kept.shutdown Ends (answered_at departure) departure.live.calls next
 
     -- one was made, and this is its reply
-    abbrev pub AnsweredSo : Departure (Seen V) (Lent C) S → ℕ → Final (Unit {0}) → Type 0
-    AnsweredSo departure place reply =
-        (departure.live.request ≡ first.request) × Called (answering fairings turns first.request) Leads first.at.kept.shutdown Ends (answered_at departure) departure.live.calls place reply
+    pub record AnsweredSo (departure : Departure (Seen V) (Lent C) S) (place : ℕ) (reply : Final (Unit {0})) : Type 0 where
+      pub request : departure.live.request ≡ first.request
+      pub call : Called (answering fairings turns first.request) Leads first.at.kept.shutdown Ends (answered_at departure) departure.live.calls place reply
 
     -- one was Pending under this Gate
     abbrev pub Pends : Gate → Departure (Seen V) (Lent C) S → Option (FairingTask Task) → Type 0

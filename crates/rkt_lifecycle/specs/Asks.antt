@@ -57,8 +57,8 @@ module _ {V B C F Task : Type 0} (calling : Calling (Slot F) (Unit {0}) (Request
     Leads calls at = Chained (asking fairings turns) 0 first calls (Ends at)
 
     -- a call is under way, or all were made
-    abbrev pub AskStands : Arrival (Seen V) B (Lent C) → Option (FairingTask Task) → Type 0
-    AskStands arrival = CallStands (asking fairings turns) Leads first.kept.shutdown Ends (asked_at arrival) arrival.live.calls
+    pub record AskStands (arrival : Arrival (Seen V) B (Lent C)) (next : Option (FairingTask Task)) : Type 0 where
+      pub calls : CallStands (asking fairings turns) Leads first.kept.shutdown Ends (asked_at arrival) arrival.live.calls next
 
     -- one was made, and this is its reply
     abbrev pub AskedSo : Arrival (Seen V) B (Lent C) → ℕ → Final (Unit {0}) → Type 0

@@ -15,14 +15,15 @@ returns g c = record {
   gives = λ rule first so.
       let chain = answering (slot_response g.Q.ResponseCallback.calling) rule c.args.fairings.now c.args.turns first.request in
       let whole = Leads (slot_response g.Q.ResponseCallback.calling) rule c.args.fairings.now c.args.turns first in
-      let begins = subst (λ r. Begins Response c.args.fairings.now (c.args.place + 1) (λ fairing task. Starts (slot_response g.Q.ResponseCallback.calling) fairing r task) c.begin.result) so.0
+      let begins = subst (λ r. Begins Response c.args.fairings.now (c.args.place + 1) (λ fairing task. Starts (slot_response g.Q.ResponseCallback.calling) fairing r task) c.begin.result) so.request
       (subst (λ p. Begins Response c.args.fairings.now p (λ fairing task. Starts (slot_response g.Q.ResponseCallback.calling) fairing c.args.departure.now.live.request task) c.begin.result)
-      (c.place_behind-next.ensures (found_within Response c.args.fairings.now c.args.place so.1.found)) c.begin.ensures.begins) in (
-        so.0,
-        begins_stand chain whole first.at.kept.shutdown Ends (answered_at c.args.departure.now) c.push.new.self (c.args.place + 1) c.begin.result (some_turns c.args.turns) begins
+      (c.place_behind-next.ensures (found_within Response c.args.fairings.now c.args.place so.call.found)) c.begin.ensures.begins) in
+      record {
+        request = so.request;
+        calls = begins_stand chain whole first.at.kept.shutdown Ends (answered_at c.args.departure.now) c.push.new.self (c.args.place + 1) c.begin.result (some_turns c.args.turns) begins
             (called_next chain whole first.at.kept.shutdown Ends (answered_at c.args.departure.now) c.args.departure.now.live.calls c.push.new.self c.recorded-call.result c.args.place c.args.reply c.in_default.not-Starved c.in_ok-push.ensures.ok
-            (rw (← c.fairing_says.ensures) c.recorded-call.ensures) so.1),
-      );
+            (rw (← c.fairing_says.ensures) c.recorded-call.ensures) so.call);
+      };
   falls = λ within. begins_falls Response c.args.fairings.now c.args.place c.begin.result _ within
       (subst (λ p. Begins Response c.args.fairings.now p (λ fairing task. Starts (slot_response g.Q.ResponseCallback.calling) fairing c.args.departure.now.live.request task) c.begin.result) (c.place_behind-next.ensures within) c.begin.ensures.begins);
 }

@@ -12,34 +12,34 @@ use Rattle.rkt_lifecycle.proofs.answering.run.Goals as goal
 
 pub returns-in_default : goal.returns-in_default
 returns-in_default g c = λ rule first fits stands.
-    let now = c.loop-next.invariant.2 rule first fits (rw c.set_gate.ensures stands) in
-    let ends = calls_end (answering (slot_response g.Q.ResponseCallback.calling) rule c.args.fairings.now c.args.turns first.request) first.at first.at.kept.shutdown (answered_at c.loop-next.lent) c.loop-next.lent.live.calls (rw c.in_default.is at now.1) in
-    (now.0, ends.0, ends.1)
+    let now = c.loop-next.invariant.2 rule first fits (rw c.set_gate.ensures (record { request = stands.request; calls = stands.calls })) in
+    let ends = calls_end (answering (slot_response g.Q.ResponseCallback.calling) rule c.args.fairings.now c.args.turns first.request) first.at first.at.kept.shutdown (answered_at c.loop-next.lent) c.loop-next.lent.live.calls (rw c.in_default.is at now.calls) in
+    (now.request, ends.0, ends.1)
 
 pub returns-in-Pending : goal.returns-in-Pending
 returns-in-Pending g c = λ rule first fits stands.
-    let now = c.loop-next.invariant.2 rule first fits (rw c.set_gate.ensures stands) in
-    let waits = rw c.in-Pending.is at (subst (λ r. CallTurned (answering (slot_response g.Q.ResponseCallback.calling) rule c.args.fairings.now c.args.turns r) (Leads (slot_response g.Q.ResponseCallback.calling) rule c.args.fairings.now c.args.turns first) first.at.kept.shutdown Ends c.args.gate (record { response = c.turn_response-turn.new.response; kept = c.turn_response-turn.new.ctx.kept }) c.loop-next.lent.live.calls (record { place = c.in-Some.call.place; task = c.turn_response-turn.new.task; turn = c.in-Some.call.turn + 1 }) c.turn_response-turn.result) now.0
+    let now = c.loop-next.invariant.2 rule first fits (rw c.set_gate.ensures (record { request = stands.request; calls = stands.calls })) in
+    let waits = rw c.in-Pending.is at (subst (λ r. CallTurned (answering (slot_response g.Q.ResponseCallback.calling) rule c.args.fairings.now c.args.turns r) (Leads (slot_response g.Q.ResponseCallback.calling) rule c.args.fairings.now c.args.turns first) first.at.kept.shutdown Ends c.args.gate (record { response = c.turn_response-turn.new.response; kept = c.turn_response-turn.new.ctx.kept }) c.loop-next.lent.live.calls (record { place = c.in-Some.call.place; task = c.turn_response-turn.new.task; turn = c.in-Some.call.turn + 1 }) c.turn_response-turn.result) now.request
     (call_turned (answering (slot_response g.Q.ResponseCallback.calling) rule c.args.fairings.now c.args.turns c.loop-next.lent.live.request) (Leads (slot_response g.Q.ResponseCallback.calling) rule c.args.fairings.now c.args.turns first) first.at.kept.shutdown Ends (answered_at c.loop-next.lent) (record { response = c.turn_response-turn.new.response; kept = c.turn_response-turn.new.ctx.kept }) c.loop-next.lent.live.calls
     c.loop-next.lent.live.calls c.in-Some.call (record { place = c.in-Some.call.place; task = c.turn_response-turn.new.task; turn = c.in-Some.call.turn + 1 }) c.args.gate c.max-most.result c.turn_response-turn.result c.max-most.ensures fits refl refl refl c.turn_response-turn.ensures.left
     (λ pending fairing found. rw c.loop-next.invariant.0 at (subst (λ f. Polls (slot_response g.Q.ResponseCallback.calling) f c.loop-next.lent.live.request c.in-Some.call.task (answered_at c.loop-next.lent) c.loop-next.lent.live.ctx.gate step.Pending c.turn_response-turn.new.task (record { response = c.turn_response-turn.new.response; kept = c.turn_response-turn.new.ctx.kept })) (same_fairing c.in-Some-get.ensures.found found) (c.turn_response-turn.ensures.pending pending)))
     (λ before fairing found making. (c.turn_response-turn.ensures.grows rule before (subst (λ f. Making (slot_response g.Q.ResponseCallback.calling) rule c.max-most.result f c.loop-next.lent.live.request before c.in-Some.call.task (answered_at c.loop-next.lent) c.in-Some.call.turn) (sym (same_fairing c.in-Some-get.ensures.found found)) making)).shutdown)
     (λ before fairing found making. subst (λ f. Turned (slot_response g.Q.ResponseCallback.calling) rule c.max-most.result f c.loop-next.lent.live.request before c.turn_response-turn.result c.turn_response-turn.new.task (record { response = c.turn_response-turn.new.response; kept = c.turn_response-turn.new.ctx.kept }) (c.in-Some.call.turn + 1)) (same_fairing c.in-Some-get.ensures.found found) (c.turn_response-turn.ensures.gives rule before (rw c.loop-next.invariant.0 fits) (subst (λ f. Making (slot_response g.Q.ResponseCallback.calling) rule c.max-most.result f c.loop-next.lent.live.request before c.in-Some.call.task (answered_at c.loop-next.lent) c.in-Some.call.turn) (sym (same_fairing c.in-Some-get.ensures.found found)) making)))
-    (subst (λ r. CallsNow (answering (slot_response g.Q.ResponseCallback.calling) rule c.args.fairings.now c.args.turns r) (Leads (slot_response g.Q.ResponseCallback.calling) rule c.args.fairings.now c.args.turns first) first.at.kept.shutdown Ends (answered_at c.loop-next.lent) c.loop-next.lent.live.calls c.in-Some.call) (sym now.0)
-    (rw c.in-Some.is at now.1)))) in
-    ((now.0, waits.0), waits)
+    (subst (λ r. CallsNow (answering (slot_response g.Q.ResponseCallback.calling) rule c.args.fairings.now c.args.turns r) (Leads (slot_response g.Q.ResponseCallback.calling) rule c.args.fairings.now c.args.turns first) first.at.kept.shutdown Ends (answered_at c.loop-next.lent) c.loop-next.lent.live.calls c.in-Some.call) (sym now.request)
+    (rw c.in-Some.is at now.calls)))) in
+    (record { request = now.request; calls = waits.0 }, waits)
 
 pub returns-in-Err : goal.returns-in-Err
 returns-in-Err g c = λ rule first fits stands.
-    let now = c.loop-next.invariant.2 rule first fits (rw c.set_gate.ensures stands) in
+    let now = c.loop-next.invariant.2 rule first fits (rw c.set_gate.ensures (record { request = stands.request; calls = stands.calls })) in
     rw (c.give_up.ensures, c.in-Err.ensures.shutdown) (call_backs (answering (slot_response g.Q.ResponseCallback.calling) rule c.args.fairings.now c.args.turns c.loop-next.lent.live.request) (Leads (slot_response g.Q.ResponseCallback.calling) rule c.args.fairings.now c.args.turns first) first.at.kept.shutdown Ends (answered_at c.loop-next.lent)
     (record { response = c.turn_response-turn.new.response; kept = c.turn_response-turn.new.ctx.kept }) c.loop-next.lent.live.calls c.in-Some.call c.max-most.result c.max-most.ensures (λ before fairing found making. (c.turn_response-turn.ensures.grows rule before (subst (λ f. Making (slot_response g.Q.ResponseCallback.calling) rule c.max-most.result f c.loop-next.lent.live.request before c.in-Some.call.task (answered_at c.loop-next.lent) c.in-Some.call.turn) (sym (same_fairing c.in-Some-get.ensures.found found)) making)).shutdown)
-    (subst (λ r. CallsNow (answering (slot_response g.Q.ResponseCallback.calling) rule c.args.fairings.now c.args.turns r) (Leads (slot_response g.Q.ResponseCallback.calling) rule c.args.fairings.now c.args.turns first) first.at.kept.shutdown Ends (answered_at c.loop-next.lent) c.loop-next.lent.live.calls c.in-Some.call) (sym now.0)
-    (rw c.in-Some.is at now.1)))
+    (subst (λ r. CallsNow (answering (slot_response g.Q.ResponseCallback.calling) rule c.args.fairings.now c.args.turns r) (Leads (slot_response g.Q.ResponseCallback.calling) rule c.args.fairings.now c.args.turns first) first.at.kept.shutdown Ends (answered_at c.loop-next.lent) c.loop-next.lent.live.calls c.in-Some.call) (sym now.request)
+    (rw c.in-Some.is at now.calls)))
 
 pub loop-next-smaller-in-Ok : goal.loop-next-smaller-in-Ok
 loop-next-smaller-in-Ok g c =
-    let was = rw c.in-Some.is at c.loop-next.invariant.1.1.1 in
+    let was = rw c.in-Some.is at c.loop-next.invariant.1.1.calls in
     let within = found_within Response c.args.fairings.now c.in-Some.call.place was.found in
     let falls = c.in-Ok.ensures.falls within in
     rw c.in-Some.is (omega (arith, falls))
@@ -48,65 +48,65 @@ pub loop-next-preserved-in-Ok : goal.loop-next-preserved-in-Ok
 loop-next-preserved-in-Ok g c =
     let begun = c.loop-next.invariant.1.0 in
     let was = c.loop-next.invariant.1.1 in
-    let asked = rw c.in-Over.is at (subst (λ r. CallTurned (answering (slot_response g.Q.ResponseCallback.calling) any_gate c.args.fairings.now c.args.turns r) (Leads (slot_response g.Q.ResponseCallback.calling) any_gate c.args.fairings.now c.args.turns begun) begun.at.kept.shutdown Ends c.args.gate (record { response = c.turn_response-turn.new.response; kept = c.turn_response-turn.new.ctx.kept }) c.loop-next.lent.live.calls (record { place = c.in-Some.call.place; task = c.turn_response-turn.new.task; turn = c.in-Some.call.turn + 1 }) c.turn_response-turn.result) was.0
+    let asked = rw c.in-Over.is at (subst (λ r. CallTurned (answering (slot_response g.Q.ResponseCallback.calling) any_gate c.args.fairings.now c.args.turns r) (Leads (slot_response g.Q.ResponseCallback.calling) any_gate c.args.fairings.now c.args.turns begun) begun.at.kept.shutdown Ends c.args.gate (record { response = c.turn_response-turn.new.response; kept = c.turn_response-turn.new.ctx.kept }) c.loop-next.lent.live.calls (record { place = c.in-Some.call.place; task = c.turn_response-turn.new.task; turn = c.in-Some.call.turn + 1 }) c.turn_response-turn.result) was.request
     (call_turned (answering (slot_response g.Q.ResponseCallback.calling) any_gate c.args.fairings.now c.args.turns c.loop-next.lent.live.request) (Leads (slot_response g.Q.ResponseCallback.calling) any_gate c.args.fairings.now c.args.turns begun) begun.at.kept.shutdown Ends (answered_at c.loop-next.lent) (record { response = c.turn_response-turn.new.response; kept = c.turn_response-turn.new.ctx.kept }) c.loop-next.lent.live.calls
     c.loop-next.lent.live.calls c.in-Some.call (record { place = c.in-Some.call.place; task = c.turn_response-turn.new.task; turn = c.in-Some.call.turn + 1 }) c.args.gate c.max-most.result c.turn_response-turn.result c.max-most.ensures (any_gate_fits c.args.gate) refl refl refl c.turn_response-turn.ensures.left
     (λ pending fairing found. rw c.loop-next.invariant.0 at (subst (λ f. Polls (slot_response g.Q.ResponseCallback.calling) f c.loop-next.lent.live.request c.in-Some.call.task (answered_at c.loop-next.lent) c.loop-next.lent.live.ctx.gate step.Pending c.turn_response-turn.new.task (record { response = c.turn_response-turn.new.response; kept = c.turn_response-turn.new.ctx.kept })) (same_fairing c.in-Some-get.ensures.found found) (c.turn_response-turn.ensures.pending pending)))
     (λ before fairing found making. (c.turn_response-turn.ensures.grows any_gate before (subst (λ f. Making (slot_response g.Q.ResponseCallback.calling) any_gate c.max-most.result f c.loop-next.lent.live.request before c.in-Some.call.task (answered_at c.loop-next.lent) c.in-Some.call.turn) (sym (same_fairing c.in-Some-get.ensures.found found)) making)).shutdown)
     (λ before fairing found making. subst (λ f. Turned (slot_response g.Q.ResponseCallback.calling) any_gate c.max-most.result f c.loop-next.lent.live.request before c.turn_response-turn.result c.turn_response-turn.new.task (record { response = c.turn_response-turn.new.response; kept = c.turn_response-turn.new.ctx.kept }) (c.in-Some.call.turn + 1)) (same_fairing c.in-Some-get.ensures.found found) (c.turn_response-turn.ensures.gives any_gate before (rw c.loop-next.invariant.0 (any_gate_fits c.args.gate)) (subst (λ f. Making (slot_response g.Q.ResponseCallback.calling) any_gate c.max-most.result f c.loop-next.lent.live.request before c.in-Some.call.task (answered_at c.loop-next.lent) c.in-Some.call.turn) (sym (same_fairing c.in-Some-get.ensures.found found)) making)))
-    (subst (λ r. CallsNow (answering (slot_response g.Q.ResponseCallback.calling) any_gate c.args.fairings.now c.args.turns r) (Leads (slot_response g.Q.ResponseCallback.calling) any_gate c.args.fairings.now c.args.turns begun) begun.at.kept.shutdown Ends (answered_at c.loop-next.lent) c.loop-next.lent.live.calls c.in-Some.call) (sym was.0)
-    (rw c.in-Some.is at was.1)))) in (
+    (subst (λ r. CallsNow (answering (slot_response g.Q.ResponseCallback.calling) any_gate c.args.fairings.now c.args.turns r) (Leads (slot_response g.Q.ResponseCallback.calling) any_gate c.args.fairings.now c.args.turns begun) begun.at.kept.shutdown Ends (answered_at c.loop-next.lent) c.loop-next.lent.live.calls c.in-Some.call) (sym was.request)
+    (rw c.in-Some.is at was.calls)))) in (
       c.in-Ok.ensures.gate ∙ c.turn_response-turn.ensures.gate ∙ c.loop-next.invariant.0,
-      (begun, c.in-Ok.ensures.gives any_gate begun (was.0, asked)),
+      (begun, c.in-Ok.ensures.gives any_gate begun (record { request = was.request; call = asked })),
       λ rule first fits start.
           let now = c.loop-next.invariant.2 rule first fits start in
-          c.in-Ok.ensures.gives rule first (
-            now.0,
-            rw c.in-Over.is at (subst (λ r. CallTurned (answering (slot_response g.Q.ResponseCallback.calling) rule c.args.fairings.now c.args.turns r) (Leads (slot_response g.Q.ResponseCallback.calling) rule c.args.fairings.now c.args.turns first) first.at.kept.shutdown Ends c.args.gate (record { response = c.turn_response-turn.new.response; kept = c.turn_response-turn.new.ctx.kept }) c.loop-next.lent.live.calls (record { place = c.in-Some.call.place; task = c.turn_response-turn.new.task; turn = c.in-Some.call.turn + 1 }) c.turn_response-turn.result) now.0
+          c.in-Ok.ensures.gives rule first (record {
+            request = now.request;
+            call = rw c.in-Over.is at (subst (λ r. CallTurned (answering (slot_response g.Q.ResponseCallback.calling) rule c.args.fairings.now c.args.turns r) (Leads (slot_response g.Q.ResponseCallback.calling) rule c.args.fairings.now c.args.turns first) first.at.kept.shutdown Ends c.args.gate (record { response = c.turn_response-turn.new.response; kept = c.turn_response-turn.new.ctx.kept }) c.loop-next.lent.live.calls (record { place = c.in-Some.call.place; task = c.turn_response-turn.new.task; turn = c.in-Some.call.turn + 1 }) c.turn_response-turn.result) now.request
                 (call_turned (answering (slot_response g.Q.ResponseCallback.calling) rule c.args.fairings.now c.args.turns c.loop-next.lent.live.request) (Leads (slot_response g.Q.ResponseCallback.calling) rule c.args.fairings.now c.args.turns first) first.at.kept.shutdown Ends (answered_at c.loop-next.lent) (record { response = c.turn_response-turn.new.response; kept = c.turn_response-turn.new.ctx.kept }) c.loop-next.lent.live.calls
                 c.loop-next.lent.live.calls c.in-Some.call (record { place = c.in-Some.call.place; task = c.turn_response-turn.new.task; turn = c.in-Some.call.turn + 1 }) c.args.gate c.max-most.result c.turn_response-turn.result c.max-most.ensures fits refl refl refl c.turn_response-turn.ensures.left
                 (λ pending fairing found. rw c.loop-next.invariant.0 at (subst (λ f. Polls (slot_response g.Q.ResponseCallback.calling) f c.loop-next.lent.live.request c.in-Some.call.task (answered_at c.loop-next.lent) c.loop-next.lent.live.ctx.gate step.Pending c.turn_response-turn.new.task (record { response = c.turn_response-turn.new.response; kept = c.turn_response-turn.new.ctx.kept })) (same_fairing c.in-Some-get.ensures.found found) (c.turn_response-turn.ensures.pending pending)))
                 (λ before fairing found making. (c.turn_response-turn.ensures.grows rule before (subst (λ f. Making (slot_response g.Q.ResponseCallback.calling) rule c.max-most.result f c.loop-next.lent.live.request before c.in-Some.call.task (answered_at c.loop-next.lent) c.in-Some.call.turn) (sym (same_fairing c.in-Some-get.ensures.found found)) making)).shutdown)
                 (λ before fairing found making. subst (λ f. Turned (slot_response g.Q.ResponseCallback.calling) rule c.max-most.result f c.loop-next.lent.live.request before c.turn_response-turn.result c.turn_response-turn.new.task (record { response = c.turn_response-turn.new.response; kept = c.turn_response-turn.new.ctx.kept }) (c.in-Some.call.turn + 1)) (same_fairing c.in-Some-get.ensures.found found) (c.turn_response-turn.ensures.gives rule before (rw c.loop-next.invariant.0 fits) (subst (λ f. Making (slot_response g.Q.ResponseCallback.calling) rule c.max-most.result f c.loop-next.lent.live.request before c.in-Some.call.task (answered_at c.loop-next.lent) c.in-Some.call.turn) (sym (same_fairing c.in-Some-get.ensures.found found)) making)))
-                (subst (λ r. CallsNow (answering (slot_response g.Q.ResponseCallback.calling) rule c.args.fairings.now c.args.turns r) (Leads (slot_response g.Q.ResponseCallback.calling) rule c.args.fairings.now c.args.turns first) first.at.kept.shutdown Ends (answered_at c.loop-next.lent) c.loop-next.lent.live.calls c.in-Some.call) (sym now.0)
-                (rw c.in-Some.is at now.1)))),
-          ),
+                (subst (λ r. CallsNow (answering (slot_response g.Q.ResponseCallback.calling) rule c.args.fairings.now c.args.turns r) (Leads (slot_response g.Q.ResponseCallback.calling) rule c.args.fairings.now c.args.turns first) first.at.kept.shutdown Ends (answered_at c.loop-next.lent) c.loop-next.lent.live.calls c.in-Some.call) (sym now.request)
+                (rw c.in-Some.is at now.calls))));
+          }),
     )
 
 pub loop-next-preserved : goal.loop-next-preserved
 loop-next-preserved g c =
     let begun = c.loop-next.invariant.1.0 in
     let was = c.loop-next.invariant.1.1 in
-    let asked = rw c.in-Over.is at (subst (λ r. CallTurned (answering (slot_response g.Q.ResponseCallback.calling) any_gate c.args.fairings.now c.args.turns r) (Leads (slot_response g.Q.ResponseCallback.calling) any_gate c.args.fairings.now c.args.turns begun) begun.at.kept.shutdown Ends c.args.gate (record { response = c.turn_response-turn.new.response; kept = c.turn_response-turn.new.ctx.kept }) c.loop-next.lent.live.calls (record { place = c.in-Some.call.place; task = c.turn_response-turn.new.task; turn = c.in-Some.call.turn + 1 }) c.turn_response-turn.result) was.0
+    let asked = rw c.in-Over.is at (subst (λ r. CallTurned (answering (slot_response g.Q.ResponseCallback.calling) any_gate c.args.fairings.now c.args.turns r) (Leads (slot_response g.Q.ResponseCallback.calling) any_gate c.args.fairings.now c.args.turns begun) begun.at.kept.shutdown Ends c.args.gate (record { response = c.turn_response-turn.new.response; kept = c.turn_response-turn.new.ctx.kept }) c.loop-next.lent.live.calls (record { place = c.in-Some.call.place; task = c.turn_response-turn.new.task; turn = c.in-Some.call.turn + 1 }) c.turn_response-turn.result) was.request
     (call_turned (answering (slot_response g.Q.ResponseCallback.calling) any_gate c.args.fairings.now c.args.turns c.loop-next.lent.live.request) (Leads (slot_response g.Q.ResponseCallback.calling) any_gate c.args.fairings.now c.args.turns begun) begun.at.kept.shutdown Ends (answered_at c.loop-next.lent) (record { response = c.turn_response-turn.new.response; kept = c.turn_response-turn.new.ctx.kept }) c.loop-next.lent.live.calls
     c.loop-next.lent.live.calls c.in-Some.call (record { place = c.in-Some.call.place; task = c.turn_response-turn.new.task; turn = c.in-Some.call.turn + 1 }) c.args.gate c.max-most.result c.turn_response-turn.result c.max-most.ensures (any_gate_fits c.args.gate) refl refl refl c.turn_response-turn.ensures.left
     (λ pending fairing found. rw c.loop-next.invariant.0 at (subst (λ f. Polls (slot_response g.Q.ResponseCallback.calling) f c.loop-next.lent.live.request c.in-Some.call.task (answered_at c.loop-next.lent) c.loop-next.lent.live.ctx.gate step.Pending c.turn_response-turn.new.task (record { response = c.turn_response-turn.new.response; kept = c.turn_response-turn.new.ctx.kept })) (same_fairing c.in-Some-get.ensures.found found) (c.turn_response-turn.ensures.pending pending)))
     (λ before fairing found making. (c.turn_response-turn.ensures.grows any_gate before (subst (λ f. Making (slot_response g.Q.ResponseCallback.calling) any_gate c.max-most.result f c.loop-next.lent.live.request before c.in-Some.call.task (answered_at c.loop-next.lent) c.in-Some.call.turn) (sym (same_fairing c.in-Some-get.ensures.found found)) making)).shutdown)
     (λ before fairing found making. subst (λ f. Turned (slot_response g.Q.ResponseCallback.calling) any_gate c.max-most.result f c.loop-next.lent.live.request before c.turn_response-turn.result c.turn_response-turn.new.task (record { response = c.turn_response-turn.new.response; kept = c.turn_response-turn.new.ctx.kept }) (c.in-Some.call.turn + 1)) (same_fairing c.in-Some-get.ensures.found found) (c.turn_response-turn.ensures.gives any_gate before (rw c.loop-next.invariant.0 (any_gate_fits c.args.gate)) (subst (λ f. Making (slot_response g.Q.ResponseCallback.calling) any_gate c.max-most.result f c.loop-next.lent.live.request before c.in-Some.call.task (answered_at c.loop-next.lent) c.in-Some.call.turn) (sym (same_fairing c.in-Some-get.ensures.found found)) making)))
-    (subst (λ r. CallsNow (answering (slot_response g.Q.ResponseCallback.calling) any_gate c.args.fairings.now c.args.turns r) (Leads (slot_response g.Q.ResponseCallback.calling) any_gate c.args.fairings.now c.args.turns begun) begun.at.kept.shutdown Ends (answered_at c.loop-next.lent) c.loop-next.lent.live.calls c.in-Some.call) (sym was.0)
-    (rw c.in-Some.is at was.1)))) in (
+    (subst (λ r. CallsNow (answering (slot_response g.Q.ResponseCallback.calling) any_gate c.args.fairings.now c.args.turns r) (Leads (slot_response g.Q.ResponseCallback.calling) any_gate c.args.fairings.now c.args.turns begun) begun.at.kept.shutdown Ends (answered_at c.loop-next.lent) c.loop-next.lent.live.calls c.in-Some.call) (sym was.request)
+    (rw c.in-Some.is at was.calls)))) in (
       c.in-Ok.ensures.gate ∙ c.turn_response-turn.ensures.gate ∙ c.loop-next.invariant.0,
-      (begun, c.in-Ok.ensures.gives any_gate begun (was.0, asked)),
+      (begun, c.in-Ok.ensures.gives any_gate begun (record { request = was.request; call = asked })),
       λ rule first fits start.
           let now = c.loop-next.invariant.2 rule first fits start in
-          c.in-Ok.ensures.gives rule first (
-            now.0,
-            rw c.in-Over.is at (subst (λ r. CallTurned (answering (slot_response g.Q.ResponseCallback.calling) rule c.args.fairings.now c.args.turns r) (Leads (slot_response g.Q.ResponseCallback.calling) rule c.args.fairings.now c.args.turns first) first.at.kept.shutdown Ends c.args.gate (record { response = c.turn_response-turn.new.response; kept = c.turn_response-turn.new.ctx.kept }) c.loop-next.lent.live.calls (record { place = c.in-Some.call.place; task = c.turn_response-turn.new.task; turn = c.in-Some.call.turn + 1 }) c.turn_response-turn.result) now.0
+          c.in-Ok.ensures.gives rule first (record {
+            request = now.request;
+            call = rw c.in-Over.is at (subst (λ r. CallTurned (answering (slot_response g.Q.ResponseCallback.calling) rule c.args.fairings.now c.args.turns r) (Leads (slot_response g.Q.ResponseCallback.calling) rule c.args.fairings.now c.args.turns first) first.at.kept.shutdown Ends c.args.gate (record { response = c.turn_response-turn.new.response; kept = c.turn_response-turn.new.ctx.kept }) c.loop-next.lent.live.calls (record { place = c.in-Some.call.place; task = c.turn_response-turn.new.task; turn = c.in-Some.call.turn + 1 }) c.turn_response-turn.result) now.request
                 (call_turned (answering (slot_response g.Q.ResponseCallback.calling) rule c.args.fairings.now c.args.turns c.loop-next.lent.live.request) (Leads (slot_response g.Q.ResponseCallback.calling) rule c.args.fairings.now c.args.turns first) first.at.kept.shutdown Ends (answered_at c.loop-next.lent) (record { response = c.turn_response-turn.new.response; kept = c.turn_response-turn.new.ctx.kept }) c.loop-next.lent.live.calls
                 c.loop-next.lent.live.calls c.in-Some.call (record { place = c.in-Some.call.place; task = c.turn_response-turn.new.task; turn = c.in-Some.call.turn + 1 }) c.args.gate c.max-most.result c.turn_response-turn.result c.max-most.ensures fits refl refl refl c.turn_response-turn.ensures.left
                 (λ pending fairing found. rw c.loop-next.invariant.0 at (subst (λ f. Polls (slot_response g.Q.ResponseCallback.calling) f c.loop-next.lent.live.request c.in-Some.call.task (answered_at c.loop-next.lent) c.loop-next.lent.live.ctx.gate step.Pending c.turn_response-turn.new.task (record { response = c.turn_response-turn.new.response; kept = c.turn_response-turn.new.ctx.kept })) (same_fairing c.in-Some-get.ensures.found found) (c.turn_response-turn.ensures.pending pending)))
                 (λ before fairing found making. (c.turn_response-turn.ensures.grows rule before (subst (λ f. Making (slot_response g.Q.ResponseCallback.calling) rule c.max-most.result f c.loop-next.lent.live.request before c.in-Some.call.task (answered_at c.loop-next.lent) c.in-Some.call.turn) (sym (same_fairing c.in-Some-get.ensures.found found)) making)).shutdown)
                 (λ before fairing found making. subst (λ f. Turned (slot_response g.Q.ResponseCallback.calling) rule c.max-most.result f c.loop-next.lent.live.request before c.turn_response-turn.result c.turn_response-turn.new.task (record { response = c.turn_response-turn.new.response; kept = c.turn_response-turn.new.ctx.kept }) (c.in-Some.call.turn + 1)) (same_fairing c.in-Some-get.ensures.found found) (c.turn_response-turn.ensures.gives rule before (rw c.loop-next.invariant.0 fits) (subst (λ f. Making (slot_response g.Q.ResponseCallback.calling) rule c.max-most.result f c.loop-next.lent.live.request before c.in-Some.call.task (answered_at c.loop-next.lent) c.in-Some.call.turn) (sym (same_fairing c.in-Some-get.ensures.found found)) making)))
-                (subst (λ r. CallsNow (answering (slot_response g.Q.ResponseCallback.calling) rule c.args.fairings.now c.args.turns r) (Leads (slot_response g.Q.ResponseCallback.calling) rule c.args.fairings.now c.args.turns first) first.at.kept.shutdown Ends (answered_at c.loop-next.lent) c.loop-next.lent.live.calls c.in-Some.call) (sym now.0)
-                (rw c.in-Some.is at now.1)))),
-          ),
+                (subst (λ r. CallsNow (answering (slot_response g.Q.ResponseCallback.calling) rule c.args.fairings.now c.args.turns r) (Leads (slot_response g.Q.ResponseCallback.calling) rule c.args.fairings.now c.args.turns first) first.at.kept.shutdown Ends (answered_at c.loop-next.lent) c.loop-next.lent.live.calls c.in-Some.call) (sym now.request)
+                (rw c.in-Some.is at now.calls))));
+          }),
     )
 
 pub loop-next-init : goal.loop-next-init
-loop-next-init g c = (ap (λ x. x.gate) c.set_gate.ensures, (c.requires.0, rw c.set_gate.ensures c.requires.1), λ rule first fits stands. stands)
+loop-next-init g c = (ap (λ x. x.gate) c.set_gate.ensures, (c.requires.0, rw c.set_gate.ensures (record { request = c.requires.1.request; calls = c.requires.1.calls })), λ rule first fits stands. stands)
 
 pub turn_response-turn-requires : goal.turn_response-turn-requires
 turn_response-turn-requires g c =
-    let was = rw c.in-Some.is at c.loop-next.invariant.1.1.1 in
-    let making : Making (slot_response g.Q.ResponseCallback.calling) any_gate c.max-most.result was.fairing c.loop-next.lent.live.request was.before c.in-Some.call.task (answered_at c.loop-next.lent) c.in-Some.call.turn = rw (c.max-most.ensures, c.loop-next.invariant.1.1.0) was.making in
+    let was = rw c.in-Some.is at c.loop-next.invariant.1.1.calls in
+    let making : Making (slot_response g.Q.ResponseCallback.calling) any_gate c.max-most.result was.fairing c.loop-next.lent.live.request was.before c.in-Some.call.task (answered_at c.loop-next.lent) c.in-Some.call.turn = rw (c.max-most.ensures, c.loop-next.invariant.1.1.request) was.making in
     (any_gate, was.before, subst (λ f. Making (slot_response g.Q.ResponseCallback.calling) any_gate c.max-most.result f c.loop-next.lent.live.request was.before c.in-Some.call.task (answered_at c.loop-next.lent) c.in-Some.call.turn) (sym (same_fairing c.in-Some-get.ensures.found was.found)) making)

@@ -12,29 +12,29 @@ use Rattle.rkt_lifecycle.proofs.asking.run.Goals as goal
 
 pub returns-in_default : goal.returns-in_default
 returns-in_default g c = λ rule first fits stands.
-    let now = c.loop-next.invariant.2 rule first fits (rw c.set_gate.ensures stands) in
-    (calls_end (asking (slot_request g.P.RequestCallback.calling) rule c.args.fairings.now c.args.turns) first first.kept.shutdown (asked_at c.loop-next.lent) c.loop-next.lent.live.calls (rw c.in_default.is at now))
+    let now = c.loop-next.invariant.2 rule first fits (rw c.set_gate.ensures (record { calls = stands.calls })) in
+    (calls_end (asking (slot_request g.P.RequestCallback.calling) rule c.args.fairings.now c.args.turns) first first.kept.shutdown (asked_at c.loop-next.lent) c.loop-next.lent.live.calls (rw c.in_default.is at now.calls))
 
 pub returns-in-Pending : goal.returns-in-Pending
 returns-in-Pending g c = λ rule first fits stands.
-    let now = c.loop-next.invariant.2 rule first fits (rw c.set_gate.ensures stands) in
+    let now = c.loop-next.invariant.2 rule first fits (rw c.set_gate.ensures (record { calls = stands.calls })) in
     let waits = rw c.in-Pending.is at (call_turned (asking (slot_request g.P.RequestCallback.calling) rule c.args.fairings.now c.args.turns) (Leads (slot_request g.P.RequestCallback.calling) rule c.args.fairings.now c.args.turns first) first.kept.shutdown Ends (asked_at c.loop-next.lent) (record { request = c.turn_request-turn.new.request; body = c.turn_request-turn.new.body; kept = c.turn_request-turn.new.ctx.kept }) c.loop-next.lent.live.calls
     c.loop-next.lent.live.calls c.in-Some.call (record { place = c.in-Some.call.place; task = c.turn_request-turn.new.task; turn = c.in-Some.call.turn + 1 }) c.args.gate c.max-most.result c.turn_request-turn.result c.max-most.ensures fits refl refl refl c.turn_request-turn.ensures.left
     (λ pending fairing found. rw c.loop-next.invariant.0 at (subst (λ f. Polls (slot_request g.P.RequestCallback.calling) f tt c.in-Some.call.task (asked_at c.loop-next.lent) c.loop-next.lent.live.ctx.gate step.Pending c.turn_request-turn.new.task (record { request = c.turn_request-turn.new.request; body = c.turn_request-turn.new.body; kept = c.turn_request-turn.new.ctx.kept })) (same_fairing c.in-Some-get.ensures.found found) (c.turn_request-turn.ensures.pending pending)))
     (λ before fairing found making. (c.turn_request-turn.ensures.grows rule before (subst (λ f. Making (slot_request g.P.RequestCallback.calling) rule c.max-most.result f tt before c.in-Some.call.task (asked_at c.loop-next.lent) c.in-Some.call.turn) (sym (same_fairing c.in-Some-get.ensures.found found)) making)).kept.shutdown)
     (λ before fairing found making. subst (λ f. Turned (slot_request g.P.RequestCallback.calling) rule c.max-most.result f tt before c.turn_request-turn.result c.turn_request-turn.new.task (record { request = c.turn_request-turn.new.request; body = c.turn_request-turn.new.body; kept = c.turn_request-turn.new.ctx.kept }) (c.in-Some.call.turn + 1)) (same_fairing c.in-Some-get.ensures.found found) (c.turn_request-turn.ensures.gives rule before (rw c.loop-next.invariant.0 fits) (subst (λ f. Making (slot_request g.P.RequestCallback.calling) rule c.max-most.result f tt before c.in-Some.call.task (asked_at c.loop-next.lent) c.in-Some.call.turn) (sym (same_fairing c.in-Some-get.ensures.found found)) making)))
-    (rw c.in-Some.is at now)) in
-    (waits.0, waits)
+    (rw c.in-Some.is at now.calls)) in
+    (record { calls = waits.0 }, waits)
 
 pub returns-in-Err : goal.returns-in-Err
 returns-in-Err g c = λ rule first fits stands.
-    let now = c.loop-next.invariant.2 rule first fits (rw c.set_gate.ensures stands) in
+    let now = c.loop-next.invariant.2 rule first fits (rw c.set_gate.ensures (record { calls = stands.calls })) in
     rw (c.give_up.ensures, c.in-Err.ensures.shutdown) (call_backs (asking (slot_request g.P.RequestCallback.calling) rule c.args.fairings.now c.args.turns) (Leads (slot_request g.P.RequestCallback.calling) rule c.args.fairings.now c.args.turns first) first.kept.shutdown Ends (asked_at c.loop-next.lent) (record { request = c.turn_request-turn.new.request; body = c.turn_request-turn.new.body; kept = c.turn_request-turn.new.ctx.kept }) c.loop-next.lent.live.calls
-    c.in-Some.call c.max-most.result c.max-most.ensures (λ before fairing found making. (c.turn_request-turn.ensures.grows rule before (subst (λ f. Making (slot_request g.P.RequestCallback.calling) rule c.max-most.result f tt before c.in-Some.call.task (asked_at c.loop-next.lent) c.in-Some.call.turn) (sym (same_fairing c.in-Some-get.ensures.found found)) making)).kept.shutdown) (rw c.in-Some.is at now))
+    c.in-Some.call c.max-most.result c.max-most.ensures (λ before fairing found making. (c.turn_request-turn.ensures.grows rule before (subst (λ f. Making (slot_request g.P.RequestCallback.calling) rule c.max-most.result f tt before c.in-Some.call.task (asked_at c.loop-next.lent) c.in-Some.call.turn) (sym (same_fairing c.in-Some-get.ensures.found found)) making)).kept.shutdown) (rw c.in-Some.is at now.calls))
 
 pub loop-next-smaller-in-Ok : goal.loop-next-smaller-in-Ok
 loop-next-smaller-in-Ok g c =
-    let was = rw c.in-Some.is at c.loop-next.invariant.1.1 in
+    let was = rw c.in-Some.is at c.loop-next.invariant.1.1.calls in
     let within = found_within Request c.args.fairings.now c.in-Some.call.place was.found in
     let falls = c.in-Ok.ensures.falls within in
     rw c.in-Some.is (omega (arith, falls))
@@ -47,7 +47,7 @@ loop-next-preserved-in-Ok g c =
     (λ pending fairing found. rw c.loop-next.invariant.0 at (subst (λ f. Polls (slot_request g.P.RequestCallback.calling) f tt c.in-Some.call.task (asked_at c.loop-next.lent) c.loop-next.lent.live.ctx.gate step.Pending c.turn_request-turn.new.task (record { request = c.turn_request-turn.new.request; body = c.turn_request-turn.new.body; kept = c.turn_request-turn.new.ctx.kept })) (same_fairing c.in-Some-get.ensures.found found) (c.turn_request-turn.ensures.pending pending)))
     (λ before fairing found making. (c.turn_request-turn.ensures.grows any_gate before (subst (λ f. Making (slot_request g.P.RequestCallback.calling) any_gate c.max-most.result f tt before c.in-Some.call.task (asked_at c.loop-next.lent) c.in-Some.call.turn) (sym (same_fairing c.in-Some-get.ensures.found found)) making)).kept.shutdown)
     (λ before fairing found making. subst (λ f. Turned (slot_request g.P.RequestCallback.calling) any_gate c.max-most.result f tt before c.turn_request-turn.result c.turn_request-turn.new.task (record { request = c.turn_request-turn.new.request; body = c.turn_request-turn.new.body; kept = c.turn_request-turn.new.ctx.kept }) (c.in-Some.call.turn + 1)) (same_fairing c.in-Some-get.ensures.found found) (c.turn_request-turn.ensures.gives any_gate before (rw c.loop-next.invariant.0 (any_gate_fits c.args.gate)) (subst (λ f. Making (slot_request g.P.RequestCallback.calling) any_gate c.max-most.result f tt before c.in-Some.call.task (asked_at c.loop-next.lent) c.in-Some.call.turn) (sym (same_fairing c.in-Some-get.ensures.found found)) making)))
-    (rw c.in-Some.is at c.loop-next.invariant.1.1)) in (
+    (rw c.in-Some.is at c.loop-next.invariant.1.1.calls)) in (
       c.in-Ok.ensures.gate ∙ c.turn_request-turn.ensures.gate ∙ c.loop-next.invariant.0,
       (begun, c.in-Ok.ensures.gives any_gate begun asked),
       λ rule first fits start.
@@ -57,7 +57,7 @@ loop-next-preserved-in-Ok g c =
           (λ pending fairing found. rw c.loop-next.invariant.0 at (subst (λ f. Polls (slot_request g.P.RequestCallback.calling) f tt c.in-Some.call.task (asked_at c.loop-next.lent) c.loop-next.lent.live.ctx.gate step.Pending c.turn_request-turn.new.task (record { request = c.turn_request-turn.new.request; body = c.turn_request-turn.new.body; kept = c.turn_request-turn.new.ctx.kept })) (same_fairing c.in-Some-get.ensures.found found) (c.turn_request-turn.ensures.pending pending)))
           (λ before fairing found making. (c.turn_request-turn.ensures.grows rule before (subst (λ f. Making (slot_request g.P.RequestCallback.calling) rule c.max-most.result f tt before c.in-Some.call.task (asked_at c.loop-next.lent) c.in-Some.call.turn) (sym (same_fairing c.in-Some-get.ensures.found found)) making)).kept.shutdown)
           (λ before fairing found making. subst (λ f. Turned (slot_request g.P.RequestCallback.calling) rule c.max-most.result f tt before c.turn_request-turn.result c.turn_request-turn.new.task (record { request = c.turn_request-turn.new.request; body = c.turn_request-turn.new.body; kept = c.turn_request-turn.new.ctx.kept }) (c.in-Some.call.turn + 1)) (same_fairing c.in-Some-get.ensures.found found) (c.turn_request-turn.ensures.gives rule before (rw c.loop-next.invariant.0 fits) (subst (λ f. Making (slot_request g.P.RequestCallback.calling) rule c.max-most.result f tt before c.in-Some.call.task (asked_at c.loop-next.lent) c.in-Some.call.turn) (sym (same_fairing c.in-Some-get.ensures.found found)) making)))
-          (rw c.in-Some.is at now))),
+          (rw c.in-Some.is at now.calls))),
     )
 
 pub loop-next-preserved : goal.loop-next-preserved
@@ -68,7 +68,7 @@ loop-next-preserved g c =
     (λ pending fairing found. rw c.loop-next.invariant.0 at (subst (λ f. Polls (slot_request g.P.RequestCallback.calling) f tt c.in-Some.call.task (asked_at c.loop-next.lent) c.loop-next.lent.live.ctx.gate step.Pending c.turn_request-turn.new.task (record { request = c.turn_request-turn.new.request; body = c.turn_request-turn.new.body; kept = c.turn_request-turn.new.ctx.kept })) (same_fairing c.in-Some-get.ensures.found found) (c.turn_request-turn.ensures.pending pending)))
     (λ before fairing found making. (c.turn_request-turn.ensures.grows any_gate before (subst (λ f. Making (slot_request g.P.RequestCallback.calling) any_gate c.max-most.result f tt before c.in-Some.call.task (asked_at c.loop-next.lent) c.in-Some.call.turn) (sym (same_fairing c.in-Some-get.ensures.found found)) making)).kept.shutdown)
     (λ before fairing found making. subst (λ f. Turned (slot_request g.P.RequestCallback.calling) any_gate c.max-most.result f tt before c.turn_request-turn.result c.turn_request-turn.new.task (record { request = c.turn_request-turn.new.request; body = c.turn_request-turn.new.body; kept = c.turn_request-turn.new.ctx.kept }) (c.in-Some.call.turn + 1)) (same_fairing c.in-Some-get.ensures.found found) (c.turn_request-turn.ensures.gives any_gate before (rw c.loop-next.invariant.0 (any_gate_fits c.args.gate)) (subst (λ f. Making (slot_request g.P.RequestCallback.calling) any_gate c.max-most.result f tt before c.in-Some.call.task (asked_at c.loop-next.lent) c.in-Some.call.turn) (sym (same_fairing c.in-Some-get.ensures.found found)) making)))
-    (rw c.in-Some.is at c.loop-next.invariant.1.1)) in (
+    (rw c.in-Some.is at c.loop-next.invariant.1.1.calls)) in (
       c.in-Ok.ensures.gate ∙ c.turn_request-turn.ensures.gate ∙ c.loop-next.invariant.0,
       (begun, c.in-Ok.ensures.gives any_gate begun asked),
       λ rule first fits start.
@@ -78,14 +78,14 @@ loop-next-preserved g c =
           (λ pending fairing found. rw c.loop-next.invariant.0 at (subst (λ f. Polls (slot_request g.P.RequestCallback.calling) f tt c.in-Some.call.task (asked_at c.loop-next.lent) c.loop-next.lent.live.ctx.gate step.Pending c.turn_request-turn.new.task (record { request = c.turn_request-turn.new.request; body = c.turn_request-turn.new.body; kept = c.turn_request-turn.new.ctx.kept })) (same_fairing c.in-Some-get.ensures.found found) (c.turn_request-turn.ensures.pending pending)))
           (λ before fairing found making. (c.turn_request-turn.ensures.grows rule before (subst (λ f. Making (slot_request g.P.RequestCallback.calling) rule c.max-most.result f tt before c.in-Some.call.task (asked_at c.loop-next.lent) c.in-Some.call.turn) (sym (same_fairing c.in-Some-get.ensures.found found)) making)).kept.shutdown)
           (λ before fairing found making. subst (λ f. Turned (slot_request g.P.RequestCallback.calling) rule c.max-most.result f tt before c.turn_request-turn.result c.turn_request-turn.new.task (record { request = c.turn_request-turn.new.request; body = c.turn_request-turn.new.body; kept = c.turn_request-turn.new.ctx.kept }) (c.in-Some.call.turn + 1)) (same_fairing c.in-Some-get.ensures.found found) (c.turn_request-turn.ensures.gives rule before (rw c.loop-next.invariant.0 fits) (subst (λ f. Making (slot_request g.P.RequestCallback.calling) rule c.max-most.result f tt before c.in-Some.call.task (asked_at c.loop-next.lent) c.in-Some.call.turn) (sym (same_fairing c.in-Some-get.ensures.found found)) making)))
-          (rw c.in-Some.is at now))),
+          (rw c.in-Some.is at now.calls))),
     )
 
 pub loop-next-init : goal.loop-next-init
-loop-next-init g c = (ap (λ x. x.gate) c.set_gate.ensures, (c.requires.0, rw c.set_gate.ensures c.requires.1), λ rule first fits stands. stands)
+loop-next-init g c = (ap (λ x. x.gate) c.set_gate.ensures, (c.requires.0, rw c.set_gate.ensures (record { calls = c.requires.1.calls })), λ rule first fits stands. stands)
 
 pub turn_request-turn-requires : goal.turn_request-turn-requires
 turn_request-turn-requires g c =
-    let was = rw c.in-Some.is at c.loop-next.invariant.1.1 in
+    let was = rw c.in-Some.is at c.loop-next.invariant.1.1.calls in
     let making : Making (slot_request g.P.RequestCallback.calling) any_gate c.max-most.result was.fairing tt was.before c.in-Some.call.task (asked_at c.loop-next.lent) c.in-Some.call.turn = rw c.max-most.ensures was.making in
     (any_gate, was.before, subst (λ f. Making (slot_request g.P.RequestCallback.calling) any_gate c.max-most.result f tt was.before c.in-Some.call.task (asked_at c.loop-next.lent) c.in-Some.call.turn) (sym (same_fairing c.in-Some-get.ensures.found was.found)) making)

@@ -12,17 +12,18 @@ pub invariant_of-result : goal.invariant_of-result
 invariant_of-result g c =
     let first : Outgoing _ _ _ = record { request = c.args.request; at = record { response = c.args.response; kept = c.args.ctx.kept } } in (
       first,
-      (
-        refl,
-        begins_stand (answering (slot_response g.Q.ResponseCallback.calling) any_gate c.args.fairings.now c.args.turns c.args.request) (Leads (slot_response g.Q.ResponseCallback.calling) any_gate c.args.fairings.now c.args.turns first) c.args.ctx.kept.shutdown Ends first.at
-            c.new.result 0 c.begin-next.result (some_turns c.args.turns) c.begin-next.ensures.begins (rw c.new.ensures (record { leads = λ rest at done. done; backs = backs_none c.args.ctx.kept.shutdown })),
-      ),
+      record {
+        request = refl;
+        calls = begins_stand (answering (slot_response g.Q.ResponseCallback.calling) any_gate c.args.fairings.now c.args.turns c.args.request) (Leads (slot_response g.Q.ResponseCallback.calling) any_gate c.args.fairings.now c.args.turns first) c.args.ctx.kept.shutdown Ends first.at
+            c.new.result 0 c.begin-next.result (some_turns c.args.turns) c.begin-next.ensures.begins (rw c.new.ensures (record { leads = λ rest at done. done; backs = backs_none c.args.ctx.kept.shutdown }));
+      },
     )
 
 pub returns-clause-stands : goal.returns-clause-stands
 returns-clause-stands g c = λ rule.
-    let first : Outgoing _ _ _ = record { request = c.args.request; at = record { response = c.args.response; kept = c.args.ctx.kept } } in (
-      refl,
-      begins_stand (answering (slot_response g.Q.ResponseCallback.calling) rule c.args.fairings.now c.args.turns c.args.request) (Leads (slot_response g.Q.ResponseCallback.calling) rule c.args.fairings.now c.args.turns first) c.args.ctx.kept.shutdown Ends first.at
-          c.new.result 0 c.begin-next.result (some_turns c.args.turns) c.begin-next.ensures.begins (rw c.new.ensures (record { leads = λ rest at done. done; backs = backs_none c.args.ctx.kept.shutdown })),
-    )
+    let first : Outgoing _ _ _ = record { request = c.args.request; at = record { response = c.args.response; kept = c.args.ctx.kept } } in
+    record {
+      request = refl;
+      calls = begins_stand (answering (slot_response g.Q.ResponseCallback.calling) rule c.args.fairings.now c.args.turns c.args.request) (Leads (slot_response g.Q.ResponseCallback.calling) rule c.args.fairings.now c.args.turns first) c.args.ctx.kept.shutdown Ends first.at
+          c.new.result 0 c.begin-next.result (some_turns c.args.turns) c.begin-next.ensures.begins (rw c.new.ensures (record { leads = λ rest at done. done; backs = backs_none c.args.ctx.kept.shutdown }));
+    }

@@ -12,12 +12,16 @@ pub invariant_of-result : goal.invariant_of-result
 invariant_of-result g c =
     let first : RequestAt _ _ _ = record { request = c.args.request; body = c.args.body; kept = c.args.ctx.kept } in (
       first,
-      begins_stand (asking (slot_request g.P.RequestCallback.calling) any_gate c.args.fairings.now c.args.turns) (Leads (slot_request g.P.RequestCallback.calling) any_gate c.args.fairings.now c.args.turns first) c.args.ctx.kept.shutdown Ends first c.new.result 0
-          c.begin-next.result (some_turns c.args.turns) c.begin-next.ensures.begins (rw c.new.ensures (record { leads = λ rest at done. done; backs = backs_none c.args.ctx.kept.shutdown })),
+      record {
+        calls = begins_stand (asking (slot_request g.P.RequestCallback.calling) any_gate c.args.fairings.now c.args.turns) (Leads (slot_request g.P.RequestCallback.calling) any_gate c.args.fairings.now c.args.turns first) c.args.ctx.kept.shutdown Ends first c.new.result 0
+            c.begin-next.result (some_turns c.args.turns) c.begin-next.ensures.begins (rw c.new.ensures (record { leads = λ rest at done. done; backs = backs_none c.args.ctx.kept.shutdown }));
+      },
     )
 
 pub returns-clause-stands : goal.returns-clause-stands
 returns-clause-stands g c = λ rule.
     let first : RequestAt _ _ _ = record { request = c.args.request; body = c.args.body; kept = c.args.ctx.kept } in
-    begins_stand (asking (slot_request g.P.RequestCallback.calling) rule c.args.fairings.now c.args.turns) (Leads (slot_request g.P.RequestCallback.calling) rule c.args.fairings.now c.args.turns first) c.args.ctx.kept.shutdown Ends first c.new.result 0
-    c.begin-next.result (some_turns c.args.turns) c.begin-next.ensures.begins (rw c.new.ensures (record { leads = λ rest at done. done; backs = backs_none c.args.ctx.kept.shutdown }))
+    record {
+      calls = begins_stand (asking (slot_request g.P.RequestCallback.calling) rule c.args.fairings.now c.args.turns) (Leads (slot_request g.P.RequestCallback.calling) rule c.args.fairings.now c.args.turns first) c.args.ctx.kept.shutdown Ends first c.new.result 0
+          c.begin-next.result (some_turns c.args.turns) c.begin-next.ensures.begins (rw c.new.ensures (record { leads = λ rest at done. done; backs = backs_none c.args.ctx.kept.shutdown }));
+    }
