@@ -167,6 +167,16 @@ module _ {C S K : Type 0} where
   found_trip (Down calls ∷ es) trip found = found_trip es trip found
   found_trip (Close m ∷ es) trip found = found_trip es trip found
 
+  -- where none is found, there is none
+  pub none_found : (es : List (EventOf C S K)) → trip_of es ≡ None → list_any is_trip es ≡ false
+  none_found [] none = refl
+  none_found (Trip w m ∷ es) none = absurd (cc none)
+  none_found (Lift calls ∷ es) none = none_found es none
+  none_found (Admit n m y ∷ es) none = none_found es none
+  none_found (End n x m y ∷ es) none = none_found es none
+  none_found (Down calls ∷ es) none = none_found es none
+  none_found (Close m ∷ es) none = none_found es none
+
   pub tripped_word : (es : List (EventOf C S K)) (found : Option (ℕ × ℕ)) → found ≡ trip_of es → IfSome found (λ trip. Ordered es → 0 < trip.0)
   tripped_word es None is = tt
   tripped_word es (Some trip) is = λ ordered. subst (λ (n : ℕ). 0 < n) (sym (ap word_of is)) (worded es ordered (found_trip es trip (sym is)))

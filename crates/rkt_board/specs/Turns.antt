@@ -15,6 +15,11 @@ use Rattle.rkt_board.specs.declared.history.EntryOf.{EntryOf}
 use Rattle.rkt_board.specs.declared.history.EventOf.{EventOf}
 use Rattle.rkt_board.specs.declared.history.EventOf.TheVariants.{Trip, Admit, Down, Close}
 use Rattle.rkt_board.specs.declared.mark.MarkOf.{MarkOf}
+use Rattle.rkt_source.specs.declared.source.Gate.{Gate}
+
+-- the Gate of a moment, with these delays, and with the word of a trip where there is one
+abbrev pub gate_with : ℕ → Option ℕ → ℕ → ℕ → Gate
+gate_with moment tripped grace mercy = record { moment = moment; tripped = tripped; grace = grace; mercy = mercy }
 
 module _ {C S K : Type 0} where
   abbrev pub mark : ℕ → EventOf C S K → MarkOf C S K

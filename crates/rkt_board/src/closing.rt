@@ -1,5 +1,5 @@
 //! What a launch that is over leaves behind.
-ghost use Rattle.std.specs.Prelude.{◌≡◌, ◌<◌, ◌≤◌, ◌+◌, ◌++◌, [], ℕ, Some, true, false, vec_len, vec_capacity};
+ghost use Rattle.std.specs.Prelude.{◌≡◌, ◌<◌, ◌≤◌, ◌+◌, ◌++◌, ◌⊎◌, [], ℕ, Some, true, false, IsTrue, vec_len, vec_capacity};
 ghost use Rattle.std.specs.List.{AllByRecursion, list_any};
 ghost use Rattle.std.specs.Option.{ForSome};
 ghost use Rattle.rkt_turn.specs.HandsBack.{HandsBack};
@@ -8,7 +8,7 @@ ghost use Rattle.rkt_link.specs.Listener.{Settled};
 ghost use Rattle.rkt_board.specs.After.{AfterFrom};
 ghost use Rattle.rkt_board.specs.Board.{Keeps, SoundAs, TimedIn};
 ghost use Rattle.rkt_board.specs.Closed.{AllAdmitted, HasEntry};
-ghost use Rattle.rkt_board.specs.Events.{is_close, admitted, lift_calls, trip_of, Ordered, IsClosed, EachEndsOnce};
+ghost use Rattle.rkt_board.specs.Events.{is_abandoned, is_close, is_trip, admitted, lift_calls, trip_of, Ordered, IsClosed, EachEndsOnce};
 ghost use Rattle.rkt_board.specs.Marks.{events};
 
 use crate::{Board, BoardOf, Book, Event, History, HistoryOf, Mark, MarkOf, Near, Served};
@@ -37,6 +37,27 @@ pub type Closed<A, L, C> = ClosedOf<
     Shutdown<<A as Types>::Reason>,
     History<A, <L as Listener>::Link>,
 >;
+
+impl<L, T, H, C, S, K> ClosedOf<L, T, H, HistoryOf<C, S, K>> {
+    /// Whether the listener has ended, or there is a Trip.
+    #[tactic(auto, using(crate::proofs::Core::found_trip, crate::proofs::Core::none_found))]
+    pub fn is_over(&self) -> bool
+        ensures found { IsTrue result → (self.now.over ≡ true) ⊎ (list_any is_trip self.now.history.events ≡ true) }
+        ensures goes_on { result ≡ false → self.now.over ≡ false }
+        ensures trip { result ≡ false → list_any is_trip self.now.history.events ≡ false }
+    {
+        self.over || self.history.trip().is_some()
+    }
+
+    /// Whether the listener has failed, or an exchange was abandoned.
+    pub fn has_failed(&self) -> bool
+        ensures failed { IsTrue result → (self.now.faulted ≡ true) ⊎ (list_any is_abandoned self.now.history.events ≡ true) }
+        ensures sound { result ≡ false → self.now.faulted ≡ false }
+        ensures none_abandoned { result ≡ false → list_any is_abandoned self.now.history.events ≡ false }
+    {
+        self.faulted || self.history.abandoned()
+    }
+}
 
 // Moves the events of marks behind others, where there is room for them.
 fn moved<A: Types, K: Link>(

@@ -12,7 +12,7 @@ use rkt_link::Boxed;
 use rkt_message::Response;
 use rkt_orbit::Called;
 use rkt_request::Types;
-use std::alloc::Global;
+use std::alloc::{AllocError, Global};
 
 /// Why a response could not be sent.
 #[derive(Clone, Copy, Debug, PartialEq, Eq)]
@@ -50,8 +50,50 @@ pub struct EntryOf<C, S, K> {
     pub end: End,
 }
 
+/// A run of an application and its response, on the heap.
+pub type Kept<A> = (
+    Boxed<RunOf<<A as Types>::Cached>>,
+    Boxed<Response<<A as Types>::Stream>>,
+);
+
 /// What is kept of one exchange of an application.
 pub type Entry<A, K> = EntryOf<<A as Types>::Cached, <A as Types>::Stream, K>;
+
+impl<C, S, K> EntryOf<C, S, K> {
+    /// What is kept of an exchange that came to no response.
+    pub fn unanswered(link: CancellableIo<K>, end: End) -> EntryOf<C, S, K>
+        ensures { result ≡ record { link = link; run = None; response = None; end = end } }
+    {
+        EntryOf {
+            link,
+            run: None,
+            response: None,
+            end,
+        }
+    }
+}
+
+/// A run and its response, to be kept. Where there is no memory for them both are let go.
+pub fn kept<A: Types>(
+    alloc: Global,
+    run: RunOf<A::Cached>,
+    response: Response<A::Stream>,
+) -> Result<Kept<A>, NoMemory>
+    ensures { IfOk result (λ kept. kept ≡ (run, response)) }
+{
+    // What is let go is by a call, in which that is proved once for its type.
+    let Ok(run) = Boxed::new(alloc, run) else {
+        drop(response);
+        return Err(AllocError);
+    };
+    match Boxed::new(alloc, response) {
+        Ok(response) => Ok((run, response)),
+        Err(error) => {
+            drop(run);
+            Err(error)
+        }
+    }
+}
 
 /// One event of a launch. `by` is the number of the worker that entered it.
 #[derive(Drop)]

@@ -11,7 +11,7 @@ mod turns;
 
 pub use board::{Board, BoardOf, Book, Name, Near, Turned};
 pub use closing::{Closed, ClosedOf, finish};
-pub use history::{End, Entry, EntryOf, Event, EventOf, Failure, History, HistoryOf};
+pub use history::{End, Entry, EntryOf, Event, EventOf, Failure, History, HistoryOf, Kept, kept};
 pub use mark::{Mark, MarkOf, marked_trip};
 pub use opening::lift;
 pub use served::Served;

@@ -6,7 +6,7 @@ ghost use Rattle.rkt_link.specs.Clock.{IsAmid, IsWithin, TellsOn};
 ghost use Rattle.rkt_board.specs.Board.{IsCutWithin, Keeps, SameBook};
 ghost use Rattle.rkt_board.specs.Events.{is_close, admitted};
 ghost use Rattle.rkt_board.specs.Marks.{events};
-ghost use Rattle.rkt_board.specs.Turns.{mark, AddsOne, TurnedAs, StopsAs, GivesAs, DownsAs, ClosesAs, TripsAs, ShowsTrip, StaysOpen, MayDown, MayClose, IsOpen, IsRunOf};
+ghost use Rattle.rkt_board.specs.Turns.{mark, AddsOne, TurnedAs, StopsAs, GivesAs, DownsAs, ClosesAs, TripsAs, ShowsTrip, gate_with, StaysOpen, MayDown, MayClose, IsOpen, IsRunOf};
 ghost use Rattle.rkt_board.specs.declared.history.EventOf.TheVariants as event;
 
 use crate::{BoardOf, Book, Entry, EventOf, MarkOf, Served, Turned};
@@ -14,6 +14,7 @@ use rkt_base::{Poll, Seq};
 use rkt_link::{Accepted, Clock, Link, Listener};
 use rkt_orbit::Called;
 use rkt_request::Types;
+use rkt_source::Gate;
 use rkt_turn::Shutdown;
 use std::snapshot::Snapshot;
 
@@ -163,32 +164,40 @@ fn note_trip<A: Types, P: Served<A, L::Link>, L: Listener, C: Clock>(
     board.book.tripped = true;
 }
 
-/// Looks at the clock and at the wire, and tells the moment and the word, if there is one; the first time that there is, it
-/// enters the Trip. What is open stays open.
+/// Looks at the clock and at the wire, and gives the Gate of that moment with these delays, in seconds, and with the word, if there
+/// is one; the first time that there is, it enters the Trip. What is open stays open.
 pub fn look<A: Types, P: Served<A, L::Link>, L: Listener, C: Clock>(
     board: &mut BoardOf<A, P, L, C>,
     by: u64,
-) -> (u64, Option<u64>)
+    grace: u32,
+    mercy: u32,
+) -> Gate
     requires keeps { Keeps L.Link.meaning L.meaning C.meaning P.cause board.old }
     requires unclosed { list_any is_close (events board.old.book.marks.items) ≡ false }
     ensures name { board.new.name ≡ board.old.name }
-    ensures moment { IsAmid (C.meaning board.old.near.clock) (C.meaning board.new.near.clock) result.0 }
-    ensures last { (C.meaning board.new.near.clock).last ≡ result.0 }
+    ensures gate { result ≡ gate_with result.moment result.tripped grace mercy }
+    ensures moment { IsAmid (C.meaning board.old.near.clock) (C.meaning board.new.near.clock) result.moment }
+    ensures last { (C.meaning board.new.near.clock).last ≡ result.moment }
+    // It looks with one load, unless a word was seen before.
     ensures looked { board.old.near.handle.seen ≡ 0 → board.new.near.handle.looked ≡ board.old.near.handle.looked + 1 }
     ensures handle { HandsBack board.old.near.handle board.new.near.handle }
     ensures clock { TellsOn (C.meaning board.old.near.clock) (C.meaning board.new.near.clock) }
-    ensures word { ShowsTrip result.1 (events board.new.book.marks.items) }
+    // The word that it shows is that of the Trip, where there is one.
+    ensures word { ShowsTrip result.tripped (events board.new.book.marks.items) }
     ensures adds { TripsAs by board.old.book.marks.items board.new.book.marks.items }
     ensures stays { StaysOpen L.Link.meaning board.old.book.marks.items board.new.book.marks.items }
     ensures keeps { Keeps L.Link.meaning L.meaning C.meaning P.cause board.new }
 {
     let moment = board.near.clock.now();
-    match board.near.handle.tripped() {
-        Some(word) => {
-            note_trip::<A, P, L, C>(board, by, moment, word);
-            (moment, Some(word))
-        }
-        None => (moment, None),
+    let tripped = board.near.handle.tripped();
+    if let Some(word) = tripped {
+        note_trip::<A, P, L, C>(board, by, moment, word);
+    }
+    Gate {
+        moment,
+        tripped,
+        grace,
+        mercy,
     }
 }
 

@@ -19,7 +19,7 @@ use Rattle.rkt_message.specs.Reading.{ReadsOn}
 use Rattle.rkt_message.specs.declared.content.Content.{Content}
 use Rattle.rkt_source.specs.Source.{Meaning}
 use Rattle.rkt_serve.proofs.BodyReads.{reads_more, reads_wider}
-use Rattle.rkt_serve.proofs.Launching.{none_found}
+use Rattle.rkt_board.proofs.Core.{none_found}
 use Rattle.rkt_serve.proofs.Meanwhile.{trips_then, with_trip}
 use Rattle.rkt_serve.specs.Causes.{CausedAs, IsDueBehind, Ran}
 use Rattle.rkt_serve.specs.Gates.{IsCutBy, IsCutOff, IsGateOf, Watched, WatchedOn, word_in}

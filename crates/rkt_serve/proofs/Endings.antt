@@ -29,7 +29,8 @@ use Rattle.rkt_source.specs.declared.source.Gate.{Gate}
 use Rattle.rkt_turn.specs.HandsBack.{HandsBack}
 use Rattle.rkt_turn.specs.Shutdown.{Handle}
 use Rattle.rkt_link.specs.Asked.{Asked, GivesBody, IsUntouched}
-use Rattle.rkt_serve.specs.Begun.{AllFit, IsBegun, gate_with}
+use Rattle.rkt_board.specs.Turns.{gate_with}
+use Rattle.rkt_serve.specs.Begun.{AllFit, IsBegun}
 use Rattle.rkt_link.proofs.Telling.{told_within}
 use Rattle.rkt_link.specs.Clock.{ClockMeaning, IsAmid, IsWithin, TellsOn}
 use Rattle.rkt_serve.specs.Lifecycle.{Lifecycle, body_from}

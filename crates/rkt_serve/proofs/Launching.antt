@@ -1,5 +1,5 @@
 -- What is launched, as a closed board leaves it.
-use Rattle.std.proofs.Common.{inl, inr, ◌≡◌, ◌<◌, ◌++◌, ◌⊎◌, ◌∙◌, ℕ, Bool, List, [], ◌∷◌, IsSome, Option, None, Some, Result, Ok, Err, true, false, refl, sym, ap, subst, arith}
+use Rattle.std.proofs.Common.{inl, inr, ◌≡◌, ◌<◌, ◌++◌, ◌⊎◌, ◌∙◌, ℕ, Bool, List, IsSome, Option, None, Some, Result, Ok, Err, true, false, refl, sym, ap, subst, arith}
 use Rattle.std.specs.Prelude.{IfOk, IfSome}
 use Rattle.std.proofs.lemmas.Grind.{common_steps}
 use Rattle.std.proofs.lemmas.List.Folds.{list_any-append}
@@ -19,7 +19,6 @@ use Rattle.rkt_board.specs.Closed.{AllAdmitted, HasEntry as Entered}
 use Rattle.rkt_board.specs.Events.{is_abandoned, is_trip, admitted, trip_of, Ordered, IsClosed, EachEndsOnce}
 use Rattle.rkt_board.specs.declared.closing.ClosedOf.{ClosedOf}
 use Rattle.rkt_board.specs.declared.history.EventOf.{EventOf}
-use Rattle.rkt_board.specs.declared.history.EventOf.TheVariants.{Lift, Trip, Admit, End, Down, Close}
 use Rattle.rkt_board.specs.declared.history.HistoryOf.{HistoryOf}
 use Rattle.rkt_serve.proofs.Abandoning.{may_abandon}
 use Rattle.rkt_serve.proofs.Handles.{hands_back_more}
@@ -141,16 +140,6 @@ module _ {V S C R F FTask GTask STask H HTask K KTask L N : Type 0} (allowed : �
     timed = timed;
     callers = subst (AllByRecursion IsCallers) (sym is) callers;
   }
-
--- where no Trip is found, there is none
-pub none_found : {C R L : Type 0} (es : List (EventOf C R L)) → trip_of es ≡ None → list_any is_trip es ≡ false
-none_found [] none = refl
-none_found (Trip w m ∷ es) none = absurd (cc none)
-none_found (Lift calls ∷ es) none = none_found es none
-none_found (Admit n m b ∷ es) none = none_found es none
-none_found (End n x m b ∷ es) none = none_found es none
-none_found (Down calls ∷ es) none = none_found es none
-none_found (Close m ∷ es) none = none_found es none
 
 -- a listener that says that it never fails has not
 pub never_failed : (faulted : Bool) (old new : ListenerMeaning) → SoundAs faulted old new → old.never_faults ≡ true → faulted ≡ false

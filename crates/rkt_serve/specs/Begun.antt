@@ -21,12 +21,9 @@ use Rattle.rkt_source.specs.Source.{Meaning}
 use Rattle.rkt_source.specs.declared.source.Gate.{Gate}
 use Rattle.rkt_turn.specs.Shutdown.{Handle}
 use Rattle.rkt_link.specs.Clock.{ClockMeaning, IsAmid}
+use Rattle.rkt_board.specs.Turns.{gate_with}
 use Rattle.rkt_serve.specs.Lifecycle.{body_from}
 use Rattle.rkt_serve.specs.Serving.{callbacks_with}
-
--- the Gate of a moment, with these delays, and with the word of a trip where there is one
-abbrev pub gate_with : ℕ → Option ℕ → ℕ → ℕ → Gate
-gate_with moment tripped grace mercy = record { moment = moment; tripped = tripped; grace = grace; mercy = mercy }
 
 -- one without a trip, with the configuration's delays
 abbrev pub gate_at : {F H K N V : Type 0} → SeenTables F H K N V → ℕ → Gate

@@ -23,10 +23,10 @@ ghost use Rattle.rkt_serve.specs.Serving.{callbacks_with, gates_of};
 ghost use Rattle.rkt_serve.specs.Waiting.{IsLate, MayBePending};
 
 use crate::causes::LentBy;
-use crate::looking::gate_now;
+use crate::working::CALLER;
 use crate::{Clock, Link, Listener};
 use rkt_base::Poll;
-use rkt_board::{BoardOf, marked_trip};
+use rkt_board::{BoardOf, look, marked_trip};
 use rkt_data::{CancellableIo, Data, Gate};
 use rkt_life::{App, Ended, EndedOf, Exchange, Tables};
 use rkt_request::{Head, Request};
@@ -126,7 +126,7 @@ where
 {
     let mut trip = None;
     for _ in rt.forever() {
-        let gate = gate_now::<A, L, C>(grace, mercy, board);
+        let gate = look::<A, LentBy<A>, L, C>(board, CALLER, grace, mercy);
         match exchange.poll(gate) {
             Poll::Ready(ended) => return Some(ended),
             Poll::Pending => {}

@@ -1,5 +1,5 @@
 //! The launch of a rocket.
-ghost use Rattle.std.specs.Prelude.{◌≡◌, ◌<◌, ◌≤◌, ◌⊎◌, [], ℕ, List, Some, true, false, IfOk, IfErr, IfSome, IsTrue, ⊤, length, vec_capacity};
+ghost use Rattle.std.specs.Prelude.{◌≡◌, ◌<◌, ◌≤◌, ◌⊎◌, [], ℕ, List, Some, true, false, IfOk, IfErr, IfSome, ⊤, length, vec_capacity};
 ghost use Rattle.std.specs.List.{AllByRecursion, list_any};
 ghost use Rattle.std.specs.Option.{ForSome};
 ghost use Rattle.rkt_turn.specs.HandsBack.{HandsBack};
@@ -25,7 +25,7 @@ ghost use Rattle.rkt_serve.specs.Waiting.{MayAbandon};
 
 use crate::caller::serve_to_close;
 use crate::orbit::lift_tables;
-use crate::{Clock, Error, ErrorKindOf, HistoryOf, Launched, LaunchedOf, Link, Listener};
+use crate::{Clock, Error, ErrorKindOf, Launched, LaunchedOf, Link, Listener};
 use rkt_base::{NoMemory, Seq, Want};
 use rkt_board::{Book, Closed, ClosedOf, Event, Mark};
 use rkt_life::{App, Build, Fairing, Ignite, Orbit, Rocket, Tables};
@@ -161,25 +161,6 @@ fn with_back<W: Reason>(mut handle: Shutdown<W>, back: Option<Shutdown<W>>) -> S
     handle
 }
 
-// The listener has ended, or there is a Trip.
-#[tactic(auto, using(rkt_board::proofs::Core::found_trip, crate::proofs::Launching::none_found))]
-fn is_over<C, S, K>(over: bool, history: &HistoryOf<C, S, K>) -> bool
-    ensures found { IsTrue result → (over ≡ true) ⊎ (list_any is_trip history.now.events ≡ true) }
-    ensures goes_on { result ≡ false → over ≡ false }
-    ensures trip { result ≡ false → list_any is_trip history.now.events ≡ false }
-{
-    over || history.trip().is_some()
-}
-
-// The listener has failed, or an exchange was abandoned.
-fn has_failed<C, S, K>(faulted: bool, history: &HistoryOf<C, S, K>) -> bool
-    ensures failed { IsTrue result → (faulted ≡ true) ⊎ (list_any is_abandoned history.now.events ≡ true) }
-    ensures sound { result ≡ false → faulted ≡ false }
-    ensures none_abandoned { result ≡ false → list_any is_abandoned history.now.events ≡ false }
-{
-    faulted || history.abandoned()
-}
-
 // What a launch answers that is closed.
 fn answered<A: App, L: Listener, C: Clock>(
     tables: Tables<A>,
@@ -197,16 +178,16 @@ fn answered<A: App, L: Listener, C: Clock>(
     ensures shutdown { IfErr result (λ e. IfShutdown e (λ l. (closed.faulted ≡ true) ⊎ (list_any is_abandoned closed.history.events ≡ true))) }
     ensures lit { IfErr result (λ e. IsLit e) }
 {
+    let over = closed.is_over();
+    let failed = closed.has_failed();
     let ClosedOf {
         listener,
         clock,
         handle,
-        over,
-        faulted,
+        over: _,
+        faulted: _,
         history,
     } = closed;
-    let over = is_over(over, &history);
-    let failed = has_failed(faulted, &history);
     let launched = LaunchedOf {
         rocket: Rocket::<Orbit, A>::from_parts(tables, table, handle).into_ignite(),
         listener,

@@ -23,8 +23,8 @@ ghost use Rattle.rkt_serve.specs.Waiting.{IsLate};
 use crate::causes::LentBy;
 use crate::exchanging::run_exchange;
 use crate::sending::send;
-use crate::{Boxed, Clock, End, Entry, EntryOf, Gates, Link, Listener};
-use rkt_board::BoardOf;
+use crate::{Clock, End, Entry, EntryOf, Gates, Link, Listener};
+use rkt_board::{BoardOf, kept};
 use rkt_data::CancellableIo;
 use rkt_life::{App, EndedOf, Run, Tables};
 use rkt_message::Response;
@@ -41,18 +41,6 @@ pub(crate) struct Worker<'a, A: App, R> {
     pub(crate) rt: &'a R,
     pub(crate) alloc: Global,
     pub(crate) tables: &'a Tables<A>,
-}
-
-// What is kept of an exchange that came to no response.
-fn unanswered<C, S, K>(link: CancellableIo<K>, end: End) -> EntryOf<C, S, K>
-    ensures { result ≡ record { link = link; run = None; response = None; end = end } }
-{
-    EntryOf {
-        link,
-        run: None,
-        response: None,
-        end,
-    }
 }
 
 // How often in a row the source of a body may be Pending.
@@ -100,15 +88,10 @@ where
     let Ok(ended) = sent else {
         drop(run);
         drop(response);
-        return unanswered(io, End::Starved);
+        return EntryOf::unanswered(io, End::Starved);
     };
-    let Ok(run) = Boxed::new(alloc, run) else {
-        drop(response);
-        return unanswered(io, End::Starved);
-    };
-    let Ok(response) = Boxed::new(alloc, response) else {
-        drop(run);
-        return unanswered(io, End::Starved);
+    let Ok((run, response)) = kept::<A>(alloc, run, response) else {
+        return EntryOf::unanswered(io, End::Starved);
     };
     EntryOf {
         link: io,
@@ -148,7 +131,7 @@ impl<'a, A: App, R: Wait> Worker<'a, A, R> {
     {
         let Some(source) = link.take_source() else {
             return (
-                unanswered(CancellableIo::new(link), End::Starved),
+                EntryOf::unanswered(CancellableIo::new(link), End::Starved),
                 Some(shutdown),
             );
         };
@@ -163,7 +146,10 @@ impl<'a, A: App, R: Wait> Worker<'a, A, R> {
             board,
         );
         let Some(ended) = ended else {
-            return (unanswered(CancellableIo::new(link), End::Abandoned), None);
+            return (
+                EntryOf::unanswered(CancellableIo::new(link), End::Abandoned),
+                None,
+            );
         };
         match ended {
             EndedOf::Finished {
@@ -178,7 +164,7 @@ impl<'a, A: App, R: Wait> Worker<'a, A, R> {
                 (entry, Some(shutdown))
             }
             EndedOf::Starved { shutdown } => (
-                unanswered(CancellableIo::new(link), End::Starved),
+                EntryOf::unanswered(CancellableIo::new(link), End::Starved),
                 Some(shutdown),
             ),
         }

@@ -17,7 +17,7 @@ returns-clause-caused g c window tables turns grace fresh none shown behind life
     let ended = rw c.in-Ok.is at sent.ended in
     let left = subst (λ k. LeftBy c.in-Ok.ended (g.L.Link.Link.meaning k) ended.0 (g.L.Link.Link.meaning c.send-response.new.io.io)) (ap (λ io. io.io) c.new-io.ensures) ended.2 in
     caused_sent served tables _ _ (g.L.Link.Link.meaning c.args.link) c.args.run c.args.response c.send-response.result.0 c.in-Ok.ended ended.0
-    (rw (c.in-Ok-new.ensures, c.in-Ok-new-2.ensures) refl) shown (λ is. word_still 0 old new (adds_trip old new sent.leads.adds sent.keeps.keeps.legal.ordered) (behind is)) lifecycle fresh none sent.read_on sent.reads
+    (rw (ap (λ k. k.0) c.in-Ok-kept.ensures, ap (λ k. k.1) c.in-Ok-kept.ensures) refl) shown (λ is. word_still 0 old new (adds_trip old new sent.leads.adds sent.keeps.keeps.legal.ordered) (behind is)) lifecycle fresh none sent.read_on sent.reads
     (subst (λ (n : ℕ). IsSentAs g.A.Stream.Source.meaning (max n 1) c.args.response c.send-response.result.0 c.in-Ok.ended ended.0) (sym turns) ended.1) left
     watched refl (ap (λ n. n.served.grace) sent.leads.name ∙ grace) (rw c.in-Ok.is at sent.cut)
 
@@ -27,11 +27,8 @@ returns-clause-cut g c = cut_off_by (watched_by g.C.Clock.meaning c.send-respons
 pub returns-in_default-clause-adds : goal.returns-in_default-clause-adds
 returns-in_default-clause-adds g c = adds_trip c.args.board.now.book.marks.items c.send-response.new.gates.book.marks.items c.send-response.ensures.leads.adds c.send-response.ensures.keeps.keeps.legal.ordered
 
-pub returns-in_default-new-clause-adds : goal.returns-in_default-new-clause-adds
-returns-in_default-new-clause-adds g c = adds_trip c.args.board.now.book.marks.items c.send-response.new.gates.book.marks.items c.send-response.ensures.leads.adds c.send-response.ensures.keeps.keeps.legal.ordered
-
-pub returns-in_default-new-2-clause-adds : goal.returns-in_default-new-2-clause-adds
-returns-in_default-new-2-clause-adds g c = adds_trip c.args.board.now.book.marks.items c.send-response.new.gates.book.marks.items c.send-response.ensures.leads.adds c.send-response.ensures.keeps.keeps.legal.ordered
+pub returns-in_default-kept-clause-adds : goal.returns-in_default-kept-clause-adds
+returns-in_default-kept-clause-adds g c = adds_trip c.args.board.now.book.marks.items c.send-response.new.gates.book.marks.items c.send-response.ensures.leads.adds c.send-response.ensures.keeps.keeps.legal.ordered
 
 pub returns-clause-adds : goal.returns-clause-adds
 returns-clause-adds g c = adds_trip c.args.board.now.book.marks.items c.send-response.new.gates.book.marks.items c.send-response.ensures.leads.adds c.send-response.ensures.keeps.keeps.legal.ordered
