@@ -1,7 +1,7 @@
 //! Ad hoc changes of a rocket's life.
 use crate::named::Named;
 use crate::site::{Site, Sorry, Stopped};
-use cases::{CaseError, first_word, parsed};
+use cases::{CaseError, first_word, parsed, written};
 use rkt_answers::Answering;
 use rkt_base::NoMemory;
 use rkt_fairing::{
@@ -114,30 +114,43 @@ fn new_building(alloc: Global) -> SiteBuilding {
     BuildingOf::new(alloc, ConfigTable::new(alloc))
 }
 
+/// Adds what a fairing tells.
+fn push_info<F: Attach>(out: &mut String, fairing: &F) -> Result<(), NoMemory> {
+    let info = fairing.info();
+    write!(out, "{} {} {}: ", info.name, fairing.key().0, info.kind)
+}
+
+/// Adds how many fairings were attached.
+fn push_attached(out: &mut String, building: &SiteBuilding) -> Result<(), NoMemory> {
+    write!(out, "{}", building.fairings.count(Callback::Request))
+}
+
 fn push_ignited(
     alloc: Global,
     ad_hoc: &mut OnIgnite<Comes>,
     calls: usize,
+    building: &mut SiteBuilding,
     out: &mut String,
 ) -> Result<(), NoMemory> {
-    let mut building = new_building(alloc);
+    push_info(out, ad_hoc)?;
     for _ in 0..calls {
-        push_tried(out, ad_hoc.run::<Site, Named>(alloc, &mut building))?;
+        push_tried(out, ad_hoc.run::<Site, Named>(alloc, building))?;
     }
-    write!(out, "{}", building.fairings.count(Callback::Request))
+    push_attached(out, building)
 }
 
 fn push_tries(
     alloc: Global,
     ad_hoc: &mut TryOnIgnite<Comes>,
     calls: usize,
+    building: &mut SiteBuilding,
     out: &mut String,
 ) -> Result<(), NoMemory> {
-    let mut building = new_building(alloc);
+    push_info(out, ad_hoc)?;
     for _ in 0..calls {
-        push_tried(out, ad_hoc.run::<Site, Named>(alloc, &mut building))?;
+        push_tried(out, ad_hoc.run::<Site, Named>(alloc, building))?;
     }
-    write!(out, "{}", building.fairings.count(Callback::Request))
+    push_attached(out, building)
 }
 
 /// A rocket in orbit, as fairings see it.
@@ -166,6 +179,38 @@ impl Orbit {
     }
 }
 
+/// A handle of a wire that nothing has tripped.
+pub fn handle(alloc: Global) -> Result<Shutdown<Stopped>, NoMemory> {
+    let (_wire, shutdown) = TripWire::<Stopped>::new(alloc)?;
+    Ok(shutdown)
+}
+
+fn push_notified(
+    alloc: Global,
+    ad_hoc: &mut OnLiftoff<Comes>,
+    calls: usize,
+    view: &View<'_, Site>,
+    shutdown: &mut Shutdown<Stopped>,
+    out: &mut String,
+) -> Result<(), NoMemory> {
+    push_info(out, ad_hoc)?;
+    for _ in 0..calls {
+        push_step(out, ad_hoc.run::<Site>(alloc, view, shutdown))?;
+    }
+    write!(out, "{}", shutdown.seen())
+}
+
+fn push_liftoffs_in(
+    alloc: Global,
+    ad_hoc: &mut OnLiftoff<Comes>,
+    calls: usize,
+    view: &View<'_, Site>,
+    out: &mut String,
+) -> Result<(), NoMemory> {
+    let mut shutdown = handle(alloc)?;
+    push_notified(alloc, ad_hoc, calls, view, &mut shutdown, out)
+}
+
 fn push_liftoffs(
     alloc: Global,
     ad_hoc: &mut OnLiftoff<Comes>,
@@ -173,11 +218,21 @@ fn push_liftoffs(
     out: &mut String,
 ) -> Result<(), NoMemory> {
     let orbit = Orbit::new(alloc)?;
-    let (_wire, mut shutdown) = TripWire::<Stopped>::new(alloc)?;
+    push_liftoffs_in(alloc, ad_hoc, calls, &orbit.view(), out)
+}
+
+fn push_shutdowns_in(
+    alloc: Global,
+    ad_hoc: &OnShutdown<Comes>,
+    calls: usize,
+    view: &View<'_, Site>,
+    out: &mut String,
+) -> Result<(), NoMemory> {
+    push_info(out, ad_hoc)?;
     for _ in 0..calls {
-        push_step(out, ad_hoc.run::<Site>(alloc, &orbit.view(), &mut shutdown))?;
+        push_step(out, ad_hoc.run::<Site>(alloc, view))?;
     }
-    write!(out, "{}", shutdown.seen())
+    Ok(())
 }
 
 fn push_shutdowns(
@@ -187,10 +242,7 @@ fn push_shutdowns(
     out: &mut String,
 ) -> Result<(), NoMemory> {
     let orbit = Orbit::new(alloc)?;
-    for _ in 0..calls {
-        push_step(out, ad_hoc.run::<Site>(alloc, &orbit.view()))?;
-    }
-    Ok(())
+    push_shutdowns_in(alloc, ad_hoc, calls, &orbit.view(), out)
 }
 
 /// Adds what an ad hoc fairing tells, and what its calls answer.
@@ -207,11 +259,6 @@ pub fn ad_hoc_answer(alloc: Global, text: &str, out: &mut String) -> Result<(), 
     }
 }
 
-fn push_info<F: Attach>(out: &mut String, fairing: &F) -> Result<(), NoMemory> {
-    let info = fairing.info();
-    write!(out, "{} {} {}: ", info.name, fairing.key().0, info.kind)
-}
-
 fn ignite_answer(
     alloc: Global,
     comes: Comes,
@@ -219,8 +266,8 @@ fn ignite_answer(
     out: &mut String,
 ) -> Result<(), CaseError> {
     let mut ad_hoc = AdHoc::on_ignite("ada", Key(1), comes);
-    push_info(out, &ad_hoc)?;
-    Ok(push_ignited(alloc, &mut ad_hoc, calls, out)?)
+    let mut building = new_building(alloc);
+    written(push_ignited(alloc, &mut ad_hoc, calls, &mut building, out))
 }
 
 fn try_answer(
@@ -230,8 +277,8 @@ fn try_answer(
     out: &mut String,
 ) -> Result<(), CaseError> {
     let mut ad_hoc = AdHoc::try_on_ignite("bob", Key(2), comes);
-    push_info(out, &ad_hoc)?;
-    Ok(push_tries(alloc, &mut ad_hoc, calls, out)?)
+    let mut building = new_building(alloc);
+    written(push_tries(alloc, &mut ad_hoc, calls, &mut building, out))
 }
 
 fn liftoff_answer(
@@ -241,8 +288,7 @@ fn liftoff_answer(
     out: &mut String,
 ) -> Result<(), CaseError> {
     let mut ad_hoc = AdHoc::on_liftoff("cy", Key(3), comes);
-    push_info(out, &ad_hoc)?;
-    Ok(push_liftoffs(alloc, &mut ad_hoc, calls, out)?)
+    written(push_liftoffs(alloc, &mut ad_hoc, calls, out))
 }
 
 fn shutdown_answer(
@@ -252,6 +298,5 @@ fn shutdown_answer(
     out: &mut String,
 ) -> Result<(), CaseError> {
     let ad_hoc = AdHoc::on_shutdown("dan", Key(4), comes);
-    push_info(out, &ad_hoc)?;
-    Ok(push_shutdowns(alloc, &ad_hoc, calls, out)?)
+    written(push_shutdowns(alloc, &ad_hoc, calls, out))
 }

@@ -6,7 +6,7 @@ use crate::kinds::{kinds_answer, read_event};
 use crate::named::{Named, read_named};
 use crate::shown::{push_active, push_audit, push_fairings};
 use crate::turns::{ask_answer, respond_answer};
-use cases::{Answers, CaseError, first_word, parsed};
+use cases::{Answers, CaseError, first_word, parsed, written};
 use rkt_fairing::{Attach, BuildingOf, Callback, Fairings, Slot};
 use rkt_request::ConfigTable;
 use rkt_shield::Shield;
@@ -115,6 +115,24 @@ fn ignite_answer(fairings: &mut Fairings<Named>, out: &mut String) -> Result<(),
     Ok(out.push_str(name)?)
 }
 
+/// Adds the answer to a line on the builder's list.
+fn list_answer(
+    alloc: Global,
+    fairings: &mut Fairings<Named>,
+    command: &str,
+    rest: &str,
+    out: &mut String,
+) -> Result<(), CaseError> {
+    match command {
+        "audit" => written(push_audit(out, fairings)),
+        "active" => written(push_active(out, fairings)),
+        "at" => at_answer(fairings, rest, out),
+        "change" => change_answer(alloc, fairings, rest, out),
+        "ignite" => ignite_answer(fairings, out),
+        _ => Err(CaseError::Line),
+    }
+}
+
 /// Adds the answer to a line on fairings.
 fn fairings_answer(
     alloc: Global,
@@ -127,29 +145,46 @@ fn fairings_answer(
         "attach" => attach_answer(alloc, &mut kept.built, rest, out),
         "other" => other_answer(alloc, &mut kept.others, rest, out),
         "append" => append_answer(kept, out),
-        "audit" => Ok(push_audit(out, &kept.built.fairings)?),
-        "active" => Ok(push_active(out, &kept.built.fairings)?),
-        "at" => at_answer(&kept.built.fairings, rest, out),
-        "change" => change_answer(alloc, &mut kept.built.fairings, rest, out),
-        "ignite" => ignite_answer(&mut kept.built.fairings, out),
-        _ => Err(CaseError::Line),
+        _ => list_answer(alloc, &mut kept.built.fairings, command, rest, out),
     }
 }
 
-/// Adds the answer to a line on what else is built.
+/// Adds the answer to a line on what is built.
 fn build_answer(
     alloc: Global,
-    built: &mut Built,
+    kept: &mut Kept,
     command: &str,
     rest: &str,
     out: &mut String,
 ) -> Result<(), CaseError> {
     match command {
-        "mount" => mount_answer(alloc, built, rest, out),
-        "register" => register_answer(alloc, built, rest, out),
-        "manage" => manage_answer(built, rest, out),
-        "configure" => configure_answer(alloc, built, rest, out),
-        _ => text_answer(built, rest, out),
+        "mount" => mount_answer(alloc, &mut kept.built, rest, out),
+        "register" => register_answer(alloc, &mut kept.built, rest, out),
+        "manage" => manage_answer(&mut kept.built, rest, out),
+        "configure" => configure_answer(alloc, &mut kept.built, rest, out),
+        "text" => text_answer(&kept.built, rest, out),
+        _ => fairings_answer(alloc, kept, command, rest, out),
+    }
+}
+
+/// From here on nothing is built any more.
+fn new_answer(alloc: Global, kept: &mut Kept, out: &mut String) -> Result<(), CaseError> {
+    *kept = Kept::new(alloc);
+    written(out.push_str("new"))
+}
+
+/// Adds the answer to a line on kinds, or on what is kept.
+fn kept_answer(
+    alloc: Global,
+    kept: &mut Kept,
+    command: &str,
+    rest: &str,
+    out: &mut String,
+) -> Result<(), CaseError> {
+    match command {
+        "kind" | "is" | "is_exactly" => kinds_answer(command, rest, out),
+        "build" => new_answer(alloc, kept, out),
+        _ => build_answer(alloc, kept, command, rest, out),
     }
 }
 
@@ -157,18 +192,10 @@ impl Answers for Kept {
     fn answer(&mut self, alloc: Global, line: &str, out: &mut String) -> Result<(), CaseError> {
         let (command, rest) = first_word(line);
         match command {
-            "kind" | "is" | "is_exactly" => kinds_answer(command, rest, out),
             "adhoc" => ad_hoc_answer(alloc, rest, out),
             "ask" => ask_answer(alloc, rest, out),
             "respond" => respond_answer(alloc, rest, out),
-            "build" => {
-                *self = Kept::new(alloc);
-                Ok(out.push_str("new")?)
-            }
-            "mount" | "register" | "manage" | "configure" | "text" => {
-                build_answer(alloc, &mut self.built, command, rest, out)
-            }
-            _ => fairings_answer(alloc, self, command, rest, out),
+            _ => kept_answer(alloc, self, command, rest, out),
         }
     }
 }

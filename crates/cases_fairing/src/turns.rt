@@ -1,8 +1,8 @@
 //! Turns of what is attached: by the bounds alone, of a shield with its policies by default, or of a fairing.
-use crate::ad_hoc::Orbit;
+use crate::ad_hoc::{Orbit, handle};
 use crate::named::{Named, read_called};
-use crate::site::{Site, Stopped};
-use cases::{CaseError, first_word};
+use crate::site::Site;
+use cases::{CaseError, first_word, written};
 use rkt_base::NoMemory;
 use rkt_cookie::CookieJar;
 use rkt_data::{Data, Gate, MemorySource};
@@ -15,7 +15,6 @@ use rkt_request::{Body0, Ctx, Request};
 use rkt_response::Response;
 use rkt_router::{Final, Turn};
 use rkt_shield::Shield;
-use rkt_turn::TripWire;
 use std::alloc::Global;
 
 const GATE: Gate = Gate {
@@ -101,7 +100,7 @@ fn read_called_slot(alloc: Global, text: &str) -> Result<Slot<Named>, CaseError>
 }
 
 fn context(alloc: Global) -> Result<Ctx<Site>, NoMemory> {
-    let (_wire, shutdown) = TripWire::<Stopped>::new(alloc)?;
+    let shutdown = handle(alloc)?;
     Ok(Ctx::new(alloc, CookieJar::new(alloc), shutdown, GATE))
 }
 
@@ -113,11 +112,15 @@ fn request(alloc: Global, orbit: &Orbit) -> Result<Request<'_, Site>, CaseError>
 /// Adds the answer to a line on what is done to a request.
 pub fn ask_answer(alloc: Global, text: &str, out: &mut String) -> Result<(), CaseError> {
     let slot = read_called_slot(alloc, text)?;
-    let orbit = Orbit::new(alloc)?;
-    ask(alloc, &slot, &orbit, out)
+    ask(alloc, &slot, out)
 }
 
-fn ask(
+fn ask(alloc: Global, slot: &Slot<Named>, out: &mut String) -> Result<(), CaseError> {
+    let orbit = Orbit::new(alloc)?;
+    ask_in(alloc, slot, &orbit, out)
+}
+
+fn ask_in(
     alloc: Global,
     slot: &Slot<Named>,
     orbit: &Orbit,
@@ -136,8 +139,7 @@ fn ask_for(
     out: &mut String,
 ) -> Result<(), CaseError> {
     push_asked(alloc, slot, request, out)?;
-    out.push_str(" ")?;
-    Ok(out.push_str(request.method().as_str())?)
+    written(write!(out, " {}", request.method().as_str()))
 }
 
 fn push_asked(
@@ -147,17 +149,16 @@ fn push_asked(
     out: &mut String,
 ) -> Result<(), CaseError> {
     let mut ctx = context(alloc)?;
-    Ok(push_request_turn::<InSlot<AtOnce>>(alloc, out, slot, request, &mut ctx)?)
+    written(push_request_turn::<InSlot<AtOnce>>(alloc, out, slot, request, &mut ctx))
 }
 
-/// The response with the header that a line says, if any.
-fn read_response(alloc: Global, text: &str) -> Result<Response<MemorySource>, NoMemory> {
-    let mut response = Response::new(alloc);
-    if !text.is_empty() {
-        let (name, value) = first_word(text);
-        response.adjoin_raw_header(name, value)?;
+/// Adds the header that a line says, if any.
+fn adjoin(response: &mut Response<MemorySource>, text: &str) -> Result<(), NoMemory> {
+    if text.is_empty() {
+        return Ok(());
     }
-    Ok(response)
+    let (name, value) = first_word(text);
+    response.adjoin_raw_header(name, value)
 }
 
 fn push_headers(out: &mut String, response: &Response<MemorySource>) -> Result<(), NoMemory> {
@@ -171,9 +172,20 @@ fn push_headers(out: &mut String, response: &Response<MemorySource>) -> Result<(
 pub fn respond_answer(alloc: Global, text: &str, out: &mut String) -> Result<(), CaseError> {
     let (called, header) = first_word(text);
     let slot = read_called_slot(alloc, called)?;
-    let mut response = read_response(alloc, header)?;
-    respond(alloc, &slot, &mut response, out)?;
-    Ok(push_headers(out, &response)?)
+    let mut response = Response::new(alloc);
+    push_responded(alloc, &slot, header, &mut response, out)
+}
+
+fn push_responded(
+    alloc: Global,
+    slot: &Slot<Named>,
+    header: &str,
+    response: &mut Response<MemorySource>,
+    out: &mut String,
+) -> Result<(), CaseError> {
+    adjoin(response, header)?;
+    respond(alloc, slot, response, out)?;
+    written(push_headers(out, response))
 }
 
 fn respond(
@@ -207,5 +219,5 @@ fn respond_to(
     out: &mut String,
 ) -> Result<(), CaseError> {
     let mut ctx = context(alloc)?;
-    Ok(push_response_turn::<InSlot<AtOnce>>(alloc, out, slot, request, response, &mut ctx)?)
+    written(push_response_turn::<InSlot<AtOnce>>(alloc, out, slot, request, response, &mut ctx))
 }
