@@ -56,6 +56,24 @@ fn answer_to(
     }
 }
 
+/// The same, where there may have been no memory for the request.
+fn answer_to_made(
+    alloc: Global,
+    made: Result<Asked<'_>, NoMemory>,
+    command: &str,
+    rest: &str,
+    out: &mut String,
+) -> Result<(), CaseError> {
+    match made {
+        Ok(request) => {
+            let answered = answer_to(alloc, &request, command, rest, out);
+            drop(request);
+            answered
+        }
+        Err(_) => Err(CaseError::NoMemory),
+    }
+}
+
 fn answer_by(
     alloc: Global,
     server: &Server,
@@ -63,10 +81,14 @@ fn answer_by(
     rest: &str,
     out: &mut String,
 ) -> Result<(), CaseError> {
-    match server.request(alloc, Method::Get, Origin::parse(alloc, "/")?) {
-        Ok(request) => answer_to(alloc, &request, command, rest, out),
-        Err(_) => Err(CaseError::NoMemory),
-    }
+    let uri = Origin::parse(alloc, "/")?;
+    answer_to_made(
+        alloc,
+        server.request(alloc, Method::Get, uri),
+        command,
+        rest,
+        out,
+    )
 }
 
 impl Answers for Program {

@@ -3,7 +3,7 @@ use crate::around::around;
 use crate::content::typed;
 use crate::inner::inner;
 use crate::redirect::made_redirect;
-use crate::shown::{Asked, respond};
+use crate::shown::{Asked, respond, respond_made};
 use cases::{CaseError, first_word, parsed, written};
 use rkt_http::Status;
 use rkt_response::Debug;
@@ -37,8 +37,7 @@ fn created(
     place: &str,
     out: &mut String,
 ) -> Result<(), CaseError> {
-    let created = Created::<&str>::new(alloc, place)?;
-    respond(alloc, request, created, out)
+    respond_made(alloc, request, Created::<&str>::new(alloc, place), out)
 }
 
 fn created_with(
@@ -80,8 +79,7 @@ fn led(
     out: &mut String,
 ) -> Result<(), CaseError> {
     match made_redirect(alloc, command, rest) {
-        Some(Ok(redirect)) => respond(alloc, request, redirect, out),
-        Some(Err(_)) => Err(CaseError::NoMemory),
+        Some(made) => respond_made(alloc, request, made, out),
         None => around(alloc, request, command, inner(rest), out),
     }
 }

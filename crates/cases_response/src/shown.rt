@@ -98,3 +98,16 @@ pub fn respond<R: Responder<Sample> + Drop>(
     let mut ctx = context(alloc, CookieJar::new(alloc))?;
     respond_under(alloc, request, &mut ctx, responder, out)
 }
+
+/// The same of a responder for which there may have been no memory.
+pub fn respond_made<R: Responder<Sample> + Drop>(
+    alloc: Global,
+    request: &Asked<'_>,
+    made: Result<R, NoMemory>,
+    out: &mut String,
+) -> Result<(), CaseError> {
+    match made {
+        Ok(responder) => respond(alloc, request, responder, out),
+        Err(_) => Err(CaseError::NoMemory),
+    }
+}

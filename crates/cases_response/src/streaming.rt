@@ -68,8 +68,13 @@ pub fn reader_stream(
     text: &str,
     out: &mut String,
 ) -> Result<(), CaseError> {
-    match request(alloc, server, Origin::parse(alloc, "/")?) {
-        Ok(request) => stream_to(alloc, &request, text, out),
+    let uri = Origin::parse(alloc, "/")?;
+    match request(alloc, server, uri) {
+        Ok(request) => {
+            let streamed = stream_to(alloc, &request, text, out);
+            drop(request);
+            streamed
+        }
         Err(_) => Err(CaseError::NoMemory),
     }
 }

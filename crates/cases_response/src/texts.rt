@@ -1,5 +1,5 @@
 //! Texts, bytes and sources.
-use crate::shown::{Asked, respond};
+use crate::shown::{Asked, respond, respond_made};
 use cases::{CaseError, first_word};
 use rkt_base::NoMemory;
 use rkt_data::MemorySource;
@@ -9,44 +9,9 @@ use std::borrow::{CowSlice, CowStr};
 use std::boxed::{BoxedSlice, BoxedStr};
 use std::sync::{ArcSlice, ArcStr};
 
-fn string(
-    alloc: Global,
-    request: &Asked<'_>,
-    text: &str,
-    out: &mut String,
-) -> Result<(), CaseError> {
+fn owned_text(alloc: Global, text: &str) -> Result<CowStr<'_>, NoMemory> {
     let owned = String::from_str(alloc, text)?;
-    respond(alloc, request, owned, out)
-}
-
-fn boxed_text(
-    alloc: Global,
-    request: &Asked<'_>,
-    text: &str,
-    out: &mut String,
-) -> Result<(), CaseError> {
-    let owned = BoxedStr::from_str(alloc, text)?;
-    respond(alloc, request, owned, out)
-}
-
-fn shared_text(
-    alloc: Global,
-    request: &Asked<'_>,
-    text: &str,
-    out: &mut String,
-) -> Result<(), CaseError> {
-    let shared = ArcStr::from_str(alloc, text)?;
-    respond(alloc, request, shared, out)
-}
-
-fn owned_text(
-    alloc: Global,
-    request: &Asked<'_>,
-    text: &str,
-    out: &mut String,
-) -> Result<(), CaseError> {
-    let owned = String::from_str(alloc, text)?;
-    respond::<CowStr<'_>>(alloc, request, CowStr::Owned(owned), out)
+    Ok(CowStr::Owned(owned))
 }
 
 /// Adds what a text of some kind answers.
@@ -59,53 +24,18 @@ pub fn text(
     let (kind, text) = first_word(line);
     match kind {
         "str" => respond(alloc, request, text, out),
-        "string" => string(alloc, request, text, out),
-        "boxed" => boxed_text(alloc, request, text, out),
-        "arc" => shared_text(alloc, request, text, out),
+        "string" => respond_made(alloc, request, String::from_str(alloc, text), out),
+        "boxed" => respond_made(alloc, request, BoxedStr::from_str(alloc, text), out),
+        "arc" => respond_made(alloc, request, ArcStr::from_str(alloc, text), out),
         "cow" => respond::<CowStr<'_>>(alloc, request, CowStr::Borrowed(text), out),
-        "owned_cow" => owned_text(alloc, request, text, out),
+        "owned_cow" => respond_made(alloc, request, owned_text(alloc, text), out),
         _ => Err(CaseError::Line),
     }
 }
 
-fn list(
-    alloc: Global,
-    request: &Asked<'_>,
-    bytes: &[u8],
-    out: &mut String,
-) -> Result<(), CaseError> {
+fn owned_bytes(alloc: Global, bytes: &[u8]) -> Result<CowSlice<'_, u8>, NoMemory> {
     let owned = bytes.to_vec(alloc)?;
-    respond(alloc, request, owned, out)
-}
-
-fn boxed_bytes(
-    alloc: Global,
-    request: &Asked<'_>,
-    bytes: &[u8],
-    out: &mut String,
-) -> Result<(), CaseError> {
-    let owned = BoxedSlice::from_slice(alloc, bytes)?;
-    respond(alloc, request, owned, out)
-}
-
-fn shared_bytes(
-    alloc: Global,
-    request: &Asked<'_>,
-    bytes: &[u8],
-    out: &mut String,
-) -> Result<(), CaseError> {
-    let shared = ArcSlice::from_slice(alloc, bytes)?;
-    respond(alloc, request, shared, out)
-}
-
-fn owned_bytes(
-    alloc: Global,
-    request: &Asked<'_>,
-    bytes: &[u8],
-    out: &mut String,
-) -> Result<(), CaseError> {
-    let owned = bytes.to_vec(alloc)?;
-    respond::<CowSlice<'_, u8>>(alloc, request, CowSlice::Owned(owned), out)
+    Ok(CowSlice::Owned(owned))
 }
 
 /// Adds what bytes of some kind answer.
@@ -119,11 +49,11 @@ pub fn bytes(
     let bytes = text.as_bytes();
     match kind {
         "slice" => respond(alloc, request, bytes, out),
-        "vec" => list(alloc, request, bytes, out),
-        "boxed" => boxed_bytes(alloc, request, bytes, out),
-        "arc" => shared_bytes(alloc, request, bytes, out),
+        "vec" => respond_made(alloc, request, bytes.to_vec(alloc), out),
+        "boxed" => respond_made(alloc, request, BoxedSlice::from_slice(alloc, bytes), out),
+        "arc" => respond_made(alloc, request, ArcSlice::from_slice(alloc, bytes), out),
         "cow" => respond::<CowSlice<'_, u8>>(alloc, request, CowSlice::Borrowed(bytes), out),
-        "owned_cow" => owned_bytes(alloc, request, bytes, out),
+        "owned_cow" => respond_made(alloc, request, owned_bytes(alloc, bytes), out),
         _ => Err(CaseError::Line),
     }
 }
@@ -141,8 +71,8 @@ pub fn byte_stream(
     text: &str,
     out: &mut String,
 ) -> Result<(), CaseError> {
-    let source = source(alloc, text)?;
-    respond(alloc, request, ByteStream::from(source), out)
+    let made = source(alloc, text).map(ByteStream::from);
+    respond_made(alloc, request, made, out)
 }
 
 /// Adds what a source answers as a text.
@@ -152,6 +82,6 @@ pub fn text_stream(
     text: &str,
     out: &mut String,
 ) -> Result<(), CaseError> {
-    let source = source(alloc, text)?;
-    respond(alloc, request, TextStream::from(source), out)
+    let made = source(alloc, text).map(TextStream::from);
+    respond_made(alloc, request, made, out)
 }
