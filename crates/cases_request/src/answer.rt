@@ -9,7 +9,7 @@ use crate::requests::{method_and_target, take_steps};
 use crate::told::push_request;
 use cases::{Answers, CaseError, done, first_word, written};
 use rkt_http::{Method, Origin};
-use rkt_request::{Config, Ctx, Managed, Request};
+use rkt_request::{Ctx, Request};
 use sample_app::{Sample, Server};
 use std::alloc::Global;
 
@@ -54,7 +54,11 @@ fn ask(
     out: &mut String,
 ) -> Result<(), CaseError> {
     match server.request(alloc, first.0, first.1) {
-        Ok(mut request) => push_stepped(alloc, &mut request, ctx, asked, out),
+        Ok(mut request) => {
+            let pushed = push_stepped(alloc, &mut request, ctx, asked, out);
+            drop(request);
+            pushed
+        }
         Err(_) => Err(CaseError::NoMemory),
     }
 }
@@ -82,22 +86,10 @@ fn answer_question(
     }
 }
 
-fn set_config(
-    server: &mut Server,
-    made: Result<Config, CaseError>,
-    out: &mut String,
-) -> Result<(), CaseError> {
-    server.config = made?;
-    written(out.push_str("done"))
-}
-
-fn set_managed(
-    server: &mut Server,
-    made: Result<Managed<u8>, CaseError>,
-    out: &mut String,
-) -> Result<(), CaseError> {
-    server.managed = made?;
-    written(out.push_str("done"))
+/// Puts what was made in the place of what was there.
+fn replace<V: Drop>(place: &mut V, made: Result<V, CaseError>) -> Result<(), CaseError> {
+    *place = made?;
+    Ok(())
 }
 
 /// Changes what is lent to each request.
@@ -109,8 +101,8 @@ fn answer_set(
     out: &mut String,
 ) -> Result<(), CaseError> {
     match command {
-        "config" => set_config(server, config(alloc, text), out),
-        _ => set_managed(server, managed(alloc, text), out),
+        "config" => done(replace(&mut server.config, config(alloc, text)), out),
+        _ => done(replace(&mut server.managed, managed(alloc, text)), out),
     }
 }
 

@@ -12,31 +12,41 @@ use std::fmt::Debug;
 
 type Answer<G, E> = Outcome<G, (Status, E), (Body0<Sample>, Status)>;
 
+/// What a guard answers, where the line is of the language.
+type Polled<G, E> = Result<Answer<G, E>, CaseError>;
+
 /// Adds what a guard answers.
-fn push_outcome<G: Shown + Drop, E: Debug + Drop>(
+fn push_polled<G: Shown, E: Debug>(
     alloc: Global,
-    outcome: Answer<G, E>,
+    polled: &Polled<G, E>,
     out: &mut String,
 ) -> Result<(), CaseError> {
-    match outcome {
-        Outcome::Success(value) => show_named(alloc, "Success", &value, out),
-        Outcome::Error((status, error)) => written(show_error(status, &error, out)),
-        Outcome::Forward((_body, status)) => written(show_forward(status, out)),
+    match polled {
+        Ok(Outcome::Success(value)) => show_named(alloc, "Success", value, out),
+        Ok(Outcome::Error((status, error))) => written(show_error(*status, error, out)),
+        Ok(Outcome::Forward((_body, status))) => written(show_forward(*status, out)),
+        Err(error) => Err(*error),
     }
 }
 
-/// What a guard answers of the body of `CHUNK FAILS BYTES`, through the bound. One that waits makes no case.
+/// What was polled. What waits makes no case.
+fn ready<V>(poll: Poll<Result<V, NoMemory>>) -> Result<V, CaseError> {
+    match poll {
+        Poll::Ready(Ok(value)) => Ok(value),
+        Poll::Ready(Err(_)) => Err(CaseError::NoMemory),
+        Poll::Pending => Err(CaseError::Line),
+    }
+}
+
+/// What a guard answers of the body of `CHUNK FAILS BYTES`, through the bound.
 fn polled<G: FromData<Sample>>(
     alloc: Global,
     request: &Request<'_, Sample>,
     text: &str,
-) -> Result<Answer<G, G::Error>, CaseError> {
-    let mut reading = G::from_data(request, body_of(alloc, text)?);
-    match G::poll_data(alloc, &mut reading, gate_at(0)) {
-        Poll::Ready(Ok(outcome)) => Ok(outcome),
-        Poll::Ready(Err(_)) => Err(CaseError::NoMemory),
-        Poll::Pending => Err(CaseError::Line),
-    }
+) -> Polled<G, G::Error> {
+    let body = body_of(alloc, text)?;
+    let mut reading = G::from_data(request, body);
+    ready(G::poll_data(alloc, &mut reading, gate_at(0)))
 }
 
 fn push_guarded<G: FromData<Sample> + Shown + Drop>(
@@ -48,10 +58,7 @@ fn push_guarded<G: FromData<Sample> + Shown + Drop>(
 where
     G::Error: Debug,
 {
-    match polled::<G>(alloc, request, text) {
-        Ok(outcome) => push_outcome(alloc, outcome, out),
-        Err(error) => Err(error),
-    }
+    push_polled(alloc, &polled::<G>(alloc, request, text), out)
 }
 
 /// Adds what a body has to read first.

@@ -33,10 +33,12 @@ fn take_header(alloc: Global, head: &mut Head, text: &str) -> Result<(), CaseErr
 
 fn take_field(alloc: Global, head: &mut Head, text: &str) -> Result<(), CaseError> {
     match text.strip_prefix("from ") {
-        Some(word) => head.remote = Some(parsed::<SocketAddr>(word)?),
-        None => take_header(alloc, head, text)?,
+        Some(word) => {
+            head.remote = Some(parsed::<SocketAddr>(word)?);
+            Ok(())
+        }
+        None => take_header(alloc, head, text),
     }
-    Ok(())
 }
 
 fn take_fields(alloc: Global, head: &mut Head, text: &str) -> Result<(), CaseError> {
@@ -73,7 +75,11 @@ fn push_read(
     out: &mut String,
 ) -> Result<(), CaseError> {
     match Request::from_incoming(alloc, head, &server.config, &server.managed) {
-        Ok(asked) => push_incoming(alloc, &asked, out),
+        Ok(asked) => {
+            let pushed = push_incoming(alloc, &asked, out);
+            drop(asked);
+            pushed
+        }
         Err(_) => Err(CaseError::NoMemory),
     }
 }

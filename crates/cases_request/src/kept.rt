@@ -35,7 +35,7 @@ fn set_entry(table: &mut ConfigTable, entry: &str) -> Result<(), CaseError> {
         return Ok(());
     }
     let (name, text) = pair(entry, "=")?;
-    Ok(table.set(name, text)?)
+    table.set(name, text).map_err(CaseError::from)
 }
 
 fn set_entries(table: &mut ConfigTable, text: &str) -> Result<(), CaseError> {
@@ -51,7 +51,7 @@ fn config_of(
     set: Result<(), CaseError>,
 ) -> Result<Config, CaseError> {
     set?;
-    Ok(Config::from_table(alloc, table)?)
+    Config::from_table(alloc, table).map_err(CaseError::from)
 }
 
 /// The configuration of `NAME=TEXT; ..`.
@@ -68,7 +68,8 @@ fn manage(managed: &mut Managed<u8>, entry: &str) -> Result<(), CaseError> {
     }
     let (key, value) = pair(entry, "=")?;
     let key = Key(u32::from(parsed::<u8>(key)?));
-    Ok(managed.set(key, parsed::<u8>(value)?)?)
+    let number = parsed::<u8>(value)?;
+    managed.set(key, number).map_err(CaseError::from)
 }
 
 fn manage_each(managed: &mut Managed<u8>, text: &str) -> Result<(), CaseError> {

@@ -9,14 +9,14 @@ use std::alloc::Global;
 use std::fmt::Debug;
 
 /// Adds a value, or the error in its place.
-fn push_read<P: Shown + Drop, E: Debug + Drop>(
+fn push_read<P: Shown, E: Debug>(
     alloc: Global,
-    read: Result<P, Want<E>>,
+    read: &Result<P, Want<E>>,
     out: &mut String,
 ) -> Result<(), CaseError> {
     match read {
         Ok(value) => value.show(alloc, out),
-        Err(Want::Refused(error)) => Ok(write!(out, "refused {error:?}")?),
+        Err(Want::Refused(error)) => written(write!(out, "refused {error:?}")),
         Err(Want::NoMemory) => Err(CaseError::NoMemory),
     }
 }
@@ -32,7 +32,7 @@ where
     P::Error: Debug,
 {
     match request.param::<P>(alloc, n) {
-        Some(read) => push_read(alloc, read, out),
+        Some(read) => push_read(alloc, &read, out),
         None => written(out.push_str("none")),
     }
 }
@@ -64,7 +64,7 @@ fn push_from<P: FromSegments + Shown + Drop>(
 where
     P::Error: Debug,
 {
-    push_read(alloc, request.segments::<P>(alloc, n..), out)
+    push_read(alloc, &request.segments::<P>(alloc, n..), out)
 }
 
 /// Adds what the segments from one on give as a value of a type.

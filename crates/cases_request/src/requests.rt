@@ -16,7 +16,7 @@ fn method(word: &str) -> Result<Method, CaseError> {
 
 fn header(alloc: Global, text: &str) -> Result<Header, CaseError> {
     let (name, value) = field(text)?;
-    Ok(Header::new(alloc, name, value)?)
+    Header::new(alloc, name, value).map_err(CaseError::from)
 }
 
 /// The method and the target of a request that begins with `METHOD TARGET`.

@@ -24,7 +24,7 @@ pub fn show_named<V: Shown>(
 ) -> Result<(), CaseError> {
     write!(out, "{name}(")?;
     value.show(alloc, out)?;
-    Ok(out.push_str(")")?)
+    written(out.push_str(")"))
 }
 
 /// Adds the error of an outcome.
@@ -38,7 +38,7 @@ pub fn show_forward(status: Status, out: &mut String) -> Result<(), NoMemory> {
 }
 
 fn debug<V: Debug>(value: &V, out: &mut String) -> Result<(), CaseError> {
-    Ok(write!(out, "{value:?}")?)
+    written(write!(out, "{value:?}"))
 }
 
 impl Shown for u8 {
@@ -145,7 +145,7 @@ impl<V: Shown, E: Debug> Shown for Result<V, E> {
     fn show(&self, alloc: Global, out: &mut String) -> Result<(), CaseError> {
         match self {
             Ok(value) => show_named(alloc, "Ok", value, out),
-            Err(error) => Ok(write!(out, "Err({error:?})")?),
+            Err(error) => written(write!(out, "Err({error:?})")),
         }
     }
 }

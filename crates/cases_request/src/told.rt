@@ -13,17 +13,10 @@ fn push_line(request: &Request<'_, Sample>, out: &mut String) -> Result<(), NoMe
     write!(out, "{method} {uri} route={route:?}")
 }
 
-fn domain<'a>(host: Option<&'a Host>) -> Option<&'a str> {
-    Some(host?.domain())
-}
-
-fn port(host: Option<&Host>) -> Option<u16> {
-    host?.port()
-}
-
 /// Adds to whom it was sent.
 fn push_host(request: &Request<'_, Sample>, out: &mut String) -> Result<(), NoMemory> {
-    let (domain, port) = (domain(request.host()), port(request.host()));
+    let domain = request.host().map(Host::domain);
+    let port = request.host().and_then(Host::port);
     write!(out, " host={domain:?} port={port:?}")
 }
 
@@ -31,14 +24,6 @@ fn push_host(request: &Request<'_, Sample>, out: &mut String) -> Result<(), NoMe
 fn push_client(request: &Request<'_, Sample>, out: &mut String) -> Result<(), NoMemory> {
     let (remote, real, client) = (request.remote(), request.real_ip(), request.client_ip());
     write!(out, " remote={remote:?} real={real:?} client={client:?}")
-}
-
-fn carried(found: Option<&ContentType>) -> Option<&MediaType> {
-    Some(found?.media_type())
-}
-
-fn preferred(found: Option<&Accept>) -> Option<&MediaType> {
-    Some(found?.preferred())
 }
 
 /// Adds a media type.
@@ -67,8 +52,10 @@ fn push_types(
     request: &Request<'_, Sample>,
     out: &mut String,
 ) -> Result<(), NoMemory> {
-    push_type(alloc, " type=", carried(request.content_type()), out)?;
-    push_type(alloc, " accept=", preferred(request.accept()), out)?;
+    let carried = request.content_type().map(ContentType::media_type);
+    let preferred = request.accept().map(Accept::preferred);
+    push_type(alloc, " type=", carried, out)?;
+    push_type(alloc, " accept=", preferred, out)?;
     push_type(alloc, " format=", request.format(), out)
 }
 

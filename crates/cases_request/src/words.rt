@@ -1,5 +1,5 @@
 //! The parts of a line.
-use cases::{CaseError, cut, pair};
+use cases::{CaseError, cut, pair, written};
 use std::alloc::Global;
 
 /// What stands before the first bar.
@@ -28,7 +28,7 @@ fn escaped(text: &str) -> Result<(u8, &str), CaseError> {
 fn push_escaped(bytes: &mut Vec<u8>, piece: &str) -> Result<(), CaseError> {
     let (byte, rest) = escaped(piece)?;
     bytes.push(byte)?;
-    Ok(bytes.extend_from_slice(rest.as_bytes())?)
+    written(bytes.extend_from_slice(rest.as_bytes()))
 }
 
 fn push_all_escaped(bytes: &mut Vec<u8>, text: &str) -> Result<(), CaseError> {
