@@ -193,7 +193,11 @@ fn ask(
     path: &str,
 ) -> Result<(), CaseError> {
     match request(alloc, &program.setting, path) {
-        Ok(mut request) => push_asked(alloc, out, &mut request, &mut program.ctx, question),
+        Ok(mut request) => {
+            let pushed = push_asked(alloc, out, &mut request, &mut program.ctx, question);
+            drop(request);
+            pushed
+        }
         Err(error) => Err(error),
     }
 }

@@ -89,7 +89,9 @@ fn ask(
     out: &mut String,
 ) -> Result<(), CaseError> {
     let request = server.request(alloc, asked.method, uri)?;
-    push_asked(alloc, router, &request, asked.question, out)
+    let pushed = push_asked(alloc, router, &request, asked.question, out);
+    drop(request);
+    pushed
 }
 
 /// Answers a question that is asked for a request.

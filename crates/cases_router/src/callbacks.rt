@@ -115,5 +115,7 @@ pub fn push_call(
     out: &mut String,
 ) -> Result<(), CaseError> {
     let mut ctx = context(alloc, CookieJar::new(alloc))?;
-    polled(alloc, request, &mut ctx, (command, rest), out)
+    let pushed = polled(alloc, request, &mut ctx, (command, rest), out);
+    drop(ctx);
+    pushed
 }

@@ -75,7 +75,8 @@ fn sent<R: Wait>(
 ) -> Result<End, NoMemory>
     requires { link.old.stage ≡ Stage.Active }
 {
-    let (_response, ended) = send(rt, alloc, ticks, link, response, turns);
+    let (response, ended) = send(rt, alloc, ticks, link, response, turns);
+    drop(response);
     ended
 }
 
