@@ -125,7 +125,7 @@ fn launched<Q: StopReason, R: Wait + Threads>(
     alloc: Global,
     listener: SourcedListener,
 ) -> Result<String, CaseError>
-    requires { IsFresh (listening_meaning listener) }
+    requires fresh { IsFresh (listening_meaning listener) }
 {
     let table = ConfigTable::new(alloc);
     let Ok(rocket) = Sample::<Q>::rocket(alloc, table) else {

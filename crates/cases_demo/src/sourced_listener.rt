@@ -34,7 +34,7 @@ impl Model for SourcedListener {
 impl SourcedListener {
     /// A listener that has given none of these links yet.
     pub fn new(links: Vec<SourcedLink>, fails: Vec<u64>) -> SourcedListener
-        requires { AllByRecursion IsUnused links.items }
+        requires unused { AllByRecursion IsUnused links.items }
         ensures { IsFresh (listening_meaning result) }
     {
         SourcedListener {

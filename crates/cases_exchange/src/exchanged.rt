@@ -25,7 +25,7 @@ fn handle(alloc: Global) -> Result<Shutdown<Stopped>, NoMemory> {
 
 /// One poll. Where it is Pending, there may be another.
 fn polled(exchange: &mut Exchange<'_, Site>, gate: Gate) -> Option<Ended<Site>>
-    requires { IsSome exchange.old.phase }
+    requires going { IsSome exchange.old.phase }
     ensures { IfNone result (IsSome exchange.new.phase) }
 {
     match exchange.poll(gate) {
@@ -55,7 +55,7 @@ fn drive(
     when: When,
     out: &mut String,
 ) -> Result<(), CaseError>
-    requires { IsSome exchange.old.phase }
+    requires going { IsSome exchange.old.phase }
 {
     for before in 0..POLLS {
         let gate = gate_at(when.moment.saturating_add(before));

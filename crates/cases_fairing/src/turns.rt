@@ -11,7 +11,7 @@ use rkt_fairing::{
     turn_request, turn_response,
 };
 use rkt_http::{Method, Origin};
-use rkt_request::{Body0, Ctx, Request};
+use rkt_request::{Body0, Ctx, Request, Types};
 use rkt_response::Response;
 use rkt_router::{Final, Turn};
 use rkt_shield::Shield;
@@ -60,36 +60,28 @@ fn push_turn(out: &mut String, turn: Turn<()>) -> Result<(), NoMemory> {
     })
 }
 
-/// One turn for a request.
-fn push_request_turn<P: RequestCallback<Site, Slot<Named>>>(
+/// The one turn of a call for a request, by the bounds alone.
+fn asked<T: Types, F, P: RequestCallback<T, F>>(
     alloc: Global,
-    out: &mut String,
-    slot: &Slot<Named>,
-    request: &mut Request<'_, Site>,
-    ctx: &mut Ctx<Site>,
-) -> Result<(), NoMemory> {
-    let mut task = P::start(slot);
-    let mut body = Data::local(Vec::new(alloc));
-    let turn = turn_request::<Site, Slot<Named>, P>(
-        alloc, slot, 1, 0, &mut task, request, &mut body, ctx,
-    );
-    push_turn(out, turn)
+    fairing: &F,
+    request: &mut Request<'_, T>,
+    body: &mut Body0<T>,
+    ctx: &mut Ctx<T>,
+) -> Turn<()> {
+    let mut task = P::start(fairing);
+    turn_request::<T, F, P>(alloc, fairing, 1, 0, &mut task, request, body, ctx)
 }
 
-/// One turn for a response.
-fn push_response_turn<Q: ResponseCallback<Site, Slot<Named>>>(
+/// The one turn of a call for a response, by the bounds alone.
+fn responded<T: Types, F, Q: ResponseCallback<T, F>>(
     alloc: Global,
-    out: &mut String,
-    slot: &Slot<Named>,
-    request: &Request<'_, Site>,
-    response: &mut Response<MemorySource>,
-    ctx: &mut Ctx<Site>,
-) -> Result<(), NoMemory> {
-    let mut task = Q::start(slot, request);
-    let turn = turn_response::<Site, Slot<Named>, Q>(
-        alloc, slot, 1, 0, &mut task, request, response, ctx,
-    );
-    push_turn(out, turn)
+    fairing: &F,
+    request: &Request<'_, T>,
+    response: &mut Response<T::Stream>,
+    ctx: &mut Ctx<T>,
+) -> Turn<()> {
+    let mut task = Q::start(fairing, request);
+    turn_response::<T, F, Q>(alloc, fairing, 1, 0, &mut task, request, response, ctx)
 }
 
 fn read_called_slot(alloc: Global, text: &str) -> Result<Slot<Named>, CaseError> {
@@ -149,7 +141,11 @@ fn push_asked(
     out: &mut String,
 ) -> Result<(), CaseError> {
     let mut ctx = context(alloc)?;
-    written(push_request_turn::<InSlot<AtOnce>>(alloc, out, slot, request, &mut ctx))
+    let mut body = Data::local(Vec::new(alloc));
+    let turn = asked::<Site, Slot<Named>, InSlot<AtOnce>>(
+        alloc, slot, request, &mut body, &mut ctx,
+    );
+    written(push_turn(out, turn))
 }
 
 /// Adds the header that a line says, if any.
@@ -219,5 +215,8 @@ fn respond_to(
     out: &mut String,
 ) -> Result<(), CaseError> {
     let mut ctx = context(alloc)?;
-    written(push_response_turn::<InSlot<AtOnce>>(alloc, out, slot, request, response, &mut ctx))
+    let turn = responded::<Site, Slot<Named>, InSlot<AtOnce>>(
+        alloc, slot, request, response, &mut ctx,
+    );
+    written(push_turn(out, turn))
 }

@@ -73,7 +73,7 @@ fn launched<R: Wait + Threads>(
     bell: Bell,
     alarm: AlarmClock,
 ) -> Result<Over, CaseError>
-    requires { IsFresh (listener_meaning bell.listener) }
+    requires fresh { IsFresh (listener_meaning bell.listener) }
 {
     match rocket.launch(rt, alloc, bell, alarm, 0) {
         Ok(launched) => Ok(launched),
@@ -98,7 +98,7 @@ fn launched_with<R: Wait + Threads>(
     clock: ListClock,
     at: u64,
 ) -> Result<Over, CaseError>
-    requires { IsFresh (listener_meaning listener) }
+    requires fresh { IsFresh (listener_meaning listener) }
 {
     let Ok((handle, other)) = handles(&mut rocket) else {
         drop(rocket);

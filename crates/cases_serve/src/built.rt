@@ -66,7 +66,7 @@ fn launched<R: Wait + Threads>(
     rocket: Rocket<Build, Site>,
     listener: ListListener,
 ) -> Result<Over, Refused>
-    requires { IsFresh (listener_meaning listener) }
+    requires fresh { IsFresh (listener_meaning listener) }
 {
     rocket.launch(rt, alloc, listener, ListClock::new(Vec::new(alloc)), 0)
 }

@@ -79,7 +79,7 @@ fn no_body(alloc: Global) -> Result<Body0<Site>, NoMemory> {
 
 /// The end of an exchange that waits for nothing.
 fn polled(exchange: &mut Exchange<'_, Site>, moment: u64) -> Option<Ended<Site>>
-    requires { IsSome exchange.old.phase }
+    requires going { IsSome exchange.old.phase }
 {
     match exchange.poll(gate(moment)) {
         Poll::Ready(ended) => Some(ended),

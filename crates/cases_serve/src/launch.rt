@@ -102,7 +102,7 @@ fn launched<R: Wait + Threads>(
     clock: ListClock,
     listener: ListListener,
 ) -> Result<(Over, bool), CaseError>
-    requires { IsFresh (listener_meaning listener) }
+    requires fresh { IsFresh (listener_meaning listener) }
 {
     let rocket = rocket(alloc, setting.routes.as_slice())?;
     match rocket.launch(rt, alloc, listener, clock, workers as usize) {

@@ -52,7 +52,7 @@ fn launched<R: Wait + Threads>(
     rocket: Rocket<Ignite, Site>,
     listener: ListListener,
 ) -> Result<Over, CaseError>
-    requires { IsFresh (listener_meaning listener) }
+    requires fresh { IsFresh (listener_meaning listener) }
 {
     match rocket.launch(rt, alloc, listener, ListClock::new(Vec::new(alloc)), 0) {
         Ok(launched) => Ok(launched),
@@ -81,7 +81,7 @@ fn launched_once<R: Wait + Threads>(
     rocket: Rocket<Ignite, Site>,
     listener: ListListener,
 ) -> Result<(String, Rocket<Ignite, Site>), CaseError>
-    requires { IsFresh (listener_meaning listener) }
+    requires fresh { IsFresh (listener_meaning listener) }
 {
     let over = launched(rt, alloc, rocket, listener)?;
     match events_text(alloc, &over.history) {
@@ -104,7 +104,7 @@ fn launched_last<R: Wait + Threads>(
     rocket: Rocket<Ignite, Site>,
     listener: ListListener,
 ) -> Result<String, CaseError>
-    requires { IsFresh (listener_meaning listener) }
+    requires fresh { IsFresh (listener_meaning listener) }
 {
     let over = launched(rt, alloc, rocket, listener)?;
     let events = events_text(alloc, &over.history);

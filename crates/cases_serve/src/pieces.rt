@@ -73,7 +73,7 @@ fn sent<R: Wait>(
     response: Response<MemorySource>,
     turns: u32,
 ) -> Result<End, NoMemory>
-    requires { link.old.stage ≡ Stage.Active }
+    requires active { link.old.stage ≡ Stage.Active }
 {
     let (response, ended) = send(rt, alloc, ticks, link, response, turns);
     drop(response);
@@ -88,7 +88,7 @@ fn send_over<R: Wait>(
     response: Response<MemorySource>,
     turns: u32,
 ) -> Result<String, CaseError>
-    requires { link.old.stage ≡ Stage.Active }
+    requires active { link.old.stage ≡ Stage.Active }
 {
     let end = sent(rt, alloc, ticks, link, response, turns)?;
     Ok(ended(alloc, end, link.kept())?)

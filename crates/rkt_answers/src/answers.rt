@@ -190,7 +190,7 @@ fn outcome_step<T: Types, R: Responder<T>>(
     outcome: Outcome<R, Status, Status>,
     task: &mut Option<Body0<T>>,
 ) -> Step<RouteOutcome<T>>
-    requires { IsSome task.old }
+    requires held { IsSome task.old }
     ensures steps { (body : _) → task.old ≡ Some body
         → StepsTo result (λ reply. RepliesAs (λ value. R.may value request.now) body outcome ctx.old reply ctx.new) (task.new ≡ task.old) }
     ensures grows { MayGrow ctx.old ctx.new }

@@ -64,7 +64,7 @@ fn moved<A: Types, K: Link>(
     marks: Vec<Mark<A, K>>,
     mut history: Vec<Event<A, K>>,
 ) -> Vec<Event<A, K>>
-    requires { vec_len history + vec_len marks ≤ vec_capacity history }
+    requires room { vec_len history + vec_len marks ≤ vec_capacity history }
     ensures { result.items ≡ history.items ++ events marks.items }
 {
     for mark in marks {

@@ -33,7 +33,7 @@ pub trait RequestCallback<A: HasBody, F> {
         body: &mut A::Body,
         ctx: &mut Ctx<A>,
     ) -> Step<()>
-        requires { CanPoll calling fairing.now tt task.old (record { request = request.old; body = body.old; kept = ctx.old.kept }) }
+        requires begun { CanPoll calling fairing.now tt task.old (record { request = request.old; body = body.old; kept = ctx.old.kept }) }
         ensures gate { ctx.new.gate ≡ ctx.old.gate }
         ensures polls { Polls calling fairing.now tt task.old (record { request = request.old; body = body.old; kept = ctx.old.kept }) ctx.old.gate result task.new (record { request = request.new; body = body.new; kept = ctx.new.kept }) };
 
@@ -66,7 +66,7 @@ pub trait ResponseCallback<A: Types, F> {
         response: &mut Response<A::Stream>,
         ctx: &mut Ctx<A>,
     ) -> Step<()>
-        requires { CanPoll calling fairing.now request.now task.old (record { response = response.old; kept = ctx.old.kept }) }
+        requires begun { CanPoll calling fairing.now request.now task.old (record { response = response.old; kept = ctx.old.kept }) }
         ensures gate { ctx.new.gate ≡ ctx.old.gate }
         ensures polls { Polls calling fairing.now request.now task.old (record { response = response.old; kept = ctx.old.kept }) ctx.old.gate result task.new (record { response = response.new; kept = ctx.new.kept }) };
 

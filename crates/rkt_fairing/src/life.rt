@@ -28,7 +28,7 @@ pub trait IgniteCallback<A: Parts, F> {
         task: &mut Self::Task,
         building: &mut Building<A, F>,
     ) -> Step<Result<(), ()>>
-        requires { CanPollAlone calling tt tt task.old (record { fairing = fairing.old; building = building.old }) }
+        requires begun { CanPollAlone calling tt tt task.old (record { fairing = fairing.old; building = building.old }) }
         ensures { PollsAlone calling tt tt task.old (record { fairing = fairing.old; building = building.old }) result task.new (record { fairing = fairing.new; building = building.new }) };
 }
 
@@ -55,7 +55,7 @@ pub trait LiftoffCallback<A: Parts, F> {
         view: &View<'_, A>,
         shutdown: &mut Shutdown<A::Reason>,
     ) -> Step<()>
-        requires { CanPollAlone calling tt view.now task.old (record { fairing = fairing.old; shutdown = shutdown.old }) }
+        requires begun { CanPollAlone calling tt view.now task.old (record { fairing = fairing.old; shutdown = shutdown.old }) }
         ensures { PollsAlone calling tt view.now task.old (record { fairing = fairing.old; shutdown = shutdown.old }) result task.new (record { fairing = fairing.new; shutdown = shutdown.new }) };
 
     /// The handle stays one of its wire.
@@ -79,6 +79,6 @@ pub trait ShutdownCallback<A: Parts, F> {
 
     /// Goes on with a call.
     fn poll(fairing: &F, alloc: Global, task: &mut Self::Task, view: &View<'_, A>) -> Step<()>
-        requires { CanPollAlone calling fairing.now view.now task.old tt }
+        requires begun { CanPollAlone calling fairing.now view.now task.old tt }
         ensures { PollsAlone calling fairing.now view.now task.old tt result task.new tt };
 }

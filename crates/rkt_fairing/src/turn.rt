@@ -1,5 +1,7 @@
 //! One call of a fairing, turn by turn.
 ghost use Rattle.std.specs.Prelude.{◌≡◌, ◌<◌, ◌+◌};
+ghost use Rattle.rkt_cancel.specs.Cancel.{Cancellable};
+ghost use Rattle.rkt_data.specs.Body.{Body};
 ghost use Rattle.rkt_request.specs.Lent.{Grows};
 ghost use Rattle.rkt_router.specs.Calling.{Polls};
 ghost use Rattle.rkt_router.specs.Calls.{GateRule, GateFits, Making, Turned};
@@ -23,13 +25,13 @@ pub fn turn_request<T: Types, F, P: RequestCallback<T, F>>(
     body: &mut Body0<T>,
     ctx: &mut Ctx<T>,
 ) -> Turn<()>
-    requires { (rule : GateRule) × (before : RequestAt T.Value _ T.Cached)
+    requires underway { (rule : GateRule) × (before : RequestAt T.Value (Body (Cancellable T.Source)) T.Cached)
         × Making P.calling rule turns fairing.now tt before task.old (record { request = request.old; body = body.old; kept = ctx.old.kept }) turn }
     ensures gate { ctx.new.gate ≡ ctx.old.gate }
-    ensures gives { (rule : GateRule) (before : RequestAt T.Value _ T.Cached) → GateFits rule ctx.old.gate
+    ensures gives { (rule : GateRule) (before : RequestAt T.Value (Body (Cancellable T.Source)) T.Cached) → GateFits rule ctx.old.gate
         → Making P.calling rule turns fairing.now tt before task.old (record { request = request.old; body = body.old; kept = ctx.old.kept }) turn
         → Turned P.calling rule turns fairing.now tt before result task.new (record { request = request.new; body = body.new; kept = ctx.new.kept }) (turn + 1) }
-    ensures grows { (rule : GateRule) (before : RequestAt T.Value _ T.Cached)
+    ensures grows { (rule : GateRule) (before : RequestAt T.Value (Body (Cancellable T.Source)) T.Cached)
         → Making P.calling rule turns fairing.now tt before task.old (record { request = request.old; body = body.old; kept = ctx.old.kept }) turn
         → RequestGrows before (record { request = request.new; body = body.new; kept = ctx.new.kept }) }
     // It goes on only where its poll was Pending, and a turn is left.
@@ -52,7 +54,7 @@ pub fn turn_response<T: Types, F, P: ResponseCallback<T, F>>(
     response: &mut Response<T::Stream>,
     ctx: &mut Ctx<T>,
 ) -> Turn<()>
-    requires { (rule : GateRule) × (before : ResponseAt T.Stream T.Cached)
+    requires underway { (rule : GateRule) × (before : ResponseAt T.Stream T.Cached)
         × Making P.calling rule turns fairing.now request.now before task.old (record { response = response.old; kept = ctx.old.kept }) turn }
     ensures gate { ctx.new.gate ≡ ctx.old.gate }
     ensures gives { (rule : GateRule) (before : ResponseAt T.Stream T.Cached) → GateFits rule ctx.old.gate

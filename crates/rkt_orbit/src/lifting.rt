@@ -19,7 +19,7 @@ fn lift_at<A: Parts, F, P: LiftoffCallback<A, F>>(
     view: &View<'_, A>,
     shutdown: &mut Shutdown<A::Reason>,
 ) -> Called
-    requires { n < length fairings.old.places.liftoff }
+    requires within { n < length fairings.old.places.liftoff }
     ensures { LiftsAt P.calling view.now n (record { fairings = fairings.old; shutdown = shutdown.old }) result (record { fairings = fairings.new; shutdown = shutdown.new }) }
 {
     match fairings.get_mut(Callback::Liftoff, n) {

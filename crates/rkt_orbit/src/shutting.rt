@@ -15,7 +15,7 @@ fn shut_at<A: Parts, F, P: ShutdownCallback<A, F>>(
     n: usize,
     view: &View<'_, A>,
 ) -> Called
-    requires { n < length fairings.now.places.shutdown }
+    requires within { n < length fairings.now.places.shutdown }
     ensures { ShutsDownAt P.calling view.now fairings.now n result }
 {
     match fairings.get(Callback::Shutdown, n) {

@@ -1,6 +1,8 @@
 //! One call of a callback, turn by turn.
 ghost use Rattle.std.specs.Prelude.{◌≡◌, ◌<◌, ◌+◌};
 ghost use Rattle.rkt_http.specs.declared.status.Status.{Status};
+ghost use Rattle.rkt_cancel.specs.Cancel.{Cancellable};
+ghost use Rattle.rkt_data.specs.Body.{Body};
 ghost use Rattle.rkt_request.specs.Lent.{Kept, Grows};
 ghost use Rattle.rkt_router.specs.Calling.{Polls};
 ghost use Rattle.rkt_router.specs.Calls.{GateRule, GateFits, Making, Turned, turn_of};
@@ -53,17 +55,17 @@ pub fn turn_handler<T: Types, H: Handler<T>>(
     request: &Request<'_, T>,
     ctx: &mut Ctx<T>,
 ) -> Turn<RouteOutcome<T>>
-    requires { (rule : GateRule) × (body : _) × (before : Kept T.Cached)
+    requires underway { (rule : GateRule) × (body : Body (Cancellable T.Source)) × (before : Kept T.Cached)
         × Making H.calling rule turns handler.now (record { request = request.now; body = body }) before task.old ctx.old.kept turn }
     ensures gate { ctx.new.gate ≡ ctx.old.gate }
-    ensures gives { (rule : GateRule) (body : _) (before : Kept T.Cached) → GateFits rule ctx.old.gate
+    ensures gives { (rule : GateRule) (body : Body (Cancellable T.Source)) (before : Kept T.Cached) → GateFits rule ctx.old.gate
         → Making H.calling rule turns handler.now (record { request = request.now; body = body }) before task.old ctx.old.kept turn
         → Turned H.calling rule turns handler.now (record { request = request.now; body = body }) before result task.new ctx.new.kept (turn + 1) }
-    ensures grows { (rule : GateRule) (body : _) (before : Kept T.Cached)
+    ensures grows { (rule : GateRule) (body : Body (Cancellable T.Source)) (before : Kept T.Cached)
         → Making H.calling rule turns handler.now (record { request = request.now; body = body }) before task.old ctx.old.kept turn → Grows before ctx.new.kept }
     // It goes on only where its poll was Pending, and a turn is left.
     ensures left { result ≡ Turn.Pending → turn + 1 < turns }
-    ensures pending { result ≡ Turn.Pending → (body : _)
+    ensures pending { result ≡ Turn.Pending → (body : Body (Cancellable T.Source))
         → Polls H.calling handler.now (record { request = request.now; body = body }) task.old ctx.old.kept ctx.old.gate Step.Pending task.new ctx.new.kept }
 {
     let step = handler.poll(alloc, task, request, ctx);
@@ -80,7 +82,7 @@ pub fn turn_catch<T: Types, C: CatchHandler<T>>(
     request: &Request<'_, T>,
     ctx: &mut Ctx<T>,
 ) -> Turn<Result<Response<T::Stream>, Status>>
-    requires { (rule : GateRule) × (status : Status) × (before : Kept T.Cached)
+    requires underway { (rule : GateRule) × (status : Status) × (before : Kept T.Cached)
         × Making C.calling rule turns catcher.now (record { status = status; request = request.now }) before task.old ctx.old.kept turn }
     ensures gate { ctx.new.gate ≡ ctx.old.gate }
     ensures gives { (rule : GateRule) (status : Status) (before : Kept T.Cached) → GateFits rule ctx.old.gate

@@ -95,10 +95,11 @@ impl<'a, T: Types> Live<Request<'a, T>, Ctx<T>> {
         ensures calls { result.1 ≡ self.entry.calls }
     {
         let Live {
-            request: _,
+            request,
             ctx,
             calls,
         } = self;
+        drop(request);
         (ctx, calls)
     }
 }

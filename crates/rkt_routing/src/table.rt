@@ -60,7 +60,7 @@ impl<'a, H, K, N> TableOf<'a, H, K, N> {
     }
 
     pub(crate) fn route(&self, position: usize) -> &Route<H, N>
-        requires { position < length self.now.router.routes }
+        requires within { position < length self.now.router.routes }
         ensures { slice_get self.now.router.routes position ≡ Some result.now }
     {
         &self.router.routes()[position]
@@ -68,7 +68,7 @@ impl<'a, H, K, N> TableOf<'a, H, K, N> {
 
     // The handler of a catcher that has one.
     pub(crate) fn handler(&self, position: usize) -> &K
-        requires { IsSomeAnd (slice_get self.now.router.catchers position) (λ catcher. (handler : K) × (catcher.handler ≡ App handler)) }
+        requires there { IsSomeAnd (slice_get self.now.router.catchers position) (λ catcher. (handler : K) × (catcher.handler ≡ App handler)) }
         ensures { IsSomeAnd (slice_get self.now.router.catchers position) (λ catcher. catcher.handler ≡ App result.now) }
     {
         match &self.router.catchers()[position].handler {

@@ -5,7 +5,7 @@ use Rattle.rkt_fairing.proofs.Turned.{response_poll_grows}
 use Rattle.rkt_fairing.proofs.turn.turn_response.Goals as goal
 
 pub poll-step-requires : goal.poll-step-requires
-poll-step-requires g c = (c.requires.1, c.requires.2.gates, c.args.turn, c.requires.2.goes.begun)
+poll-step-requires g c = let was = c.requires.underway in record { begun = (was.1, was.2.gates, c.args.turn, was.2.goes.begun) }
 
 pub returns-clause-gives : goal.returns-clause-gives
 returns-clause-gives g c = λ rule before fits making.

@@ -5,7 +5,7 @@ use Rattle.rkt_router.proofs.Grown.{poll_grows}
 use Rattle.rkt_router.proofs.turn.turn_handler.Goals as goal
 
 pub poll-step-requires : goal.poll-step-requires
-poll-step-requires g c = (c.requires.1, (c.requires.2, c.requires.3.gates, c.args.turn, c.requires.3.goes.begun))
+poll-step-requires g c = let was = c.requires.underway in record { begun = (was.1, (was.2, was.3.gates, c.args.turn, was.3.goes.begun)) }
 
 pub returns-clause-gives : goal.returns-clause-gives
 returns-clause-gives g c = λ rule body before fits making.

@@ -19,30 +19,34 @@ loop-stage-init g c = (
 pub route-requires : goal.route-requires
 route-requires g c =
     let was = rw c.in-Trying.is at c.loop-stage.invariant.1.1 in
-    trying_within (relations g.H.Handler.calling g.K.CatchHandler.calling any_gate) c.loop-stage.invariant.1.0 (record { router = c.self.inside.router.now; turns = c.self.inside.turns }) c.loop-stage.live c.in-Trying.call.position c.in-Trying.call.task c.in-Trying.call.turn c.in-Trying.call.again was
+    record { within = trying_within (relations g.H.Handler.calling g.K.CatchHandler.calling any_gate) c.loop-stage.invariant.1.0 (record { router = c.self.inside.router.now; turns = c.self.inside.turns }) c.loop-stage.live c.in-Trying.call.position c.in-Trying.call.task c.in-Trying.call.turn c.in-Trying.call.again was }
 
 pub turn_handler-turn-requires : goal.turn_handler-turn-requires
 turn_handler-turn-requires g c =
-    let was = rw c.in-Trying.is at c.loop-stage.invariant.1.1 in (
-      any_gate,
-      was.before.body,
-      was.before.kept,
-      trying_makes (relations g.H.Handler.calling g.K.CatchHandler.calling any_gate) c.loop-stage.invariant.1.0 (record { router = c.self.inside.router.now; turns = c.self.inside.turns }) c.loop-stage.live c.in-Trying.call.position c.in-Trying.call.task c.in-Trying.call.turn c.in-Trying.call.again
-          c.route.result.now c.turns.result c.turns.ensures.turns c.route.ensures was,
-    )
+    let was = rw c.in-Trying.is at c.loop-stage.invariant.1.1 in record {
+      underway = (
+        any_gate,
+        was.before.body,
+        was.before.kept,
+        trying_makes (relations g.H.Handler.calling g.K.CatchHandler.calling any_gate) c.loop-stage.invariant.1.0 (record { router = c.self.inside.router.now; turns = c.self.inside.turns }) c.loop-stage.live c.in-Trying.call.position c.in-Trying.call.task c.in-Trying.call.turn c.in-Trying.call.again
+            c.route.result.now c.turns.result c.turns.ensures.turns c.route.ensures was,
+      );
+    }
 
 pub handler-requires : goal.handler-requires
-handler-requires g c = let was = rw c.in-Catching.is at c.loop-stage.invariant.1.1 in rw was.found (was.handler, was.handles)
+handler-requires g c = let was = rw c.in-Catching.is at c.loop-stage.invariant.1.1 in record { there = rw was.found (was.handler, was.handles) }
 
 pub turn_catch-turn-requires : goal.turn_catch-turn-requires
 turn_catch-turn-requires g c =
-    let was = rw c.in-Catching.is at c.loop-stage.invariant.1.1 in (
-      any_gate,
-      c.in-Catching.call.status,
-      was.before,
-      catching_makes (relations g.H.Handler.calling g.K.CatchHandler.calling any_gate) c.loop-stage.invariant.1.0 (record { router = c.self.inside.router.now; turns = c.self.inside.turns }) c.loop-stage.live c.in-Catching.call.status c.in-Catching.call.position c.in-Catching.call.task c.in-Catching.call.turn
-          c.handler.result.now c.turns-in-Catching.result c.turns-in-Catching.ensures.turns was (rw was.found at c.handler.ensures),
-    )
+    let was = rw c.in-Catching.is at c.loop-stage.invariant.1.1 in record {
+      underway = (
+        any_gate,
+        c.in-Catching.call.status,
+        was.before,
+        catching_makes (relations g.H.Handler.calling g.K.CatchHandler.calling any_gate) c.loop-stage.invariant.1.0 (record { router = c.self.inside.router.now; turns = c.self.inside.turns }) c.loop-stage.live c.in-Catching.call.status c.in-Catching.call.position c.in-Catching.call.task c.in-Catching.call.turn
+            c.handler.result.now c.turns-in-Catching.result c.turns-in-Catching.ensures.turns was (rw was.found at c.handler.ensures),
+      );
+    }
 
 pub loop-stage-smaller : goal.loop-stage-smaller
 loop-stage-smaller g c =
