@@ -78,25 +78,30 @@ module _ {V B C S F FTask GTask H HTask K KTask N : Type 0} (rel : Relations V B
   -- fairings are called for a request
   pub asking_begins : (asks : Asks V B C F FTask) (opened : RequestAt V B C) → WasOpened rel first tables opened → asks.fairings ≡ tables.fairings → asks.turns ≡ tables.config.turns
       → AsksStandFor rel.requests rel.gates opened asks → IsAsking rel first tables asks
+  unfolding AsksStandFor
   asking_begins asks opened was fairings turns stands = record { opened = opened; opens = was; fairings = fairings; turns = turns; stands = rw (fairings, turns) at stands }
 
   pub asking_stands : (asks : Asks V B C F FTask) (is : IsAsking rel first tables asks) → AsksStandFor rel.requests rel.gates is.opened asks
+  unfolding AsksStandFor
   asking_stands asks is = rw (is.fairings, is.turns) is.stands
 
   pub asking_on : (waits : Gate → B → B → Type 0) (asks next : Asks V B C F FTask) (gate : Gate) (is : IsAsking rel first tables asks)
       → AskedGives rel.requests rel.gates is.opened asks.fairings asks.turns gate (progress.Pending next)
       → StandsIn rel first tables (phase.Asking next) × WaitsIn rel first tables waits gate (phase.Asking next)
+  unfolding AskedGives
   asking_on waits asks next gate is gives =
       let at = rw (is.fairings, is.turns) at gives in (record { opened = is.opened; opens = is.opens; fairings = at.0; turns = at.1; stands = at.2 }, (is.opened, at.3))
 
   pub asking_done : (asks : Asks V B C F FTask) (arrival : Arrival (Seen V) B (Lent C)) (gate : Gate) (is : IsAsking rel first tables asks)
       → AskedGives rel.requests rel.gates is.opened asks.fairings asks.turns gate (progress.Ready (asked.Done arrival)) → WasAsked rel first tables arrival.live.calls (asked_at arrival)
+  unfolding AskedGives
   asking_done asks arrival gate is gives =
       let at = rw (is.fairings, is.turns) at gives in
       record { opened = is.opened; opens = is.opens; asks = at.0; backs = subst (λ k. Backs k.shutdown arrival.live.ctx.kept.shutdown arrival.live.calls) is.opens.opens.kept at.1 }
 
   pub asking_starved : (asks : Asks V B C F FTask) (shutdown : Handle) (gate : Gate) (is : IsAsking rel first tables asks)
       → AskedGives rel.requests rel.gates is.opened asks.fairings asks.turns gate (progress.Ready (asked.Starved shutdown)) → HandsBack first.at.kept.shutdown shutdown
+  unfolding AskedGives
   asking_starved asks shutdown gate is gives =
       subst (λ k. HandsBack k.shutdown shutdown) is.opens.opens.kept gives
 
@@ -148,21 +153,25 @@ module _ {V B C S F FTask GTask H HTask K KTask N : Type 0} (rel : Relations V B
 
   pub answering_begins : (answers : Answers V C S F GTask) (calls : List Call) (head : Bool) (moment : ℕ) (out : Outgoing V C S) → WasRouted rel first tables calls head moment out
       → answers.fairings ≡ tables.fairings → answers.turns ≡ tables.config.turns → AnswersStandFor rel.responses rel.gates out answers → IsAnswering rel first tables answers calls head moment
+  unfolding AnswersStandFor
   answering_begins answers calls head moment out was fairings turns stands = record { out = out; routed = was; fairings = fairings; turns = turns; stands = rw (fairings, turns) at stands }
 
   -- fairings are called for a response
   pub answering_stands : (answers : Answers V C S F GTask) (calls : List Call) (head : Bool) (moment : ℕ) (is : IsAnswering rel first tables answers calls head moment)
       → AnswersStandFor rel.responses rel.gates is.out answers
+  unfolding AnswersStandFor
   answering_stands answers calls head moment is = rw (is.fairings, is.turns) is.stands
 
   pub answering_on : (waits : Gate → B → B → Type 0) (answers next : Answers V C S F GTask) (calls : List Call) (head : Bool) (moment : ℕ) (gate : Gate) (is : IsAnswering rel first tables answers calls head moment)
       → AnsweredGives rel.responses rel.gates is.out answers.fairings answers.turns gate (progress.Pending next)
       → StandsIn rel first tables (phase.Answering next calls head moment) × WaitsIn rel first tables waits gate (phase.Answering next calls head moment)
+  unfolding AnsweredGives
   answering_on waits answers next calls head moment gate is gives =
       let at = rw (is.fairings, is.turns) at gives in (record { out = is.out; routed = is.routed; fairings = at.0; turns = at.1; stands = at.2 }, (is.out, at.3))
 
   pub answering_starved : (answers : Answers V C S F GTask) (calls : List Call) (head : Bool) (moment : ℕ) (gate : Gate) (shutdown : Handle) (is : IsAnswering rel first tables answers calls head moment)
       → AnsweredGives rel.responses rel.gates is.out answers.fairings answers.turns gate (progress.Ready (answered.Starved shutdown)) → HandsBack first.at.kept.shutdown shutdown
+  unfolding AnsweredGives
   answering_starved answers calls head moment gate shutdown is gives = hands_back_more first.at.kept.shutdown is.out.at.kept.shutdown shutdown is.routed.backs.hands_back gives
 
   -- and the exchange ends
@@ -172,6 +181,7 @@ module _ {V B C S F FTask GTask H HTask K KTask N : Type 0} (rel : Relations V B
       → IfFinished over (λ run response. run.calls ≡ calls ++ departure.live.calls) → IfFinished over (λ run response. run.jar ≡ departure.live.ctx.kept.jar)
       → IfFinished over (λ run response. run.cache ≡ departure.live.ctx.kept.cache) → IfFinished over (λ run response. run.moment ≡ moment)
       → IfFinished over (λ run response. response ≡ with_body_rule head departure.response) → handle_of over ≡ departure.live.ctx.kept.shutdown → EndsSo rel first tables over
+  unfolding AnsweredGives
   answered_ends answers departure calls head moment gate (ended.Finished run response shutdown) is gives calls_are jar cache moment_is response_is handle =
       let at = rw (is.fairings, is.turns) at gives in
       let was = is.routed in

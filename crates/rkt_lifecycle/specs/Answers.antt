@@ -83,20 +83,21 @@ module _ {V C S F Task : Type 0} (calling : Calling (Slot F) (Seen V) (ResponseA
     AnsweredAt (answered.Starved shutdown) = HandsBack first.at.kept.shutdown shutdown
 
     -- what is under way behind a poll under a Gate, or what they came to
-    abbrev pub RunGives : Gate → Progress (Underway (Departure (Seen V) (Lent C) S) Task) (AnsweredOf (Seen V) (Lent C) S Handle) → Type 0
+    unfoldable pub RunGives : Gate → Progress (Underway (Departure (Seen V) (Lent C) S) Task) (AnsweredOf (Seen V) (Lent C) S Handle) → Type 0
     RunGives gate (progress.Pending underway) = AnswerStands underway.lent underway.next × Pends gate underway.lent underway.next
     RunGives gate (progress.Ready over) = AnsweredAt over
 
   -- what the calls stand for
-  abbrev pub StandsFor : Outgoing V C S → Answers V C S F Task → Type 0
+  unfoldable pub StandsFor : Outgoing V C S → Answers V C S F Task → Type 0
   StandsFor first answers = AnswerStands answers.fairings answers.turns first answers.lent answers.next
 
   -- what a poll under a Gate gives
-  abbrev pub AnsweredGives : Outgoing V C S → SeenFairings F → ℕ → Gate → Progress (Answers V C S F Task) (AnsweredOf (Seen V) (Lent C) S Handle) → Type 0
+  unfoldable pub AnsweredGives : Outgoing V C S → SeenFairings F → ℕ → Gate → Progress (Answers V C S F Task) (AnsweredOf (Seen V) (Lent C) S Handle) → Type 0
   AnsweredGives first fairings turns gate (progress.Pending answers) =
       (answers.fairings ≡ fairings) × (answers.turns ≡ turns) × AnswerStands fairings turns first answers.lent answers.next × Pends fairings turns first gate answers.lent answers.next
   AnsweredGives first fairings turns gate (progress.Ready answered) = AnsweredAt fairings turns first answered
 
 -- they stand for some beginning
-abbrev pub IsSound : {V C S F Task : Type 0} → Calling (Slot F) (Seen V) (ResponseAt S C) (Unit {0}) (Option Task) → Answers V C S F Task → Type 0
-IsSound {V = V} {C = C} {S = S} calling answers = (first : Outgoing V C S) × StandsFor calling any_gate first answers
+pub record IsSound {V C S F Task : Type 0} (calling : Calling (Slot F) (Seen V) (ResponseAt S C) (Unit {0}) (Option Task)) (answers : Answers V C S F Task) : Type 0 where
+  pub first : Outgoing V C S
+  pub stands : StandsFor calling any_gate first answers

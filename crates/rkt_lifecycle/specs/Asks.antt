@@ -75,20 +75,21 @@ module _ {V B C F Task : Type 0} (calling : Calling (Slot F) (Unit {0}) (Request
     AskedAt (asked.Starved shutdown) = HandsBack first.kept.shutdown shutdown
 
     -- what is under way behind a poll under a Gate, or what they came to
-    abbrev pub RunGives : Gate → Progress (Underway (Arrival (Seen V) B (Lent C)) Task) (AskedOf (Seen V) B (Lent C) Handle) → Type 0
+    unfoldable pub RunGives : Gate → Progress (Underway (Arrival (Seen V) B (Lent C)) Task) (AskedOf (Seen V) B (Lent C) Handle) → Type 0
     RunGives gate (progress.Pending underway) = AskStands underway.lent underway.next × Pends gate underway.lent underway.next
     RunGives gate (progress.Ready over) = AskedAt over
 
   -- what the calls stand for
-  abbrev pub StandsFor : RequestAt V B C → Asks V B C F Task → Type 0
+  unfoldable pub StandsFor : RequestAt V B C → Asks V B C F Task → Type 0
   StandsFor first asks = AskStands asks.fairings asks.turns first asks.lent asks.next
 
   -- what a poll under a Gate gives
-  abbrev pub AskedGives : RequestAt V B C → SeenFairings F → ℕ → Gate → Progress (Asks V B C F Task) (AskedOf (Seen V) B (Lent C) Handle) → Type 0
+  unfoldable pub AskedGives : RequestAt V B C → SeenFairings F → ℕ → Gate → Progress (Asks V B C F Task) (AskedOf (Seen V) B (Lent C) Handle) → Type 0
   AskedGives first fairings turns gate (progress.Pending asks) =
       (asks.fairings ≡ fairings) × (asks.turns ≡ turns) × AskStands fairings turns first asks.lent asks.next × Pends fairings turns first gate asks.lent asks.next
   AskedGives first fairings turns gate (progress.Ready asked) = AskedAt fairings turns first asked
 
 -- they stand for some beginning
-abbrev pub IsSound : {V B C F Task : Type 0} → Calling (Slot F) (Unit {0}) (RequestAt V B C) (Unit {0}) (Option Task) → Asks V B C F Task → Type 0
-IsSound {V = V} {B = B} {C = C} calling asks = (first : RequestAt V B C) × StandsFor calling any_gate first asks
+pub record IsSound {V B C F Task : Type 0} (calling : Calling (Slot F) (Unit {0}) (RequestAt V B C) (Unit {0}) (Option Task)) (asks : Asks V B C F Task) : Type 0 where
+  pub first : RequestAt V B C
+  pub stands : StandsFor calling any_gate first asks

@@ -114,7 +114,7 @@ fn run<'a, T: Types, F, Q: ResponseCallback<T, F>>(
     underway: Underway<DepartureOf<'a, T>, Q::Task>,
     gate: Gate,
 ) -> Progress<Underway<DepartureOf<'a, T>, Q::Task>, Answered<'a, T>>
-    requires { (first : Outgoing T.Value T.Cached T.Stream) × AnswerStands (slot_response Q.calling) any_gate fairings.now turns first underway.lent underway.next }
+    requires stands { (first : Outgoing T.Value T.Cached T.Stream) × AnswerStands (slot_response Q.calling) any_gate fairings.now turns first underway.lent underway.next }
     ensures { (rule : GateRule) (first : Outgoing T.Value T.Cached T.Stream) → GateFits rule gate
         → AnswerStands (slot_response Q.calling) rule fairings.now turns first underway.entry.lent underway.entry.next
         → RunGives (slot_response Q.calling) rule fairings.now turns first gate result }

@@ -111,7 +111,7 @@ fn run<'a, T: Types, F, P: RequestCallback<T, F>>(
     underway: Underway<ArrivalOf<'a, T>, P::Task>,
     gate: Gate,
 ) -> Progress<Underway<ArrivalOf<'a, T>, P::Task>, Asked<'a, T>>
-    requires { (first : RequestAt T.Value (Body (Cancellable T.Source)) T.Cached) × AskStands (slot_request P.calling) any_gate fairings.now turns first underway.lent underway.next }
+    requires stands { (first : RequestAt T.Value (Body (Cancellable T.Source)) T.Cached) × AskStands (slot_request P.calling) any_gate fairings.now turns first underway.lent underway.next }
     ensures { (rule : GateRule) (first : RequestAt T.Value (Body (Cancellable T.Source)) T.Cached) → GateFits rule gate
         → AskStands (slot_request P.calling) rule fairings.now turns first underway.entry.lent underway.entry.next
         → RunGives (slot_request P.calling) rule fairings.now turns first gate result }

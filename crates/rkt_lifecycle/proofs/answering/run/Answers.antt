@@ -6,17 +6,19 @@ use Rattle.rkt_router.specs.Calling.{Polls}
 use Rattle.rkt_router.specs.Calls.{Making, Turned, any_gate}
 use Rattle.rkt_router.specs.declared.step.Step.TheVariants as step
 use Rattle.rkt_lifecycle.proofs.Chaining.{call_backs, call_turned, calls_end, found_within, same_fairing}
-use Rattle.rkt_lifecycle.specs.Answers.{Leads, answered_at, answering}
+use Rattle.rkt_lifecycle.specs.Answers.{Leads, RunGives, answered_at, answering}
 use Rattle.rkt_lifecycle.specs.Chain.{CallTurned, CallsNow, Ends}
 use Rattle.rkt_lifecycle.proofs.answering.run.Goals as goal
 
 pub returns-in_default : goal.returns-in_default
+unfolding RunGives
 returns-in_default g c = λ rule first fits stands.
     let now = c.loop-next.invariant.2 rule first fits (rw c.set_gate.ensures (record { request = stands.request; calls = stands.calls })) in
     let ends = calls_end (answering (slot_response g.Q.ResponseCallback.calling) rule c.args.fairings.now c.args.turns first.request) first.at first.at.kept.shutdown (answered_at c.loop-next.lent) c.loop-next.lent.live.calls (rw c.in_default.is at now.calls) in
     (now.request, ends.0, ends.1)
 
 pub returns-in-Pending : goal.returns-in-Pending
+unfolding RunGives
 returns-in-Pending g c = λ rule first fits stands.
     let now = c.loop-next.invariant.2 rule first fits (rw c.set_gate.ensures (record { request = stands.request; calls = stands.calls })) in
     let waits = rw c.in-Pending.is at (subst (λ r. CallTurned (answering (slot_response g.Q.ResponseCallback.calling) rule c.args.fairings.now c.args.turns r) (Leads (slot_response g.Q.ResponseCallback.calling) rule c.args.fairings.now c.args.turns first) first.at.kept.shutdown Ends c.args.gate (record { response = c.turn_response-turn.new.response; kept = c.turn_response-turn.new.ctx.kept }) c.loop-next.lent.live.calls (record { place = c.in-Some.call.place; task = c.turn_response-turn.new.task; turn = c.in-Some.call.turn + 1 }) c.turn_response-turn.result) now.request
@@ -30,6 +32,7 @@ returns-in-Pending g c = λ rule first fits stands.
     (record { request = now.request; calls = waits.0 }, waits)
 
 pub returns-in-Err : goal.returns-in-Err
+unfolding RunGives
 returns-in-Err g c = λ rule first fits stands.
     let now = c.loop-next.invariant.2 rule first fits (rw c.set_gate.ensures (record { request = stands.request; calls = stands.calls })) in
     rw (c.give_up.ensures, c.in-Err.ensures.shutdown) (call_backs (answering (slot_response g.Q.ResponseCallback.calling) rule c.args.fairings.now c.args.turns c.loop-next.lent.live.request) (Leads (slot_response g.Q.ResponseCallback.calling) rule c.args.fairings.now c.args.turns first) first.at.kept.shutdown Ends (answered_at c.loop-next.lent)
@@ -103,10 +106,10 @@ loop-next-preserved g c =
     )
 
 pub loop-next-init : goal.loop-next-init
-loop-next-init g c = (ap (λ x. x.gate) c.set_gate.ensures, (c.requires.0, rw c.set_gate.ensures (record { request = c.requires.1.request; calls = c.requires.1.calls })), λ rule first fits stands. stands)
+loop-next-init g c = (ap (λ x. x.gate) c.set_gate.ensures, (c.requires.stands.0, rw c.set_gate.ensures (record { request = c.requires.stands.1.request; calls = c.requires.stands.1.calls })), λ rule first fits stands. stands)
 
 pub turn_response-turn-requires : goal.turn_response-turn-requires
 turn_response-turn-requires g c =
     let was = rw c.in-Some.is at c.loop-next.invariant.1.1.calls in
     let making : Making (slot_response g.Q.ResponseCallback.calling) any_gate c.max-most.result was.fairing c.loop-next.lent.live.request was.before c.in-Some.call.task (answered_at c.loop-next.lent) c.in-Some.call.turn = rw (c.max-most.ensures, c.loop-next.invariant.1.1.request) was.making in
-    (any_gate, was.before, subst (λ f. Making (slot_response g.Q.ResponseCallback.calling) any_gate c.max-most.result f c.loop-next.lent.live.request was.before c.in-Some.call.task (answered_at c.loop-next.lent) c.in-Some.call.turn) (sym (same_fairing c.in-Some-get.ensures.found was.found)) making)
+    record { underway = (any_gate, was.before, subst (λ f. Making (slot_response g.Q.ResponseCallback.calling) any_gate c.max-most.result f c.loop-next.lent.live.request was.before c.in-Some.call.task (answered_at c.loop-next.lent) c.in-Some.call.turn) (sym (same_fairing c.in-Some-get.ensures.found was.found)) making) }

@@ -6,16 +6,18 @@ use Rattle.rkt_router.specs.Calling.{Polls}
 use Rattle.rkt_router.specs.Calls.{Making, Turned, any_gate}
 use Rattle.rkt_router.specs.declared.step.Step.TheVariants as step
 use Rattle.rkt_lifecycle.proofs.Chaining.{call_backs, call_turned, calls_end, found_within, same_fairing}
-use Rattle.rkt_lifecycle.specs.Asks.{Leads, asked_at, asking}
+use Rattle.rkt_lifecycle.specs.Asks.{Leads, RunGives, asked_at, asking}
 use Rattle.rkt_lifecycle.specs.Chain.{Ends}
 use Rattle.rkt_lifecycle.proofs.asking.run.Goals as goal
 
 pub returns-in_default : goal.returns-in_default
+unfolding RunGives
 returns-in_default g c = λ rule first fits stands.
     let now = c.loop-next.invariant.2 rule first fits (rw c.set_gate.ensures (record { calls = stands.calls })) in
     (calls_end (asking (slot_request g.P.RequestCallback.calling) rule c.args.fairings.now c.args.turns) first first.kept.shutdown (asked_at c.loop-next.lent) c.loop-next.lent.live.calls (rw c.in_default.is at now.calls))
 
 pub returns-in-Pending : goal.returns-in-Pending
+unfolding RunGives
 returns-in-Pending g c = λ rule first fits stands.
     let now = c.loop-next.invariant.2 rule first fits (rw c.set_gate.ensures (record { calls = stands.calls })) in
     let waits = rw c.in-Pending.is at (call_turned (asking (slot_request g.P.RequestCallback.calling) rule c.args.fairings.now c.args.turns) (Leads (slot_request g.P.RequestCallback.calling) rule c.args.fairings.now c.args.turns first) first.kept.shutdown Ends (asked_at c.loop-next.lent) (record { request = c.turn_request-turn.new.request; body = c.turn_request-turn.new.body; kept = c.turn_request-turn.new.ctx.kept }) c.loop-next.lent.live.calls
@@ -27,6 +29,7 @@ returns-in-Pending g c = λ rule first fits stands.
     (record { calls = waits.0 }, waits)
 
 pub returns-in-Err : goal.returns-in-Err
+unfolding RunGives
 returns-in-Err g c = λ rule first fits stands.
     let now = c.loop-next.invariant.2 rule first fits (rw c.set_gate.ensures (record { calls = stands.calls })) in
     rw (c.give_up.ensures, c.in-Err.ensures.shutdown) (call_backs (asking (slot_request g.P.RequestCallback.calling) rule c.args.fairings.now c.args.turns) (Leads (slot_request g.P.RequestCallback.calling) rule c.args.fairings.now c.args.turns first) first.kept.shutdown Ends (asked_at c.loop-next.lent) (record { request = c.turn_request-turn.new.request; body = c.turn_request-turn.new.body; kept = c.turn_request-turn.new.ctx.kept }) c.loop-next.lent.live.calls
@@ -82,10 +85,10 @@ loop-next-preserved g c =
     )
 
 pub loop-next-init : goal.loop-next-init
-loop-next-init g c = (ap (λ x. x.gate) c.set_gate.ensures, (c.requires.0, rw c.set_gate.ensures (record { calls = c.requires.1.calls })), λ rule first fits stands. stands)
+loop-next-init g c = (ap (λ x. x.gate) c.set_gate.ensures, (c.requires.stands.0, rw c.set_gate.ensures (record { calls = c.requires.stands.1.calls })), λ rule first fits stands. stands)
 
 pub turn_request-turn-requires : goal.turn_request-turn-requires
 turn_request-turn-requires g c =
     let was = rw c.in-Some.is at c.loop-next.invariant.1.1.calls in
     let making : Making (slot_request g.P.RequestCallback.calling) any_gate c.max-most.result was.fairing tt was.before c.in-Some.call.task (asked_at c.loop-next.lent) c.in-Some.call.turn = rw c.max-most.ensures was.making in
-    (any_gate, was.before, subst (λ f. Making (slot_request g.P.RequestCallback.calling) any_gate c.max-most.result f tt was.before c.in-Some.call.task (asked_at c.loop-next.lent) c.in-Some.call.turn) (sym (same_fairing c.in-Some-get.ensures.found was.found)) making)
+    record { underway = (any_gate, was.before, subst (λ f. Making (slot_request g.P.RequestCallback.calling) any_gate c.max-most.result f tt was.before c.in-Some.call.task (asked_at c.loop-next.lent) c.in-Some.call.turn) (sym (same_fairing c.in-Some-get.ensures.found was.found)) making) }

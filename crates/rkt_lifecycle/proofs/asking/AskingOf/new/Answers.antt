@@ -4,21 +4,23 @@ use Rattle.rkt_router.specs.Calls.{any_gate}
 use Rattle.rkt_routing.specs.BetweenLaws.{backs_none}
 use Rattle.rkt_routing.specs.MakingLaws.{some_turns}
 use Rattle.rkt_lifecycle.proofs.Chaining.{begins_stand}
-use Rattle.rkt_lifecycle.specs.Asks.{Leads, asking}
+use Rattle.rkt_lifecycle.specs.Asks.{Leads, StandsFor, asking}
 use Rattle.rkt_lifecycle.specs.Chain.{Ends}
 use Rattle.rkt_lifecycle.proofs.asking.AskingOf.new.Goals as goal
 
 pub invariant_of-result : goal.invariant_of-result
+unfolding StandsFor
 invariant_of-result g c =
-    let first : RequestAt _ _ _ = record { request = c.args.request; body = c.args.body; kept = c.args.ctx.kept } in (
-      first,
-      record {
+    let first : RequestAt _ _ _ = record { request = c.args.request; body = c.args.body; kept = c.args.ctx.kept } in record {
+      first = first;
+      stands = record {
         calls = begins_stand (asking (slot_request g.P.RequestCallback.calling) any_gate c.args.fairings.now c.args.turns) (Leads (slot_request g.P.RequestCallback.calling) any_gate c.args.fairings.now c.args.turns first) c.args.ctx.kept.shutdown Ends first c.new.result 0
             c.begin-next.result (some_turns c.args.turns) c.begin-next.ensures.begins (rw c.new.ensures (record { leads = λ rest at done. done; backs = backs_none c.args.ctx.kept.shutdown }));
-      },
-    )
+      };
+    }
 
 pub returns-clause-stands : goal.returns-clause-stands
+unfolding StandsFor
 returns-clause-stands g c = λ rule.
     let first : RequestAt _ _ _ = record { request = c.args.request; body = c.args.body; kept = c.args.ctx.kept } in
     record {
