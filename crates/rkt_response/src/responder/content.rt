@@ -1,14 +1,30 @@
 //! Responders that set the content type.
-ghost use Rattle.std.specs.Prelude.{◌≡◌};
+ghost use Rattle.std.specs.Prelude.{◌≡◌, OnOk};
 ghost use Rattle.rkt_media.specs.Media.{known_text, media_text};
 ghost use Rattle.rkt_media.specs.declared.known.Known.TheVariants.{JSON, XML, MsgPack, HTML, Text, CSS, JavaScript};
 ghost use Rattle.rkt_response.specs.Responder.{Changes, StarvesWithin, with_type};
 
 use crate::responder::making::with_known;
 use crate::responder::{Responder, ResponseResult};
+use rkt_base::NoMemory;
+use rkt_data::Source;
 use rkt_http::{ContentType, Known};
+use rkt_message::Response;
 use rkt_request::{Ctx, Request, Types};
 use std::alloc::Global;
+
+// Gives a response a content type.
+fn set_content_type<S: Source>(
+    alloc: Global,
+    content_type: &ContentType,
+    response: &mut Response<S>,
+) -> Result<(), NoMemory>
+    ensures { OnOk result (response.new ≡ with_type (media_text content_type.now) response.old) }
+{
+    let header = content_type.header(alloc)?;
+    response.set_header(header)?;
+    Ok(())
+}
 
 impl<T: Types, R: Responder<T>> Responder<T> for (ContentType, R) {
     ghost may = { λ value seen before answer after. Changes (with_type (media_text value.0)) (R.may value.1 seen before) answer after };
@@ -23,7 +39,7 @@ impl<T: Types, R: Responder<T>> Responder<T> for (ContentType, R) {
     ) -> ResponseResult<T::Stream> {
         let (content_type, responder) = self;
         let mut response = responder.respond_to(alloc, request, ctx)?;
-        response.set_header(content_type.header(alloc)?)?;
+        set_content_type(alloc, &content_type, &mut response)?;
         Ok(response)
     }
 }

@@ -4,9 +4,9 @@ ghost use Rattle.rkt_request.specs.FromRequest.{Answers};
 ghost use Rattle.rkt_message.specs.Response.{empty_response};
 ghost use Rattle.rkt_response.specs.Responder.{Changes, StarvesWithin, created_at};
 
+use crate::responder::making::located;
 use crate::responder::{Responder, ResponseResult};
 use rkt_base::{NoMemory, Text};
-use rkt_data::Source;
 use rkt_http::Status;
 use rkt_message::Response;
 use rkt_request::{Ctx, Request, Types};
@@ -54,15 +54,6 @@ impl<R: Drop> Created<R> {
     }
 }
 
-// A response as that of what was created there.
-fn created_at<S: Source>(location: &str, mut response: Response<S>) -> Result<Response<S>, NoMemory>
-    ensures { IfOk result (λ created. created ≡ created_at location.now response) }
-{
-    response.set_status(Status::Created);
-    response.set_raw_header("Location", location)?;
-    Ok(response)
-}
-
 impl<T: Types, R: Responder<T>> Responder<T> for Created<R> {
     ghost may = { λ created seen before answer after. MatchOption created.responder
         (Answers answer (Ok (created_at created.location empty_response)) before after)
@@ -85,9 +76,9 @@ impl<T: Types, R: Responder<T>> Responder<T> for Created<R> {
         match responder {
             Some(responder) => {
                 let response = responder.respond_to(alloc, request, ctx)?;
-                Ok(created_at(location.as_str(), response)?)
+                Ok(located(Status::Created, location.as_str(), response)?)
             }
-            None => Ok(created_at(location.as_str(), Response::new(alloc))?),
+            None => Ok(located(Status::Created, location.as_str(), Response::new(alloc))?),
         }
     }
 }

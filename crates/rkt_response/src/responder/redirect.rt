@@ -3,6 +3,7 @@ ghost use Rattle.rkt_uri.specs.Reference.{IsReference};
 ghost use Rattle.rkt_request.specs.FromRequest.{Answers};
 ghost use Rattle.rkt_response.specs.Responder.{answer_of_redirect};
 
+use crate::responder::making::located;
 use crate::responder::{Responder, ResponseResult};
 use rkt_base::{NoMemory, Want};
 use rkt_http::{Reference, Status};
@@ -95,9 +96,6 @@ impl<T: Types> Responder<T> for Redirect {
         let Some(uri) = uri else {
             return Err(Want::Refused(Status::InternalServerError));
         };
-        let mut response = Response::new(alloc);
-        response.set_status(status);
-        response.set_raw_header("Location", uri.as_str())?;
-        Ok(response)
+        Ok(located(status, uri.as_str(), Response::new(alloc))?)
     }
 }
