@@ -152,13 +152,40 @@ fn begin<A: App, K: Link>(
 // A handle that takes another one of its wire back.
 #[tactic(auto, using(crate::proofs::Handles::rejoined, crate::proofs::Handles::hands_back_same))]
 fn with_back<W: Reason>(mut handle: Shutdown<W>, back: Option<Shutdown<W>>) -> Shutdown<W>
-    requires { IfSome back (λ other. other.wire ≡ handle.wire) }
+    requires wire { IfSome back (λ other. other.wire ≡ handle.wire) }
     ensures { HandsBack handle result }
 {
     if let Some(other) = back {
         handle.rejoin(other);
     }
     handle
+}
+
+// What is left, with a handle that takes another one of its wire back.
+fn rejoined<L, C, W: Reason, R>(
+    closed: ClosedOf<L, C, Shutdown<W>, R>,
+    back: Option<Shutdown<W>>,
+) -> ClosedOf<L, C, Shutdown<W>, R>
+    requires wire { IfSome back (λ other. other.wire ≡ closed.handle.wire) }
+    ensures { (handle : Handle) × HandsBack closed.handle handle × (result ≡ record closed { handle = handle }) }
+{
+    let ClosedOf {
+        listener,
+        clock,
+        handle,
+        over,
+        faulted,
+        history,
+    } = closed;
+    let handle = with_back(handle, back);
+    ClosedOf {
+        listener,
+        clock,
+        handle,
+        over,
+        faulted,
+        history,
+    }
 }
 
 // What a launch answers that is closed.
@@ -244,23 +271,7 @@ impl<A: App> Launch<A> for Rocket<Ignite, A> {
         let (closed, back) = serve_to_close::<A, R, L, C>(
             rt, alloc, &tables, book, listener, clock, handle, shutdown, calls, room,
         );
-        let ClosedOf {
-            listener,
-            clock,
-            handle,
-            over,
-            faulted,
-            history,
-        } = closed;
-        let handle = with_back(handle, back);
-        let closed = ClosedOf {
-            listener,
-            clock,
-            handle,
-            over,
-            faulted,
-            history,
-        };
+        let closed = rejoined(closed, back);
         answered::<A, L, C>(tables, table, closed)
     }
 }

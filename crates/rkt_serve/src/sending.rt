@@ -9,6 +9,7 @@ ghost use Rattle.rkt_message.specs.Sent.{has_head};
 ghost use Rattle.rkt_message.specs.declared.piece.Piece.{Piece};
 ghost use Rattle.rkt_message.specs.declared.piece.PieceError.{PieceError};
 ghost use Rattle.rkt_link.specs.Link.{AfterHand, ComesBack};
+ghost use Rattle.rkt_link.specs.declared.link.Handed.{Handed};
 ghost use Rattle.rkt_board.specs.declared.history.End.TheVariants.{Cut};
 ghost use Rattle.rkt_serve.specs.Gates.{IsCutOff, MayStand, word_in};
 ghost use Rattle.rkt_serve.specs.Handing.{HandsOver, PutAs, ShutsAs};
@@ -24,7 +25,7 @@ use std::sync::Wait;
 
 // Hands a piece to a link, which answers at once.
 fn hand<K: Link>(link: &mut K, piece: Piece) -> Poll<Handed>
-    ensures { (handed : _) × (result ≡ Poll.Ready handed) × AfterHand handed (K.meaning link.old) piece (K.meaning link.new) × ComesBack handed piece }
+    ensures { (handed : Handed) × (result ≡ Poll.Ready handed) × AfterHand handed (K.meaning link.old) piece (K.meaning link.new) × ComesBack handed piece }
 {
     Poll::Ready(link.poll_hand(piece))
 }
@@ -50,7 +51,7 @@ fn shut<K: Link>(io: &mut CancellableIo<K>, gate: Gate) -> Poll<Result<(), Refus
 
 // How a response ends whose link is gone.
 fn cut_off<K: Link>(io: &CancellableIo<K>) -> End
-    requires { is_gone io.now.stage ≡ true }
+    requires gone { is_gone io.now.stage ≡ true }
     ensures { (saw : ℕ) → (cut : ℕ) → io.now.stage ≡ Stage.Gone saw cut → result ≡ Cut saw cut }
 {
     match (io.saw(), io.cut_at()) {

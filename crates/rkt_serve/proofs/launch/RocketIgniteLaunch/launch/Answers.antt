@@ -9,15 +9,16 @@ use Rattle.rkt_serve.proofs.Abandoning.{lit_and}
 use Rattle.rkt_serve.proofs.Lighting.{if_kept, if_shutdown, if_wanting}
 use Rattle.rkt_serve.proofs.launch.RocketIgniteLaunch.launch.Goals as goal
 
-pub with_back-handle-requires : goal.with_back-handle-requires
-with_back-handle-requires g c =
+pub rejoined-closed-requires : goal.rejoined-closed-requires
+rejoined-closed-requires g c =
     let known = c.serve_to_close-closed.ensures in
-    same_wire c.serve_to_close-closed.result.1 c.in-Ok.begun.shutdown c.begin.new.handle c.serve_to_close-closed.result.0.handle known.lent known.handle (ap (λ h. h.wire) c.in-Ok.ensures.lends ∙ sym c.in-Ok.ensures.handle.wire)
+    record { wire = same_wire c.serve_to_close-closed.result.1 c.in-Ok.begun.shutdown c.begin.new.handle c.serve_to_close-closed.result.0.handle known.lent known.handle (ap (λ h. h.wire) c.in-Ok.ensures.lends ∙ sym c.in-Ok.ensures.handle.wire) }
 
 pub returns : goal.returns
 returns g c =
     let known = c.serve_to_close-closed.ensures in
     let closed = c.serve_to_close-closed.result.0 in
+    let joined = c.rejoined-closed.ensures in
     let tables = c.begin.new.tables in
     let rocket = c.args.self in
     let table = c.into_parts-tables.result.1 in
@@ -29,24 +30,24 @@ returns g c =
     let given = c.into_parts-tables.ensures.tables ∙ first in
     let told = c.into_parts-tables.ensures.table ∙ ap (λ r. r.table) c.into_orbit.ensures in
     let lifted = lifted_off g.A.Fairing.Lifts.LiftoffCallback.calling rocket tables table closed c.in-Ok.begun.calls c.begin.new.handle (rw (sym given, sym same) c.in-Ok.ensures.lifts) (rw (sym given) c.in-Ok.ensures.tables) told known.lifted known.handle known.looked known.still in
-    let ok = IfOk-weaker c.answered.result _ _ (λ l is. left_back tables table closed c.with_back-handle.result l c.with_back-handle.ensures is) c.answered.ensures.ok in
-    let kept = IfErr-weaker c.answered.result _ _ (if_kept _ _ (λ l is. left_back tables table closed c.with_back-handle.result l c.with_back-handle.ensures is)) c.answered.ensures.kept in
+    let ok = IfOk-weaker c.answered.result _ _ (λ l is. left_back tables table closed joined.0 l joined.1 is) (rw joined.2 at c.answered.ensures.ok) in
+    let kept = IfErr-weaker c.answered.result _ _ (if_kept _ _ (λ l is. left_back tables table closed joined.0 l joined.1 is)) (rw joined.2 at c.answered.ensures.kept) in
     record {
       tables = IfOk-weaker c.answered.result _ _ lifted ok;
       kept_tables = IfErr-weaker c.answered.result _ _ (if_kept _ _ lifted) kept;
       handle = IfOk-weaker c.answered.result _ _ (λ l is. back_to c.args.self.handle c.into_parts-tables.result.2 c.begin.new.handle closed.handle l.rocket.handle same c.in-Ok.ensures.handle known.handle is.handle) ok;
       kept_handle = IfErr-weaker c.answered.result _ _ (if_kept _ _ (λ l is. back_to c.args.self.handle c.into_parts-tables.result.2 c.begin.new.handle closed.handle l.rocket.handle same c.in-Ok.ensures.handle known.handle is.handle)) kept;
-      sound = if_both c.answered.result _ _ _ (λ l is none. left_sound tables table closed l is g.L.Listener.meaning (g.L.Listener.meaning c.args.listener) known.sound none c.requires.fresh.no_fault) ok c.answered.ensures.sound;
-      kept_sound = if_wanting _ _ _ (λ l is none. left_sound tables table closed l is g.L.Listener.meaning (g.L.Listener.meaning c.args.listener) known.sound none c.requires.fresh.no_fault) c.answered.result kept c.answered.ensures.kept_sound;
-      none_abandoned = if_both c.answered.result _ _ _ (λ l is none. left_none_abandoned tables table closed l is none) ok c.answered.ensures.none_abandoned;
-      kept_none_abandoned = if_wanting _ _ _ (λ l is none. left_none_abandoned tables table closed l is none) c.answered.result kept c.answered.ensures.kept_none_abandoned;
-      shutdown = if_shutdown _ _ _ (λ l is failed. left_shut tables table closed l is g.L.Listener.meaning (g.L.Listener.meaning c.args.listener) known.sound failed) c.answered.result kept c.answered.ensures.shutdown;
+      sound = if_both c.answered.result _ _ _ (λ l is none. left_sound tables table closed l is g.L.Listener.meaning (g.L.Listener.meaning c.args.listener) known.sound none c.requires.fresh.no_fault) ok (rw joined.2 at c.answered.ensures.sound);
+      kept_sound = if_wanting _ _ _ (λ l is none. left_sound tables table closed l is g.L.Listener.meaning (g.L.Listener.meaning c.args.listener) known.sound none c.requires.fresh.no_fault) c.answered.result kept (rw joined.2 at c.answered.ensures.kept_sound);
+      none_abandoned = if_both c.answered.result _ _ _ (λ l is none. left_none_abandoned tables table closed l is none) ok (rw joined.2 at c.answered.ensures.none_abandoned);
+      kept_none_abandoned = if_wanting _ _ _ (λ l is none. left_none_abandoned tables table closed l is none) c.answered.result kept (rw joined.2 at c.answered.ensures.kept_none_abandoned);
+      shutdown = if_shutdown _ _ _ (λ l is failed. left_shut tables table closed l is g.L.Listener.meaning (g.L.Listener.meaning c.args.listener) known.sound failed) c.answered.result kept (rw joined.2 at c.answered.ensures.shutdown);
       settled = IfOk-weaker c.answered.result _ _ (λ l is. left_settled tables table closed l is g.L.Listener.meaning (g.L.Listener.meaning c.args.listener) known.settled) ok;
       kept_settled = IfErr-weaker c.answered.result _ _ (if_kept _ _ (λ l is. left_settled tables table closed l is g.L.Listener.meaning (g.L.Listener.meaning c.args.listener) known.settled)) kept;
       window = IfOk-weaker c.answered.result _ _ (λ l is. left_window tables table closed l is g.C.Clock.meaning (g.C.Clock.meaning c.args.clock) known.clock) ok;
       kept_window = IfErr-weaker c.answered.result _ _ (if_kept _ _ (λ l is. left_window tables table closed l is g.C.Clock.meaning (g.C.Clock.meaning c.args.clock) known.clock)) kept;
       word = IfOk-weaker c.answered.result _ _ (λ l is. left_word tables table closed l is above known.word) ok;
-      kept_goes_on = if_wanting _ _ _ (λ l is none. left_goes_on tables table closed l is g.L.Listener.meaning known.goes_on none) c.answered.result kept c.answered.ensures.kept_goes_on;
+      kept_goes_on = if_wanting _ _ _ (λ l is none. left_goes_on tables table closed l is g.L.Listener.meaning known.goes_on none) c.answered.result kept (rw joined.2 at c.answered.ensures.kept_goes_on);
       kept_word = IfErr-weaker c.answered.result _ _ (if_kept _ _ (λ l is. left_word tables table closed l is above known.word)) kept;
       still = IfOk-weaker c.answered.result _ _ (λ l is. left_still tables table closed l is still) ok;
       kept_still = IfErr-weaker c.answered.result _ _ (if_kept _ _ (λ l is. left_still tables table closed l is still)) kept;
@@ -59,10 +60,10 @@ returns g c =
       moments = IfOk-weaker c.answered.result _ _ (λ l is. (left_legal g.A.Reason.Reason.allowed g.A.Fairing.Shuts.ShutdownCallback.calling (serving g.A-Fairing-Requests-RequestCallback.calling g.A.Fairing.Responses.ResponseCallback.calling g.A-Handler-Handler.calling g.A.Catch.CatchHandler.calling g.A.Source.Source.meaning g.A.Stream.Source.meaning g.L.Link.Link.meaning (g.C.Clock.meaning c.args.clock).window) g.L.Listener.meaning tables table closed l is known.legal).timed) ok;
       callers = IfOk-weaker c.answered.result _ _ (λ l is. (left_legal g.A.Reason.Reason.allowed g.A.Fairing.Shuts.ShutdownCallback.calling (serving g.A-Fairing-Requests-RequestCallback.calling g.A.Fairing.Responses.ResponseCallback.calling g.A-Handler-Handler.calling g.A.Catch.CatchHandler.calling g.A.Source.Source.meaning g.A.Stream.Source.meaning g.L.Link.Link.meaning (g.C.Clock.meaning c.args.clock).window) g.L.Listener.meaning tables table closed l is known.legal).callers) ok;
       kept_legal = IfErr-weaker c.answered.result _ _ (if_kept _ _ (λ l is. left_legal g.A.Reason.Reason.allowed g.A.Fairing.Shuts.ShutdownCallback.calling (serving g.A-Fairing-Requests-RequestCallback.calling g.A.Fairing.Responses.ResponseCallback.calling g.A-Handler-Handler.calling g.A.Catch.CatchHandler.calling g.A.Source.Source.meaning g.A.Stream.Source.meaning g.L.Link.Link.meaning (g.C.Clock.meaning c.args.clock).window) g.L.Listener.meaning tables table closed l is known.legal)) kept;
-      ended = if_both c.answered.result _ _ _ (λ l is over. left_over tables table closed l is g.L.Listener.meaning known.ended over) ok c.answered.ensures.over;
-      offers = if_both c.answered.result _ _ _ (λ l is over. left_offers tables table closed l is g.L.Listener.meaning (g.L.Listener.meaning c.args.listener).offers known.offers over) ok c.answered.ensures.over;
+      ended = if_both c.answered.result _ _ _ (λ l is over. left_over tables table closed l is g.L.Listener.meaning known.ended over) ok (rw joined.2 at c.answered.ensures.over);
+      offers = if_both c.answered.result _ _ _ (λ l is over. left_offers tables table closed l is g.L.Listener.meaning (g.L.Listener.meaning c.args.listener).offers known.offers over) ok (rw joined.2 at c.answered.ensures.over);
       refused = IfErr-weaker c.answered.result _ _ (λ e lit. unlit_lit _ e lit) c.answered.ensures.lit;
       outside = IfErr-weaker c.answered.result _ _ (λ e lit. gives_lit c.args.listener c.args.clock e lit) c.answered.ensures.lit;
       complete = λ valid never. lit_and _ c.answered.result c.answered.ensures.lit (if_shutdown _ _ _ (λ l is failed. left_abandoned g.A.Reason.Reason.allowed g.A.Fairing.Shuts.ShutdownCallback.calling (serving g.A-Fairing-Requests-RequestCallback.calling g.A.Fairing.Responses.ResponseCallback.calling g.A-Handler-Handler.calling g.A.Catch.CatchHandler.calling g.A.Source.Source.meaning g.A.Stream.Source.meaning g.L.Link.Link.meaning (g.C.Clock.meaning c.args.clock).window) tables table closed l is
-          (never_failed closed.faulted (g.L.Listener.meaning c.args.listener) (g.L.Listener.meaning closed.listener) known.sound never) known.legal.caused known.legal.timed failed) c.answered.result kept c.answered.ensures.shutdown);
+          (never_failed closed.faulted (g.L.Listener.meaning c.args.listener) (g.L.Listener.meaning closed.listener) known.sound never) known.legal.caused known.legal.timed failed) c.answered.result kept (rw joined.2 at c.answered.ensures.shutdown));
     }
