@@ -4,7 +4,7 @@ use Rattle.rkt_request.specs.Seen.{Seen}
 use Rattle.rkt_router.specs.Calling.{Calling}
 use Rattle.rkt_router.specs.Callbacks.{RequestAt}
 use Rattle.rkt_fairing.specs.Callbacks.{KeepsRequest, KeepsResponse, RequestGrows, ResponseAt}
-use Rattle.rkt_fairing.specs.Changes.{response_grows}
+use Rattle.rkt_adhoc.specs.Changes.{response_grows}
 use Rattle.cases_exchange.specs.declared.changer.Changer.{Changer}
 
 -- a call that is Pending as often as its fairing waits: Grown says what it leaves, and what stands while it is under way

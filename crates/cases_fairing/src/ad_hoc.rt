@@ -2,12 +2,13 @@
 use crate::named::Named;
 use crate::site::{Site, Sorry, Stopped};
 use cases::{CaseError, first_word, parsed, written};
+use rkt_adhoc::{
+    AdHoc, ChangesBuilding, OnIgnite, OnLiftoff, OnShutdown, SeesLiftoff, SeesShutdown,
+    TriesBuilding, TryOnIgnite,
+};
 use rkt_answers::Answering;
 use rkt_base::NoMemory;
-use rkt_fairing::{
-    AdHoc, Attach, Building, BuildingOf, Callback, ChangesBuilding, OnIgnite, OnLiftoff,
-    OnShutdown, SeesLiftoff, SeesShutdown, Slot, TriesBuilding, TryOnIgnite, View, ViewOf,
-};
+use rkt_fairing::{Attach, Building, BuildingOf, Callback, Slot, View, ViewOf};
 use rkt_http::Key;
 use rkt_request::{Config, ConfigTable, Managed};
 use rkt_router::{Dummy, Router, Step};

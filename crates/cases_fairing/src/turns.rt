@@ -3,13 +3,11 @@ use crate::ad_hoc::{Orbit, handle};
 use crate::named::{Named, read_called};
 use crate::site::Site;
 use cases::{CaseError, first_word, written};
+use rkt_adhoc::{AtOnce, ChangesRequest, ChangesResponse};
 use rkt_base::NoMemory;
 use rkt_cookie::CookieJar;
 use rkt_data::{Data, Gate, MemorySource};
-use rkt_fairing::{
-    AtOnce, ChangesRequest, ChangesResponse, InSlot, RequestCallback, ResponseCallback, Slot,
-    turn_request, turn_response,
-};
+use rkt_fairing::{InSlot, RequestCallback, ResponseCallback, Slot, turn_request, turn_response};
 use rkt_http::{Method, Origin};
 use rkt_request::{Body0, Ctx, Request, Types};
 use rkt_response::Response;

@@ -7,15 +7,16 @@ use rkt_data::{Gate, Shut, Source};
 use rkt_link::Link;
 use std::alloc::Global;
 
-const GATE: Gate = Gate {
+/// What every read is under.
+pub const GATE: Gate = Gate {
     moment: 0,
     tripped: None,
     grace: 0,
     mercy: 0,
 };
 
-// The room for one read.
-const ROOM: usize = 8;
+/// The room for one read.
+pub const ROOM: usize = 8;
 
 // How often a source is read at most.
 const READS: usize = 20;

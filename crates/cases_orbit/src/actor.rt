@@ -2,7 +2,7 @@
 use crate::act::{Act, Ending, read_act, read_kind};
 use crate::site::{Site, Stopped};
 use cases::{CaseError, first_word};
-use rkt_fairing::{Attach, Fairing, Info, Kind, LiftoffCallback, Quiet, ShutdownCallback, View};
+use rkt_fairing::{Attach, Info, Kind, LiftoffCallback, ShutdownCallback, View};
 use rkt_http::Key;
 use rkt_router::Step;
 use rkt_turn::Shutdown;
@@ -119,16 +119,4 @@ impl ShutdownCallback<Site, Actor> for Acts {
             },
         }
     }
-}
-
-impl Fairing<Site> for Actor {
-    type Ignites = Quiet;
-
-    type Lifts = Acts;
-
-    type Requests = Quiet;
-
-    type Responses = Quiet;
-
-    type Shuts = Acts;
 }

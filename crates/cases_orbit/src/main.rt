@@ -9,7 +9,6 @@
 //! | `shield` | the same, once the shield is attached |
 //! | `liftoff` | how each call at liftoff ended, how often each fairing was polled so far, and the word that the handle has seen |
 //! | `down` | how each call at a shutdown ended |
-//! | `launch` | the events of a launch of the rocket over one link; it stays the rocket that comes back |
 //!
 //! A KIND is `liftoff`, `shutdown` or `both`. An ACT is what a fairing does where it is called: `done`, `fault`, `starve`, `pend
 //! NUMBER` (it is Pending so often), `notify` (at liftoff it notifies the shutdown) and `seen` (at liftoff it faults, unless the
@@ -19,7 +18,6 @@
 mod act;
 mod actor;
 mod answer;
-mod launched;
 mod orbit;
 mod shown;
 mod site;
@@ -30,5 +28,5 @@ use std::io;
 
 fn main(rt: HostRuntime) -> io::Result<()> {
     let alloc = rt.alloc();
-    answer_lines_if_made(&rt, alloc, Kept::new(&rt, alloc))
+    answer_lines_if_made(&rt, alloc, Kept::new(alloc))
 }

@@ -13,8 +13,7 @@ fn called_text(called: Called) -> &'static str {
     }
 }
 
-/// Adds how a call ended.
-pub fn push_called(out: &mut String, called: Called) -> Result<(), NoMemory> {
+fn push_called(out: &mut String, called: Called) -> Result<(), NoMemory> {
     write!(out, " {}", called_text(called))
 }
 

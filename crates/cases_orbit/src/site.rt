@@ -1,7 +1,6 @@
 //! The application whose rocket is in orbit.
-use crate::actor::Actor;
 use rkt_data::MemorySource;
-use rkt_life::{App, DefaultCatcher, Parts};
+use rkt_fairing::Parts;
 use rkt_request::Types;
 use rkt_router::Dummy;
 use rkt_turn::Reason;
@@ -34,11 +33,7 @@ impl Types for Site {
 impl Parts for Site {
     type Handler = Dummy;
 
-    type Catch = DefaultCatcher;
+    type Catch = Dummy;
 
     type Sentinel = ();
-}
-
-impl App for Site {
-    type Fairing = Actor;
 }

@@ -146,7 +146,7 @@ pub fn alarm<R: Wait + Threads>(
     let at = number(at)?;
     let clock = ListClock::new(numbers(alloc, moments)?);
     let listener = listener(alloc, setting, rest)?;
-    let rocket = rocket(alloc, setting.routes.as_slice())?;
+    let rocket = rocket(alloc, setting)?;
     let over = launched_with(rt, alloc, rocket, listener, clock, at)?;
     over_text(alloc, over)
 }

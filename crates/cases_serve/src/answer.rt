@@ -5,9 +5,7 @@ use crate::exchange::{exchange, parted};
 use crate::launch::launch;
 use crate::order::order;
 use crate::pieces::{cut_case, send_case};
-use crate::polls::{clock, polls};
-use crate::setting::{Setting, set_faults, set_header, set_routes};
-use crate::sourced::sourced;
+use crate::setting::{Setting, set_fairings, set_faults, set_header, set_routes};
 use crate::words::first_word;
 use std::alloc::Global;
 use std::sync::Wait;
@@ -21,6 +19,7 @@ fn set(
 ) -> Result<String, CaseError> {
     match command {
         "routes" => set_routes(alloc, setting, rest)?,
+        "fairings" => set_fairings(alloc, setting, rest)?,
         "faults" => set_faults(alloc, setting, rest)?,
         _ => set_header(alloc, setting, rest)?,
     }
@@ -32,9 +31,6 @@ fn asked(alloc: Global, setting: &Setting, command: &str, rest: &str) -> Result<
     match command {
         "exchange" => exchange(alloc, setting, rest),
         "parted" => parted(alloc, setting),
-        "polls" => polls(alloc, setting, rest),
-        "clock" => clock(alloc, rest),
-        "source" => sourced(alloc, setting, rest),
         _ => Err(CaseError::Line),
     }
 }
@@ -65,7 +61,7 @@ pub fn answer<R: Wait + Threads>(
 ) -> Result<String, CaseError> {
     let (command, rest) = first_word(line);
     match command {
-        "routes" | "header" | "faults" => set(alloc, setting, command, rest),
+        "routes" | "fairings" | "header" | "faults" => set(alloc, setting, command, rest),
         "launch" | "order" | "alarm" | "ignite" | "told" => launching(
             rt, alloc, setting, command, rest,
         ),

@@ -1,12 +1,13 @@
 //! The application that lines speak of.
 ghost use Rattle.rkt_request.specs.Lent.{MayGrow};
 
+use crate::actor::{Actor, fairings_of};
 use crate::error::CaseError;
-use crate::setting::Place;
+use crate::setting::{Place, Setting};
 use rkt_base::{NoMemory, Want};
 use rkt_data::{Gate, MemorySource, Source};
 use rkt_http::{InvalidUri, Method, Outcome, Status};
-use rkt_life::{App, DefaultCatcher, Fairings, Ignite, NoFairing, Parts, Rocket, TablesOf};
+use rkt_life::{App, DefaultCatcher, Fairings, Ignite, Parts, Rocket, TablesOf};
 use rkt_message::Response;
 use rkt_request::{Body0, Config, ConfigTable, Ctx, Managed, Request, Types};
 use rkt_router::{Handler, Route, RouteOutcome, Router, Step};
@@ -124,7 +125,7 @@ impl Parts for Site {
 }
 
 impl App for Site {
-    type Fairing = NoFairing;
+    type Fairing = Actor;
 }
 
 type SiteRouter = Router<Saying, DefaultCatcher, ()>;
@@ -160,19 +161,24 @@ fn router_of(alloc: Global, places: &[Place]) -> Result<SiteRouter, CaseError> {
     Ok(router)
 }
 
-fn assembled(alloc: Global, router: SiteRouter) -> Result<Rocket<Ignite, Site>, NoMemory> {
+fn assembled(
+    alloc: Global,
+    fairings: Fairings<Actor>,
+    router: SiteRouter,
+) -> Result<Rocket<Ignite, Site>, NoMemory> {
     let config = Config::default(alloc)?;
     let tables = TablesOf {
         router,
-        fairings: Fairings::new(alloc),
+        fairings,
         config,
         managed: Managed::new(alloc),
     };
     Rocket::<Ignite, Site>::from_tables(alloc, tables, ConfigTable::new(alloc))
 }
 
-/// A rocket with these routes.
-pub fn rocket(alloc: Global, places: &[Place]) -> Result<Rocket<Ignite, Site>, CaseError> {
-    let router = router_of(alloc, places)?;
-    Ok(assembled(alloc, router)?)
+/// A rocket with the routes and the fairings of the setting.
+pub fn rocket(alloc: Global, setting: &Setting) -> Result<Rocket<Ignite, Site>, CaseError> {
+    let fairings = fairings_of(alloc, setting.fairings.as_slice())?;
+    let router = router_of(alloc, setting.routes.as_slice())?;
+    Ok(assembled(alloc, fairings, router)?)
 }

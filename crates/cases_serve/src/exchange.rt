@@ -141,7 +141,7 @@ pub fn exchange(alloc: Global, setting: &Setting, text: &str) -> Result<String, 
     let (moment, asked) = first_word(text);
     let moment = number(moment)?;
     let head = head_of(alloc, setting, asked)?;
-    let mut rocket = rocket(alloc, setting.routes.as_slice())?;
+    let mut rocket = rocket(alloc, setting)?;
     let text = exchanged(alloc, &mut rocket, &head, moment);
     drop(rocket);
     text
@@ -149,7 +149,7 @@ pub fn exchange(alloc: Global, setting: &Setting, text: &str) -> Result<String, 
 
 /// How many routes a rocket has that was taken apart and put together, and whether it has a managed value.
 pub fn parted(alloc: Global, setting: &Setting) -> Result<String, CaseError> {
-    let rocket = rocket(alloc, setting.routes.as_slice())?;
+    let rocket = rocket(alloc, setting)?;
     let (tables, table, handle) = rocket.into_orbit().into_parts();
     let rocket = Rocket::<Orbit, Site>::from_parts(tables, table, handle);
     let routes = rocket.tables().router.routes().len();

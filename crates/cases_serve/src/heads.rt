@@ -41,19 +41,13 @@ pub fn head_of(alloc: Global, setting: &Setting, text: &str) -> Result<Head, NoM
     })
 }
 
-/// A link that asks `METHOD TARGET` with this body.
-pub fn link_with(
-    alloc: Global,
-    setting: &Setting,
-    text: &str,
-    body: &str,
-) -> Result<MemoryLink, NoMemory>
+/// A link that asks `METHOD TARGET`.
+pub fn link_of(alloc: Global, setting: &Setting, text: &str) -> Result<MemoryLink, NoMemory>
     ensures { IfOk result IsUnused }
 {
     let head = head_of(alloc, setting, text)?;
-    let bytes = body.as_bytes().to_vec(alloc)?;
     let fails = setting.sends.clone()?;
-    MemoryLink::new(alloc, head, bytes, fails)
+    MemoryLink::new(alloc, head, Vec::new(alloc), fails)
 }
 
 fn links_of(alloc: Global, setting: &Setting, text: &str) -> Result<Vec<MemoryLink>, NoMemory>
@@ -64,7 +58,7 @@ fn links_of(alloc: Global, setting: &Setting, text: &str) -> Result<Vec<MemoryLi
         return Ok(links);
     }
     for piece in text.split(" | ") {
-        links.push(link_with(alloc, setting, piece, "")?)?;
+        links.push(link_of(alloc, setting, piece)?)?;
     }
     Ok(links)
 }

@@ -104,7 +104,7 @@ fn launched<R: Wait + Threads>(
 ) -> Result<(Over, bool), CaseError>
     requires fresh { IsFresh (listener_meaning listener) }
 {
-    let rocket = rocket(alloc, setting.routes.as_slice())?;
+    let rocket = rocket(alloc, setting)?;
     match rocket.launch(rt, alloc, listener, clock, workers as usize) {
         Ok(over) => Ok((over, false)),
         Err(error) => failed(error),

@@ -6,6 +6,8 @@
 //!                                          text, once it was Pending so often; one that says `stop` or `trip` notifies the
 //!                                          wire in its first poll, and the latter answers with the word of the trip that
 //!                                          its last Gate shows
+//!     fairings FAIRING; FAIRING; ..        from here on the application has these fairings, in this order, but where it is
+//!                                          still built; without one, it has none
 //!     header NAME: VALUE                   from here on every request has this header; without one, it has none
 //!     faults SENDS POLLS                   from here on these sends of each link fail, and these polls of a listener (from 0)
 //!     exchange MOMENT METHOD TARGET        one exchange at this moment: the status, the content type, the size of the
@@ -18,7 +20,7 @@
 //!                                          are, each entry, and the moment of the close; in front, what is said of
 //!                                          it where the listener failed or an exchange was abandoned
 //!     order POLLS LINK | LINK ..           the events of such a launch, in order, and those of a second launch of the rocket that
-//!                                          comes back, over the same links
+//!                                          comes back, over the same links. A Lift and a Down show how each of their calls ended
 //!     alarm MOMENT MOMENTS POLLS LINK | LINK ..
 //!                                          the events of a launch whose clock tells these moments, and how many links are
 //!                                          left. The wire is notified by the clock where it tells this moment or a later
@@ -27,16 +29,21 @@
 //!                                          these settings. Its history, or why it does not ignite and how many links are
 //!                                          left
 //!     told SETTINGS LINK | LINK ..         what is told of such a launch where it fails
-//!     polls POLLS COUNT LINK | LINK ..     what so many polls of this listener answer
-//!     source TEXT                          what the source of a link with this body gives, and whether it can be taken
-//!                                          again
-//!     clock MOMENTS COUNT                  what a listed clock tells at so many calls
 //!     send TURNS CHUNK READS TEXT          a response with the header above and a streamed body, which gives chunks
 //!                                          and fails at these reads (from 0), is sent: how that ends, and the pieces
+//!     cut NOW TRIP CHUNK READS TEXT        the same, where each Gate is a second later than the one before, from NOW on, with a
+//!                                          trip from that second on
 //!
-//! MOMENTS, SENDS, POLLS and READS are numbers parted by commas, SETTINGS are NAME=TEXT parted by commas, or `-` for none. In a value, `\n` is a line feed.
+//! A FAIRING is `shield`, or `KIND ACT`: KIND is `liftoff`, `shutdown` or `both`, and ACT what it does where it is called: `done`,
+//! `fault`, `starve`, `pend NUMBER` (it is Pending so often), `notify` (at liftoff it notifies the wire), `seen` (at liftoff it
+//! faults, unless the handle has seen a word) and `once` (at liftoff it faults, unless it was never polled before).
+//!
+//! MOMENTS, SENDS, POLLS and READS are numbers parted by commas, SETTINGS are NAME=TEXT parted by commas, or `-` for none. In a
+//! value, `\n` is a line feed.
 #![tactic(auto)]
 
+mod act;
+mod actor;
 mod alarm;
 mod answer;
 mod app;
@@ -47,9 +54,7 @@ mod heads;
 mod launch;
 mod order;
 mod pieces;
-mod polls;
 mod setting;
-mod sourced;
 mod ticks;
 mod words;
 

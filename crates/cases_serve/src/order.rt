@@ -8,19 +8,38 @@ use crate::launch::{Over, listener, refused};
 use crate::setting::Setting;
 use crate::words::push_item;
 use rkt_life::{Ignite, Rocket};
-use rkt_serve::{Event, EventOf, History, Launch, LaunchedOf, ListClock, ListListener, MemoryLink};
+use rkt_serve::{
+    Called, Event, EventOf, History, Launch, LaunchedOf, ListClock, ListListener, MemoryLink,
+};
 use std::alloc::{AllocError, Global};
 use std::sync::Wait;
 use std::thread::Threads;
 
-/// What an event is, with its number or its word.
+fn called_text(called: Called) -> &'static str {
+    match called {
+        Called::Done => " done",
+        Called::FailedTurn => " failed",
+        Called::Starved => " starved",
+    }
+}
+
+/// An event of this name, with how each of its calls ended.
+fn calls_text(alloc: Global, name: &str, calls: &[Called]) -> Result<String, AllocError> {
+    let mut text = String::from_str(alloc, name)?;
+    for called in calls {
+        text.push_str(called_text(*called))?;
+    }
+    Ok(text)
+}
+
+/// What an event is, with its calls, its number or its word.
 fn event_text(alloc: Global, event: &Event<Site, MemoryLink>) -> Result<String, AllocError> {
     match event {
-        EventOf::Lift { .. } => String::from_str(alloc, "Lift"),
+        EventOf::Lift { calls } => calls_text(alloc, "Lift", calls.as_slice()),
         EventOf::Trip { word, .. } => format!(in alloc; "Trip {}", *word),
         EventOf::Admit { number, .. } => format!(in alloc; "Admit {}", *number),
         EventOf::End { number, .. } => format!(in alloc; "End {}", *number),
-        EventOf::Down { .. } => String::from_str(alloc, "Down"),
+        EventOf::Down { calls } => calls_text(alloc, "Down", calls.as_slice()),
         EventOf::Close { .. } => String::from_str(alloc, "Close"),
     }
 }
@@ -137,6 +156,6 @@ pub fn order<R: Wait + Threads>(
 ) -> Result<String, CaseError> {
     let first = listener(alloc, setting, text)?;
     let again = listener(alloc, setting, text)?;
-    let rocket = rocket(alloc, setting.routes.as_slice())?;
+    let rocket = rocket(alloc, setting)?;
     launched_twice(rt, alloc, rocket, first, again)
 }

@@ -3,7 +3,7 @@ ghost use Rattle.std.specs.Prelude.{◌≡◌};
 ghost use Rattle.rkt_cancel.specs.declared.stage.Stage.{Stage};
 
 use crate::error::CaseError;
-use crate::heads::link_with;
+use crate::heads::link_of;
 use crate::setting::Setting;
 use crate::ticks::Ticks;
 use crate::words::{count, first_word, number, numbers, push_item};
@@ -103,7 +103,7 @@ fn send_body<R: Wait>(
     source: MemorySource,
 ) -> Result<String, CaseError> {
     let response = response(alloc, setting, source)?;
-    let link = link_with(alloc, setting, "GET /", "")?;
+    let link = link_of(alloc, setting, "GET /")?;
     let mut link = CancellableIo::new(link);
     let text = send_over(rt, alloc, &mut ticks, &mut link, response, turns);
     drop(link);

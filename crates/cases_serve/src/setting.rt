@@ -1,4 +1,5 @@
 //! What earlier lines have said.
+use crate::act::{Attached, read_attached};
 use crate::error::CaseError;
 use crate::words::{count, first_word, numbers, unescaped};
 use std::alloc::{AllocError, Global};
@@ -18,10 +19,11 @@ pub struct Place {
     pub waits: u32,
 }
 
-/// The routes of the application, the header of every request, and which sends of a link and which polls of a listener fail.
+/// The routes of the application and what is attached to it, the header of every request, and which sends of a link and which polls of a listener fail.
 #[derive(Drop)]
 pub struct Setting {
     pub routes: Vec<Place>,
+    pub fairings: Vec<Attached>,
     pub header: Option<Pair>,
     pub sends: Vec<u64>,
     pub polls: Vec<u64>,
@@ -31,6 +33,7 @@ impl Setting {
     pub fn new(alloc: Global) -> Setting {
         Setting {
             routes: Vec::new(alloc),
+            fairings: Vec::new(alloc),
             header: None,
             sends: Vec::new(alloc),
             polls: Vec::new(alloc),
@@ -86,6 +89,28 @@ fn routes_of(alloc: Global, text: &str) -> Result<Vec<Place>, CaseError> {
 /// Sets the routes of `PATH=TEXT PATH=TEXT*WAITS ..`.
 pub fn set_routes(alloc: Global, setting: &mut Setting, text: &str) -> Result<(), CaseError> {
     setting.routes = routes_of(alloc, text)?;
+    Ok(())
+}
+
+fn push_fairing(fairings: &mut Vec<Attached>, text: &str) -> Result<(), CaseError> {
+    let attached = read_attached(text)?;
+    Ok(fairings.push(attached)?)
+}
+
+fn fairings_of(alloc: Global, text: &str) -> Result<Vec<Attached>, CaseError> {
+    let mut fairings = Vec::new(alloc);
+    if text.is_empty() {
+        return Ok(fairings);
+    }
+    for piece in text.split("; ") {
+        push_fairing(&mut fairings, piece)?;
+    }
+    Ok(fairings)
+}
+
+/// Sets the fairings of `FAIRING; FAIRING; ..`, or none.
+pub fn set_fairings(alloc: Global, setting: &mut Setting, text: &str) -> Result<(), CaseError> {
+    setting.fairings = fairings_of(alloc, text)?;
     Ok(())
 }
 

@@ -6,14 +6,14 @@ use Rattle.std.proofs.lemmas.List.{length-map, length-take}
 use Rattle.std.proofs.lemmas.Option.{none-some, same_Some, slice_get-map}
 use Rattle.rkt_source.specs.Memory.{SourceInMemory, source_meaning}
 use Rattle.rkt_link.specs.Asked.{Asked}
-use Rattle.rkt_serve.specs.Causes.{AllCaused, CauseAt, CausedAs, Ran}
+use Rattle.rkt_worker.specs.Causes.{AllCaused, CauseAt, CausedAs, Ran}
 use Rattle.rkt_link.specs.Clock.{IsWithin}
 use Rattle.std.specs.List.{list_any}
 use Rattle.rkt_board.specs.After.{AfterFrom}
 use Rattle.rkt_board.specs.Closed.{AllAdmitted}
 use Rattle.rkt_board.specs.Board.{IsCutWithin}
 use Rattle.rkt_board.specs.Events.{is_abandoned, is_trip, was_abandoned, admitted, end_of, InOrder}
-use Rattle.rkt_serve.specs.Headline.{AllTimed, HasEntry}
+use Rattle.rkt_worker.specs.Headline.{AllTimed, HasEntry}
 use Rattle.rkt_link.specs.Listener.{Settled}
 use Rattle.rkt_link.specs.Memory.{LinkInMemory, ListenerInMemory, asked_of, listener_meaning}
 use Rattle.rkt_board.specs.declared.history.End.{End as Ending}

@@ -9,9 +9,10 @@ use Rattle.rkt_http.specs.Headers.{group_of}
 use Rattle.rkt_http.specs.declared.status.Status.{Status}
 use Rattle.rkt_life.specs.declared.no_fairing.NoFairing.{NoFairing}
 use Rattle.rkt_lifecycle.specs.Beginning.{Over}
-use Rattle.rkt_lifecycle.specs.Dressed.{dressed, pending_cookies, with_body_rule, with_cookies, with_server, without_content}
+use Rattle.rkt_dressing.specs.Dressing.{pending_cookies, with_body_rule, with_cookies, with_server, without_content}
+use Rattle.rkt_lifecycle.specs.Dressed.{dressed}
 use Rattle.rkt_lifecycle.specs.Lifecycle.{Ends, Lives, Opens}
-use Rattle.rkt_lifecycle.specs.Overridden.{overridden}
+use Rattle.rkt_dressing.specs.Overridden.{overridden}
 use Rattle.rkt_lifecycle.specs.Relations.{Relations, callbacks}
 use Rattle.rkt_lifecycle.specs.Tables.{table_of}
 use Rattle.rkt_lifecycle.specs.declared.ended.RunOf.{RunOf}
@@ -30,8 +31,8 @@ use Rattle.rkt_sample.specs.Bodies.{IsSteadyBody, whole}
 use Rattle.rkt_sample.specs.declared.catcher.SampleCatcher.{SampleCatcher}
 use Rattle.rkt_sample.specs.declared.route.SampleRoute.{SampleRoute}
 use Rattle.rkt_link.specs.Asked.{GivesBody, IsUntouched}
-use Rattle.rkt_serve.specs.Lifecycle.{body_from, over_as}
-use Rattle.rkt_serve.specs.Serving.{callbacks_of, gates_of}
+use Rattle.rkt_worker.specs.Lifecycle.{body_from, over_as}
+use Rattle.rkt_worker.specs.Serving.{callbacks_of, gates_of}
 use Rattle.rkt_shield.specs.Shield.{default_headers}
 use Rattle.rkt_source.specs.Memory.{SourceInMemory, source_meaning}
 use Rattle.rkt_demo.proofs.Cookies.{AddedAlike, OnlyAdds, pending_alike}

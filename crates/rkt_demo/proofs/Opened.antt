@@ -10,7 +10,7 @@ use Rattle.rkt_data.specs.Tap.{SameTap, Tapped}
 use Rattle.rkt_lifecycle.specs.Peeks.{PeekOf, cuts}
 use Rattle.rkt_router.specs.Calls.{GateFits, GateRule}
 use Rattle.rkt_sample.specs.Bodies.{IsSteady, IsSteadyBody, SampleBody, whole}
-use Rattle.rkt_serve.specs.Lifecycle.{body_from, uncalled}
+use Rattle.rkt_worker.specs.Lifecycle.{body_from, uncalled}
 use Rattle.rkt_source.specs.Memory.{SourceInMemory, source_meaning}
 use Rattle.rkt_source.specs.Source.{Keeps}
 use Rattle.rkt_source.specs.declared.source.Gate.{Gate}

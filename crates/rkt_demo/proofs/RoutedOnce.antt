@@ -22,7 +22,8 @@ use Rattle.rkt_router.specs.declared.turn.Final.{Final}
 use Rattle.rkt_router.specs.declared.turn.Final.TheVariants.{Done}
 use Rattle.rkt_routing.specs.Found.{Found}
 use Rattle.rkt_routing.specs.Relations.{Relations}
-use Rattle.rkt_routing.specs.Routed.{CatcherReplies, Catches, Chooses, Errors, Fails, Finds, GivesUp, Goes, Retries, RouteCall, Routes, Settles, Steps, Walks, is_head, mounted, settled, turns_of}
+use Rattle.rkt_dressing.specs.Dressing.{settled}
+use Rattle.rkt_routing.specs.Routed.{CatcherReplies, Catches, Chooses, Errors, Fails, Finds, GivesUp, Goes, Retries, RouteCall, Routes, Settles, Steps, Walks, is_head, mounted, turns_of}
 use Rattle.rkt_routing.specs.Table.{SeenTable}
 use Rattle.rkt_routing.specs.declared.run.Call.{Call}
 use Rattle.rkt_demo.proofs.Choices.{one_chosen, one_next}

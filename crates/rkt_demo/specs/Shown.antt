@@ -15,9 +15,9 @@ use Rattle.rkt_sample.specs.declared.catcher.SampleCatcher.{SampleCatcher}
 use Rattle.rkt_sample.specs.declared.route.SampleRoute.{SampleRoute}
 use Rattle.rkt_link.specs.Asked.{Asked}
 use Rattle.rkt_link.specs.Clock.{IsWithin}
-use Rattle.rkt_serve.specs.Lifecycle.{Lifecycle}
+use Rattle.rkt_worker.specs.Lifecycle.{Lifecycle}
 use Rattle.rkt_link.specs.Memory.{LinkInMemory, link_meaning}
-use Rattle.rkt_serve.specs.Serving.{Serving, callbacks_of, serving}
+use Rattle.rkt_worker.specs.Serving.{Serving, callbacks_of, serving}
 use Rattle.rkt_source.specs.Memory.{SourceInMemory, source_meaning}
 use Rattle.rkt_demo.specs.Output.{cut_section, failed_section, last_line, sent_section, starved_section}
 use Rattle.rkt_demo.specs.Sample.{IsSample, SampleTables}

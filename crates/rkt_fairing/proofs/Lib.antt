@@ -1,5 +1,4 @@
 pub mod Flags
-pub mod Grown
 pub mod Lent
 pub mod Moved
 pub mod Moving

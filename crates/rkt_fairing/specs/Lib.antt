@@ -1,14 +1,11 @@
-pub mod AdHoc
 pub mod Below
 pub mod Building
 pub mod Callbacks
-pub mod Changes
 pub mod Fairings
 pub mod InSlot
 pub mod Info
 pub mod Kind
 pub mod Life
-pub mod LifeChanges
 pub mod Names
 pub mod Places
 pub mod Slot

@@ -2,9 +2,6 @@
 #![tactic(auto)]
 
 mod active;
-mod ad_hoc;
-mod ad_hoc_life;
-mod at_once;
 mod below;
 mod building;
 mod building_parts;
@@ -16,7 +13,6 @@ mod info;
 mod kind;
 mod lends;
 mod life;
-mod life_changes;
 mod lists;
 mod parts;
 mod places;
@@ -27,9 +23,6 @@ mod told;
 mod turn;
 
 pub use active::Active;
-pub use ad_hoc::{AdHoc, OnRequest, OnResponse};
-pub use ad_hoc_life::{OnIgnite, OnLiftoff, OnShutdown, TryOnIgnite};
-pub use at_once::{AtOnce, ChangesRequest, ChangesResponse};
 pub use building::{BuildingOf, InvalidBase};
 pub use building_parts::BuildingPartsOf;
 pub use callback::Callback;
@@ -39,7 +32,6 @@ pub use in_slot::InSlot;
 pub use info::{Attach, Info};
 pub use kind::Kind;
 pub use life::{IgniteCallback, LiftoffCallback, ShutdownCallback};
-pub use life_changes::{ChangesBuilding, SeesLiftoff, SeesShutdown, TriesBuilding};
 pub use parts::{App, AppBuilding, Building, Parts, View, ViewOf};
 pub use quiet::Quiet;
 pub use slot::Slot;

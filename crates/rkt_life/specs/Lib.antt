@@ -1,10 +1,7 @@
-pub mod AnswersData
 pub mod BuildError
 pub mod Built
-pub mod DefaultCatcher
 pub mod Handed
 pub mod Ignition
 pub mod NoFairing
-pub mod OneOf
 pub mod Rocket
 pub mod State

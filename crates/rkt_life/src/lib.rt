@@ -1,41 +1,34 @@
 //! A rocket, and the phases that it goes through. What an application names of the crates below is offered here too.
 #![tactic(auto)]
 
-mod answers_data;
 mod build_error;
 mod building;
-mod default_catcher;
 mod handed;
 mod igniting;
 mod ignition;
 mod lends;
 mod no_fairing;
-mod one_of;
 mod phase;
-mod plain_text;
 mod rocket;
 mod state;
 mod stopped;
 
-pub use answers_data::{AnsweringData, AnswersData, Taking};
 pub use build_error::BuildError;
-pub use default_catcher::DefaultCatcher;
 pub use handed::Handed;
 pub use igniting::{IgnitedOf, Igniting, Orbiting};
 pub use no_fairing::NoFairing;
-pub use one_of::OneOf;
 pub use phase::{Build, Ignite, Orbit, Phase};
-pub use plain_text::PlainText;
+pub use rkt_adhoc::{AdHoc, AtOnce, ChangesRequest, ChangesResponse, OnRequest, OnResponse};
 pub use rkt_answers::{
-    Answering, AnsweringIf, AnsweringWith, Answers, AnswersIf, AnswersWith, Catches, CatchesWith,
+    Answering, AnsweringData, AnsweringIf, AnsweringWith, Answers, AnswersData, AnswersIf,
+    AnswersWith, Catches, CatchesWith, DefaultCatcher, OneOf, PlainText, Taking,
 };
 pub use rkt_base::{NoMemory, Want};
 pub use rkt_cookie::Cookie;
 pub use rkt_data::MemorySource;
 pub use rkt_fairing::{
-    AdHoc, App, AtOnce, Attach, ChangesRequest, ChangesResponse, Fairing, Fairings, Info,
-    InvalidBase, Kind, OnRequest, OnResponse, Parts, Quiet, RequestCallback, ResponseCallback,
-    Slot,
+    App, Attach, Fairing, Fairings, Info, InvalidBase, Kind, Parts, Quiet, RequestCallback,
+    ResponseCallback, Slot,
 };
 pub use rkt_http::{Key, Method, Outcome, Status};
 pub use rkt_ignition::{Aborted, IgniteAnswer, IgniteCall, IgniteError};

@@ -21,10 +21,11 @@ use Rattle.rkt_turn.specs.HandsBack.{HandsBack}
 use Rattle.rkt_turn.specs.Shutdown.{Handle}
 use Rattle.rkt_lifecycle.specs.Answers.{Answers, AnsweredGives, Outgoing, answered_at, StandsFor as AnswersStandFor}
 use Rattle.rkt_lifecycle.specs.Asks.{Asks, AskedGives, asked_at, StandsFor as AsksStandFor}
-use Rattle.rkt_lifecycle.specs.Dressed.{dressed, with_body_rule}
+use Rattle.rkt_dressing.specs.Dressing.{with_body_rule}
+use Rattle.rkt_lifecycle.specs.Dressed.{dressed}
 use Rattle.rkt_lifecycle.specs.Ended.{IfFinished, handle_of}
 use Rattle.rkt_lifecycle.specs.Lifecycle.{Answered, Ends, Routed}
-use Rattle.rkt_lifecycle.specs.Overridden.{Overridden}
+use Rattle.rkt_dressing.specs.Overridden.{Overridden}
 use Rattle.rkt_lifecycle.specs.Relations.{Relations, callbacks}
 use Rattle.rkt_lifecycle.specs.Stands.{EndsSo, IsAnswering, IsAsking, IsBad, IsMoment, IsPeeking, IsRefusing, IsRouting, StandsIn, WaitsIn, WasAsked, WasFound, WasOpened, WasRouted, found_of, opened_at}
 use Rattle.rkt_lifecycle.specs.Tables.{SeenTables, table_of}

@@ -22,7 +22,6 @@ use Rattle.rkt_lifecycle.specs.declared.calls.AnsweredOf.{AnsweredOf}
 use Rattle.rkt_lifecycle.specs.declared.calls.AnsweredOf.TheVariants as answered
 use Rattle.rkt_lifecycle.specs.declared.calls.Departure.{Departure}
 use Rattle.rkt_lifecycle.specs.declared.calls.FairingTask.{FairingTask}
-use Rattle.rkt_lifecycle.specs.declared.calls.Underway.{Underway}
 
 -- V is the type of managed values, C that of cached values, S that of streams, F that of fairings
 
@@ -81,11 +80,6 @@ module _ {V C S F Task : Type 0} (calling : Calling (Slot F) (Seen V) (ResponseA
     AnsweredAt (answered.Done departure) =
         (departure.live.request ≡ first.request) × Leads departure.live.calls (answered_at departure) × Backs first.at.kept.shutdown departure.live.ctx.kept.shutdown departure.live.calls
     AnsweredAt (answered.Starved shutdown) = HandsBack first.at.kept.shutdown shutdown
-
-    -- what is under way behind a poll under a Gate, or what they came to
-    unfoldable pub RunGives : Gate → Progress (Underway (Departure (Seen V) (Lent C) S) Task) (AnsweredOf (Seen V) (Lent C) S Handle) → Type 0
-    RunGives gate (progress.Pending underway) = AnswerStands underway.lent underway.next × Pends gate underway.lent underway.next
-    RunGives gate (progress.Ready over) = AnsweredAt over
 
   -- what the calls stand for
   unfoldable pub StandsFor : Outgoing V C S → Answers V C S F Task → Type 0

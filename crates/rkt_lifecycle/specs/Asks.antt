@@ -22,7 +22,6 @@ use Rattle.rkt_lifecycle.specs.declared.calls.AskedOf.{AskedOf}
 use Rattle.rkt_lifecycle.specs.declared.calls.AskedOf.TheVariants as asked
 use Rattle.rkt_lifecycle.specs.declared.calls.Arrival.{Arrival}
 use Rattle.rkt_lifecycle.specs.declared.calls.FairingTask.{FairingTask}
-use Rattle.rkt_lifecycle.specs.declared.calls.Underway.{Underway}
 
 -- V is the type of managed values, B that of bodies, C that of cached values, F that of fairings
 
@@ -73,11 +72,6 @@ module _ {V B C F Task : Type 0} (calling : Calling (Slot F) (Unit {0}) (Request
     abbrev pub AskedAt : AskedOf (Seen V) B (Lent C) Handle → Type 0
     AskedAt (asked.Done arrival) = Leads arrival.live.calls (asked_at arrival) × Backs first.kept.shutdown arrival.live.ctx.kept.shutdown arrival.live.calls
     AskedAt (asked.Starved shutdown) = HandsBack first.kept.shutdown shutdown
-
-    -- what is under way behind a poll under a Gate, or what they came to
-    unfoldable pub RunGives : Gate → Progress (Underway (Arrival (Seen V) B (Lent C)) Task) (AskedOf (Seen V) B (Lent C) Handle) → Type 0
-    RunGives gate (progress.Pending underway) = AskStands underway.lent underway.next × Pends gate underway.lent underway.next
-    RunGives gate (progress.Ready over) = AskedAt over
 
   -- what the calls stand for
   unfoldable pub StandsFor : RequestAt V B C → Asks V B C F Task → Type 0

@@ -5,7 +5,6 @@ pub mod Chain
 pub mod Dressed
 pub mod Ended
 pub mod Lifecycle
-pub mod Overridden
 pub mod Peeks
 pub mod Recorded
 pub mod Relations

@@ -10,8 +10,9 @@ use Rattle.rkt_routing.specs.declared.run.Call.{Call}
 use Rattle.rkt_lifecycle.specs.Answers.{Leads as AnswersLead, Outgoing}
 use Rattle.rkt_lifecycle.specs.Asks.{Leads as AsksLead}
 use Rattle.rkt_lifecycle.specs.Beginning.{Over}
-use Rattle.rkt_lifecycle.specs.Dressed.{dressed, with_body_rule}
-use Rattle.rkt_lifecycle.specs.Overridden.{Overridden}
+use Rattle.rkt_dressing.specs.Dressing.{with_body_rule}
+use Rattle.rkt_lifecycle.specs.Dressed.{dressed}
+use Rattle.rkt_dressing.specs.Overridden.{Overridden}
 use Rattle.rkt_lifecycle.specs.Relations.{Relations, callbacks}
 use Rattle.rkt_lifecycle.specs.Tables.{SeenTables, table_of}
 

@@ -13,7 +13,7 @@ use Rattle.rkt_request.specs.Seen.{Seen}
 use Rattle.rkt_source.specs.Source.{Meaning}
 use Rattle.rkt_source.specs.declared.source.Gate.{Gate}
 use Rattle.rkt_source.specs.declared.source.SourceError.{SourceError}
-use Rattle.rkt_lifecycle.specs.Overridden.{Overridden, method_in}
+use Rattle.rkt_dressing.specs.Overridden.{Overridden, method_in}
 use Rattle.rkt_lifecycle.specs.declared.peeking.PeekingOf.{PeekingOf}
 
 -- how a source is read under a Gate

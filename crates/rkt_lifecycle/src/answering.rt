@@ -7,7 +7,7 @@ ghost use Rattle.rkt_fairing.specs.Places.{places_of};
 ghost use Rattle.rkt_request.specs.Lent.{Grows};
 ghost use Rattle.rkt_router.specs.Calling.{Polls, Starts};
 ghost use Rattle.rkt_router.specs.Calls.{GateFits, GateRule, Making, Turned, any_gate};
-ghost use Rattle.rkt_lifecycle.specs.Answers.{RunGives, Outgoing, AnswerStands, AnsweredSo, AnsweredGives, StandsFor, answered_at};
+ghost use Rattle.rkt_lifecycle.specs.Answers.{Outgoing, AnswerStands, AnsweredSo, AnsweredGives, StandsFor, answered_at};
 ghost use Rattle.rkt_lifecycle.specs.Chain.{Begins, to_call};
 
 use crate::calls::{
@@ -106,59 +106,6 @@ fn give_up<'a, T: Types>(departure: DepartureOf<'a, T>) -> Answered<'a, T>
     AnsweredOf::Starved { shutdown }
 }
 
-// Goes on under a Gate, until a fairing is Pending or all were called.
-fn run<'a, T: Types, F, Q: ResponseCallback<T, F>>(
-    alloc: Global,
-    fairings: &Fairings<F>,
-    turns: u32,
-    underway: Underway<DepartureOf<'a, T>, Q::Task>,
-    gate: Gate,
-) -> Progress<Underway<DepartureOf<'a, T>, Q::Task>, Answered<'a, T>>
-    requires stands { (first : Outgoing T.Value T.Cached T.Stream) × AnswerStands (slot_response Q.calling) any_gate fairings.now turns first underway.lent underway.next }
-    ensures { (rule : GateRule) (first : Outgoing T.Value T.Cached T.Stream) → GateFits rule gate
-        → AnswerStands (slot_response Q.calling) rule fairings.now turns first underway.entry.lent underway.entry.next
-        → RunGives (slot_response Q.calling) rule fairings.now turns first gate result }
-{
-    let Underway { mut lent, mut next } = underway;
-    let most = turns.max(1);
-    lent.live.ctx.set_gate(gate);
-    loop {
-        let Some(mut call) = next else {
-            return Progress::Ready(AnsweredOf::Done(lent));
-        };
-        let Some(fairing) = fairings.get(Callback::Response, call.place) else {
-            unreachable!();
-        };
-        let departure = &mut lent;
-        let live = &mut departure.live;
-        let turn = turn_response::<T, Slot<F>, InSlot<Q>>(
-            alloc,
-            fairing,
-            most,
-            call.turn,
-            &mut call.task,
-            &live.request,
-            &mut departure.response,
-            &mut live.ctx,
-        );
-        call.turn += 1;
-        match turn {
-            Turn::Pending => {
-                return Progress::Pending(Underway {
-                    lent,
-                    next: Some(call),
-                });
-            }
-            Turn::Over(reply) => {
-                match called::<T, F, Q>(fairings, turns, &mut lent, call.place, reply) {
-                    Ok(begun) => next = begun,
-                    Err(_) => return Progress::Ready(give_up(lent)),
-                }
-            }
-        }
-    }
-}
-
 impl<'a, T: Types, F, Q: ResponseCallback<T, F>> AnsweringOf<'a, T, F, Q> {
     /// Begins with the first fairing, which nothing is asked of before the first poll. Each may be polled `turns` times, and
     /// once where that is 0.
@@ -201,14 +148,46 @@ impl<'a, T: Types, F, Q: ResponseCallback<T, F>> AnsweringOf<'a, T, F, Q> {
             turns,
             underway,
         } = self;
-        match run::<T, F, Q>(alloc, fairings, turns, underway, gate) {
-            Progress::Pending(underway) => Progress::Pending(AnsweringOf {
+        let Underway { mut lent, mut next } = underway;
+        let most = turns.max(1);
+        lent.live.ctx.set_gate(gate);
+        loop {
+            let Some(mut call) = next else {
+                return Progress::Ready(AnsweredOf::Done(lent));
+            };
+            let Some(fairing) = fairings.get(Callback::Response, call.place) else {
+                unreachable!();
+            };
+            let departure = &mut lent;
+            let live = &mut departure.live;
+            let turn = turn_response::<T, Slot<F>, InSlot<Q>>(
                 alloc,
-                fairings,
-                turns,
-                underway,
-            }),
-            Progress::Ready(over) => Progress::Ready(over),
+                fairing,
+                most,
+                call.turn,
+                &mut call.task,
+                &live.request,
+                &mut departure.response,
+                &mut live.ctx,
+            );
+            call.turn += 1;
+            match turn {
+                Turn::Pending => {
+                    let next = Some(call);
+                    return Progress::Pending(AnsweringOf {
+                        alloc,
+                        fairings,
+                        turns,
+                        underway: Underway { lent, next },
+                    });
+                }
+                Turn::Over(reply) => {
+                    match called::<T, F, Q>(fairings, turns, &mut lent, call.place, reply) {
+                        Ok(begun) => next = begun,
+                        Err(_) => return Progress::Ready(give_up(lent)),
+                    }
+                }
+            }
         }
     }
 }

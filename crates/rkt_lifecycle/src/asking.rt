@@ -9,7 +9,7 @@ ghost use Rattle.rkt_fairing.specs.InSlot.{slot_request};
 ghost use Rattle.rkt_fairing.specs.Places.{places_of};
 ghost use Rattle.rkt_router.specs.Calling.{Polls, Starts};
 ghost use Rattle.rkt_router.specs.Calls.{GateFits, GateRule, Making, Turned, any_gate};
-ghost use Rattle.rkt_lifecycle.specs.Asks.{RunGives, AskStands, AskedSo, AskedGives, StandsFor, asked_at};
+ghost use Rattle.rkt_lifecycle.specs.Asks.{AskStands, AskedSo, AskedGives, StandsFor, asked_at};
 ghost use Rattle.rkt_lifecycle.specs.Chain.{Begins, to_call};
 
 use crate::calls::{
@@ -103,59 +103,6 @@ fn give_up<'a, T: Types>(arrival: ArrivalOf<'a, T>) -> Asked<'a, T>
     AskedOf::Starved { shutdown }
 }
 
-// Goes on under a Gate, until a fairing is Pending or all were called.
-fn run<'a, T: Types, F, P: RequestCallback<T, F>>(
-    alloc: Global,
-    fairings: &Fairings<F>,
-    turns: u32,
-    underway: Underway<ArrivalOf<'a, T>, P::Task>,
-    gate: Gate,
-) -> Progress<Underway<ArrivalOf<'a, T>, P::Task>, Asked<'a, T>>
-    requires stands { (first : RequestAt T.Value (Body (Cancellable T.Source)) T.Cached) × AskStands (slot_request P.calling) any_gate fairings.now turns first underway.lent underway.next }
-    ensures { (rule : GateRule) (first : RequestAt T.Value (Body (Cancellable T.Source)) T.Cached) → GateFits rule gate
-        → AskStands (slot_request P.calling) rule fairings.now turns first underway.entry.lent underway.entry.next
-        → RunGives (slot_request P.calling) rule fairings.now turns first gate result }
-{
-    let Underway { mut lent, mut next } = underway;
-    let most = turns.max(1);
-    lent.live.ctx.set_gate(gate);
-    loop {
-        let Some(mut call) = next else {
-            return Progress::Ready(AskedOf::Done(lent));
-        };
-        let Some(fairing) = fairings.get(Callback::Request, call.place) else {
-            unreachable!();
-        };
-        let arrival = &mut lent;
-        let live = &mut arrival.live;
-        let turn = turn_request::<T, Slot<F>, InSlot<P>>(
-            alloc,
-            fairing,
-            most,
-            call.turn,
-            &mut call.task,
-            &mut live.request,
-            &mut arrival.body,
-            &mut live.ctx,
-        );
-        call.turn += 1;
-        match turn {
-            Turn::Pending => {
-                return Progress::Pending(Underway {
-                    lent,
-                    next: Some(call),
-                });
-            }
-            Turn::Over(reply) => {
-                match called::<T, F, P>(fairings, turns, &mut lent, call.place, reply) {
-                    Ok(begun) => next = begun,
-                    Err(_) => return Progress::Ready(give_up(lent)),
-                }
-            }
-        }
-    }
-}
-
 impl<'a, T: Types, F, P: RequestCallback<T, F>> AskingOf<'a, T, F, P> {
     /// Begins with the first fairing, which nothing is asked of before the first poll. Each may be polled `turns` times, and
     /// once where that is 0.
@@ -198,14 +145,46 @@ impl<'a, T: Types, F, P: RequestCallback<T, F>> AskingOf<'a, T, F, P> {
             turns,
             underway,
         } = self;
-        match run::<T, F, P>(alloc, fairings, turns, underway, gate) {
-            Progress::Pending(underway) => Progress::Pending(AskingOf {
+        let Underway { mut lent, mut next } = underway;
+        let most = turns.max(1);
+        lent.live.ctx.set_gate(gate);
+        loop {
+            let Some(mut call) = next else {
+                return Progress::Ready(AskedOf::Done(lent));
+            };
+            let Some(fairing) = fairings.get(Callback::Request, call.place) else {
+                unreachable!();
+            };
+            let arrival = &mut lent;
+            let live = &mut arrival.live;
+            let turn = turn_request::<T, Slot<F>, InSlot<P>>(
                 alloc,
-                fairings,
-                turns,
-                underway,
-            }),
-            Progress::Ready(over) => Progress::Ready(over),
+                fairing,
+                most,
+                call.turn,
+                &mut call.task,
+                &mut live.request,
+                &mut arrival.body,
+                &mut live.ctx,
+            );
+            call.turn += 1;
+            match turn {
+                Turn::Pending => {
+                    let next = Some(call);
+                    return Progress::Pending(AskingOf {
+                        alloc,
+                        fairings,
+                        turns,
+                        underway: Underway { lent, next },
+                    });
+                }
+                Turn::Over(reply) => {
+                    match called::<T, F, P>(fairings, turns, &mut lent, call.place, reply) {
+                        Ok(begun) => next = begun,
+                        Err(_) => return Progress::Ready(give_up(lent)),
+                    }
+                }
+            }
         }
     }
 }

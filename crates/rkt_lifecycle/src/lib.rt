@@ -5,10 +5,8 @@
 mod answering;
 mod asking;
 mod calls;
-mod dress;
 mod ended;
 mod exchange;
-mod overriding;
 mod peeking;
 mod phase;
 mod tables;
@@ -18,7 +16,6 @@ pub use asking::{Asked, AskingOf};
 pub use calls::{AnsweredOf, Arrival, ArrivalOf, AskedOf, Departure, DepartureOf};
 pub use ended::{Ended, EndedOf, Run, RunOf};
 pub use exchange::{Exchange, ExchangeOf, PhaseOf};
-pub use overriding::has_one_override;
 pub use peeking::{Peeking, PeekingOf};
 pub use phase::Phase;
 pub use tables::{Tables, TablesOf};

@@ -1,9 +1,9 @@
 //! A peek at the front of a body, poll by poll.
 ghost use Rattle.rkt_lifecycle.specs.Peeks.{MethodPeeked, PeekGives, cut_reads, cuts};
 
-use crate::overriding::{method_in, override_method};
 use rkt_base::Poll;
 use rkt_data::{Data, Gate, Source};
+use rkt_dressing::{method_in, override_method};
 use rkt_http::Method;
 use rkt_request::{Body0, Ctx, Request, Types};
 use rkt_routing::Progress;

@@ -19,7 +19,8 @@ use Rattle.rkt_router.specs.declared.turn.Final.TheVariants as final
 use Rattle.rkt_router.specs.declared.turn.Turn.{Turn}
 use Rattle.rkt_router.specs.declared.turn.Turn.TheVariants as turn
 use Rattle.rkt_routing.specs.Beginning.{Beginning}
-use Rattle.rkt_routing.specs.Routed.{settled, Catches, CatcherReplies, turns_of}
+use Rattle.rkt_dressing.specs.Dressing.{settled}
+use Rattle.rkt_routing.specs.Routed.{Catches, CatcherReplies, turns_of}
 use Rattle.rkt_routing.specs.Recorded.{recorded, catcher_answer}
 use Rattle.rkt_routing.specs.Relations.{Relations}
 use Rattle.rkt_routing.specs.Stands.{Answered, Called, CatcherTurned, Catching, Caught, Chosen, Pages, StandsAt, WaitsAt}

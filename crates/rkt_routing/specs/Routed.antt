@@ -1,6 +1,7 @@
 -- How a request is routed to its response, as the list of the calls that are made. Each phase takes what follows it as its last
 -- argument, so that the whole is their composition.
 use Rattle.std.specs.Prelude.{◌≡◌, ◌==◌, ◌&&◌, not, ℕ, List, [], ◌∷◌, Bool, true, false, Option, Some, None, Result, Ok, Err, MatchBool, MatchOption, length, max, slice_get}
+use Rattle.rkt_dressing.specs.Dressing.{settled}
 use Rattle.rkt_http.specs.declared.method.Method.{Method}
 use Rattle.rkt_http.specs.declared.method.Method.TheVariants.{Get, Head}
 use Rattle.rkt_http.specs.declared.outcome.Outcome.TheVariants.{Success, Error, Forward}
@@ -43,10 +44,6 @@ mounted request route position = record request { route = Some (record { positio
 -- as often as each callback may be polled
 abbrev pub turns_of : {H K N : Type 0} → SeenTable H K N → ℕ
 turns_of table = max table.turns 1
-
--- the floor at the end of the log: the changes so far are not pending any more
-abbrev pub settled : {C : Type 0} → Kept C → Kept C
-settled kept = record kept { jar = record kept.jar { floor = length kept.jar.log } }
 
 -- where a handler's reply leads: on with a body and a status, or to an outcome; a failed turn is an Error with 500
 abbrev pub Goes : {S B : Type 0} → Final (Reply S B) → (B → Status → Type 0) → (Reply S B → Type 0) → Type 0

@@ -1,5 +1,6 @@
 //! How a status is answered: by the catcher that is chosen for it, or by its default page.
 ghost use Rattle.std.specs.Prelude.{◌≡◌, ℕ, Some, None, slice_get};
+ghost use Rattle.rkt_dressing.specs.Dressing.{settled};
 ghost use Rattle.rkt_route.specs.declared.catcher.Catching.TheVariants.{Rocket as ByRocket};
 ghost use Rattle.rkt_route.specs.declared.catcher.Catcher.{Catcher};
 ghost use Rattle.rkt_router.specs.Calls.{GateRule};
@@ -9,7 +10,6 @@ ghost use Rattle.rkt_routing.specs.Beginning.{Beginning};
 ghost use Rattle.rkt_routing.specs.Ranks.{Falls, catch_rank, catching_rank};
 ghost use Rattle.rkt_routing.specs.Recorded.{catcher_answer};
 ghost use Rattle.rkt_routing.specs.Relations.{relations};
-ghost use Rattle.rkt_routing.specs.Routed.{settled};
 ghost use Rattle.rkt_routing.specs.Stands.{Called, CatcherTurned, Caught, Chosen, LeadsOn, Moves, Pages};
 
 use crate::stage::{CatcherTask, LiveOf, Moved, MovedOf, Stage};

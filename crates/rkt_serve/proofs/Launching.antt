@@ -1,9 +1,7 @@
 -- What is launched, as a closed board leaves it.
-use Rattle.std.proofs.Common.{inl, inr, ◌≡◌, ◌<◌, ◌++◌, ◌⊎◌, ◌∙◌, ℕ, Bool, List, IsSome, Option, None, Some, Result, Ok, Err, true, false, refl, sym, ap, subst, arith}
+use Rattle.std.proofs.Common.{inl, inr, ◌≡◌, ◌<◌, ◌⊎◌, ◌∙◌, ℕ, Bool, List, Option, None, Some, Result, Ok, Err, true, false, refl, sym, ap, subst, arith}
 use Rattle.std.specs.Prelude.{IfOk, IfSome}
-use Rattle.std.proofs.lemmas.Grind.{common_steps}
-use Rattle.std.proofs.lemmas.List.Folds.{list_any-append}
-use Rattle.std.specs.List.{AllByRecursion, list_any}
+use Rattle.std.specs.List.{list_any}
 use Rattle.std.specs.Option.{ForSome}
 use Rattle.rkt_lifecycle.specs.Tables.{SeenTables}
 use Rattle.rkt_life.specs.Rocket.{SeenRocket}
@@ -13,25 +11,21 @@ use Rattle.rkt_link.specs.Listener.{ListenerMeaning, Settled}
 use Rattle.rkt_orbit.specs.Calls.{CallingAtShutdown}
 use Rattle.rkt_turn.specs.HandsBack.{HandsBack}
 use Rattle.rkt_turn.specs.Shutdown.{Handle}
-use Rattle.rkt_board.proofs.Core.{found_trip}
 use Rattle.rkt_board.specs.Board.{SoundAs}
-use Rattle.rkt_board.specs.Closed.{AllAdmitted, HasEntry as Entered}
-use Rattle.rkt_board.specs.Events.{is_abandoned, is_trip, admitted, trip_of, Ordered, IsClosed, EachEndsOnce}
+use Rattle.rkt_board.specs.Events.{is_abandoned, is_trip, admitted, trip_of}
 use Rattle.rkt_board.specs.declared.closing.ClosedOf.{ClosedOf}
-use Rattle.rkt_board.specs.declared.history.EventOf.{EventOf}
 use Rattle.rkt_board.specs.declared.history.HistoryOf.{HistoryOf}
-use Rattle.rkt_serve.proofs.Abandoning.{may_abandon}
-use Rattle.rkt_serve.proofs.Handles.{hands_back_more}
-use Rattle.rkt_serve.specs.Causes.{AllCaused, CauseAt}
-use Rattle.rkt_serve.specs.Gates.{word_in}
-use Rattle.rkt_serve.specs.Headline.{AllTimed, GoesOn, HasEntry, IsCallers, IsLegal, IsOver}
+use Rattle.rkt_worker.proofs.Abandoned.{may_abandon}
+use Rattle.rkt_routing.specs.BetweenLaws.{hands_back_more}
+use Rattle.rkt_worker.specs.Causes.{AllCaused}
+use Rattle.rkt_worker.specs.Headline.{AllTimed, GoesOn, IsLegal, IsOver}
 use Rattle.rkt_ignition.specs.declared.error.IgniteError.{IgniteError}
 use Rattle.rkt_serve.specs.Kept.{GivesBack, IfUnlit, IsLit}
 use Rattle.rkt_serve.specs.declared.error.ErrorKindOf.{ErrorKindOf}
 use Rattle.rkt_serve.specs.declared.error.ErrorKindOf.TheVariants.{Ignition, Shutdown, NoMemory}
 use Rattle.rkt_serve.specs.Left.{IsLeft}
-use Rattle.rkt_serve.specs.Serving.{Serving}
-use Rattle.rkt_serve.specs.Waiting.{MayAbandon}
+use Rattle.rkt_worker.specs.Serving.{Serving}
+use Rattle.rkt_worker.specs.Waiting.{MayAbandon}
 use Rattle.rkt_serve.specs.declared.error.LaunchedOf.{LaunchedOf}
 
 module _ {V S C R F FTask GTask STask H HTask K KTask L N X Q : Type 0} (allowed : ℕ → Type 0) (shuts : CallingAtShutdown H K N V F STask) (served : Serving V S C R F FTask GTask H HTask K KTask L) (listeners : X → ListenerMeaning) (tables : SeenTables F H K N V)
@@ -102,44 +96,6 @@ module _ {F H K N V X Q C R L : Type 0} (tables : SeenTables F H K N V) (table :
 
   pub left_window : (clocks : Q → ClockMeaning) (old : ClockMeaning) → TellsOn old (clocks closed.clock) → (clocks launched.clock).window ≡ old.window
   left_window clocks old tells = rw is.clock tells.window
-
-module _ {C R L : Type 0} where
-  -- a Trip that has a word is there, and in all that begins so
-  some_trip : (es : List (EventOf C R L)) → IsSome (word_in (trip_of es)) → list_any is_trip es ≡ true
-  some_trip es some = by_trip (trip_of es) refl some
-    where
-      by_trip : (t : Option (ℕ × ℕ)) → trip_of es ≡ t → IsSome (word_in t) → list_any is_trip es ≡ true
-      by_trip None there some = absurd (cc some)
-      by_trip (Some t) there some = found_trip es t there
-
-  any_front : (es more : List (EventOf C R L)) → list_any is_trip es ≡ true → list_any is_trip (es ++ more) ≡ true
-  any_front es more there = grind (arith, common_steps, list_any-append is_trip es more, there)
-
-module _ {V S C R F FTask GTask STask H HTask K KTask L N : Type 0} (allowed : ℕ → Type 0) (shuts : CallingAtShutdown H K N V F STask) (served : Serving V S C R F FTask GTask H HTask K KTask L) (tables : SeenTables F H K N V) where
-  pub entry_of : (given : Option (List Asked)) (es : List (EventOf C R L)) (k : ℕ) → Entered served.links (CauseAt allowed shuts served tables) given es k → HasEntry served tables given es k
-  entry_of given es k entered = record {
-    entry = entered.entry;
-    found = entered.found;
-    seen = word_in (trip_of entered.before);
-    tripped = λ some. ap (list_any is_trip) entered.stands ∙ any_front entered.before _ (some_trip entered.before some);
-    caused = entered.caused.0;
-    asks = entered.asks;
-  }
-
-  -- what is known of a closed board is what is legal
-  pub legal_of : (given : Option (List Asked)) (es seen : List (EventOf C R L)) → Ordered es → IsClosed es → AllCaused allowed shuts served tables es → EachEndsOnce es
-      → ((k : ℕ) → k < admitted es → Entered served.links (CauseAt allowed shuts served tables) given es k) → AllAdmitted given es → AllTimed served.window es → AllByRecursion IsCallers seen → es ≡ seen
-      → IsLegal allowed shuts served tables given es
-  legal_of given es seen ordered closed caused once entries all_admitted timed callers is = record {
-    ordered = ordered;
-    closed = closed;
-    caused = caused;
-    once = once;
-    entries = λ k less. entry_of given es k (entries k less);
-    all_admitted = all_admitted;
-    timed = timed;
-    callers = subst (AllByRecursion IsCallers) (sym is) callers;
-  }
 
 -- a listener that says that it never fails has not
 pub never_failed : (faulted : Bool) (old new : ListenerMeaning) → SoundAs faulted old new → old.never_faults ≡ true → faulted ≡ false

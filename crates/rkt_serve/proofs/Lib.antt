@@ -1,14 +1,4 @@
-pub mod Abandoning
-pub mod Boards
-pub mod Cutting
-pub mod Endings
-pub mod Pieces
-pub mod BodyReads
-pub mod Resting
-pub mod Sendings
+pub mod Handles
 pub mod Launching
 pub mod Lifting
 pub mod Lighting
-pub mod Meanwhile
-pub mod Handles
-pub mod Handings

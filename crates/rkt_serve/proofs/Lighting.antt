@@ -1,7 +1,7 @@
 -- What an error of a launch keeps.
 use Rattle.std.proofs.Common.{Some, None, Result, Ok, Err}
 use Rattle.std.specs.Prelude.{IfErr}
-use Rattle.rkt_serve.specs.Kept.{IfKept, IfShutdown, IfWanting}
+use Rattle.rkt_serve.specs.Kept.{IfKept, IfShutdown, IfWanting, IsLit}
 use Rattle.rkt_serve.specs.declared.error.ErrorKindOf.{ErrorKindOf}
 use Rattle.rkt_serve.specs.declared.error.ErrorKindOf.TheVariants.{Ignition, Shutdown, NoMemory}
 
@@ -28,3 +28,8 @@ if_shutdown P Q N so (Ok t) kept known = tt
 if_shutdown P Q N so (Err (NoMemory kept)) kept' known = tt
 if_shutdown P Q N so (Err (Shutdown launched)) kept known = so launched kept known
 if_shutdown P Q N so (Err (Ignition fault listener clock)) kept known = tt
+
+-- an error of what has ignited, with what is known where its shutdown failed
+pub lit_and : {M X Q T : Type 0} (P : M → Type 0) (answer : Result T (ErrorKindOf M X Q)) → IfErr answer (λ e. IsLit e) → IfErr answer (λ e. IfShutdown e P) → IfErr answer (λ e. IsLit e × IfShutdown e P)
+lit_and P (Ok t) lit known = tt
+lit_and P (Err e) lit known = (lit, known)

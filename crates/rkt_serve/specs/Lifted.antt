@@ -2,21 +2,16 @@
 use Rattle.std.specs.Prelude.{◌≡◌, ◌<◌, ◌≤◌, ◌+◌, List}
 use Rattle.rkt_board.specs.Events.{admitted, lift_calls}
 use Rattle.rkt_board.specs.declared.history.EventOf.{EventOf}
-use Rattle.rkt_fairing.specs.Life.{SeenView}
 use Rattle.rkt_life.specs.Rocket.{SeenRocket}
-use Rattle.rkt_lifecycle.specs.Tables.{SeenTables}
 use Rattle.rkt_orbit.specs.Calls.{CallingAtLiftoff}
 use Rattle.rkt_orbit.specs.Lifts.{Lifts}
 use Rattle.rkt_orbit.specs.declared.called.Called.{Called}
 use Rattle.rkt_turn.specs.HandsBack.{HandsBack}
 use Rattle.rkt_turn.specs.Shutdown.{Handle}
+use Rattle.rkt_worker.specs.View.{view_of}
 
 -- F is the type of fairings, H that of handlers, K that of catchers' handlers, N that of what sentries ask, V that of managed
 -- values
-
--- what fairings see of a rocket with these tables
-abbrev pub view_of : {F H K N V : Type 0} → SeenTables F H K N V → SeenView H K N V
-view_of tables = record { config = tables.config; managed = tables.managed; router = tables.router }
 
 -- These calls, one of each fairing that is called at liftoff, lead from a rocket to another one and to a handle of its wire. But
 -- for the fairings, its tables stay.

@@ -1,19 +1,10 @@
 //! Serving: the links of a listener, one exchange with each, and the history of it all.
 #![tactic(auto)]
 
-mod caller;
-mod causes;
 mod error;
-mod exchanging;
-mod gates;
 mod launch;
-mod looking;
-mod orbit;
-mod sending;
-mod working;
 
 pub use error::{Error, ErrorKind, ErrorKindOf, Launched, LaunchedOf};
-pub use gates::Gates;
 pub use launch::Launch;
 pub use rkt_board::{End, Entry, EntryOf, Event, EventOf, Failure, History, HistoryOf};
 pub use rkt_link::{
@@ -21,4 +12,4 @@ pub use rkt_link::{
     SendError, SystemClock,
 };
 pub use rkt_orbit::Called;
-pub use sending::send;
+pub use rkt_worker::{Gates, send};

@@ -1,5 +1,5 @@
 use Rattle.std.specs.Prelude.{◌++◌, ◌∷◌, []}
-use Rattle.rkt_fairing.proofs.Grown.{kept_grows, request_grows_again}
+use Rattle.rkt_adhoc.proofs.Grown.{kept_grows, request_grows_again}
 use Rattle.rkt_fairing.specs.Callbacks.{RequestGrows}
 use Rattle.cases_exchange.proofs.Waited.{answers_last}
 use Rattle.cases_exchange.proofs.fairing.InTurnsRequestCallbackSiteChanger.poll.Goals as goal

@@ -1,6 +1,6 @@
 use Rattle.std.specs.Prelude.{◌++◌, ◌∷◌, []}
-use Rattle.rkt_fairing.proofs.Grown.{kept_grows}
-use Rattle.rkt_fairing.specs.Changes.{response_grows}
+use Rattle.rkt_adhoc.proofs.Grown.{kept_grows}
+use Rattle.rkt_adhoc.specs.Changes.{response_grows}
 use Rattle.rkt_request.specs.LentLaws.{grows_again}
 use Rattle.cases_exchange.proofs.Waited.{answers_last}
 use Rattle.cases_exchange.proofs.fairing.InTurnsResponseCallbackSiteChanger.poll.Goals as goal

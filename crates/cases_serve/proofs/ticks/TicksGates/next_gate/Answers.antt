@@ -1,5 +1,5 @@
 use Rattle.std.proofs.Common.{◌∙◌, ℕ, Option, None, Some, option_map, ap, refl, sym}
-use Rattle.rkt_serve.specs.Gates.{word_in}
+use Rattle.rkt_worker.specs.Gates.{word_in}
 use Rattle.cases_serve.proofs.ticks.TicksGates.next_gate.Goals as goal
 
 pub returns-clause-gate : goal.returns-clause-gate

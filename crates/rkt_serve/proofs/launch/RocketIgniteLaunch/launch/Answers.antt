@@ -2,11 +2,10 @@ use Rattle.std.proofs.Common.{◌≡◌, ◌<◌, ◌∙◌, ℕ, Some, ap, sym,
 use Rattle.std.proofs.lemmas.Result.{IfErr-weaker, IfOk-weaker}
 use Rattle.rkt_board.proofs.Core.{tripped_word}
 use Rattle.rkt_board.specs.Events.{trip_of}
-use Rattle.rkt_serve.specs.Serving.{serving}
+use Rattle.rkt_worker.specs.Serving.{serving}
 use Rattle.rkt_serve.proofs.Lifting.{lifted_off}
 use Rattle.rkt_serve.proofs.Launching.{back_to, if_both, left_abandoned, left_back, left_goes_on, left_legal, left_offers, left_over, left_none_abandoned, left_settled, left_shut, left_sound, left_still, left_window, left_word, never_failed, same_wire, unlit_lit, gives_lit}
-use Rattle.rkt_serve.proofs.Abandoning.{lit_and}
-use Rattle.rkt_serve.proofs.Lighting.{if_kept, if_shutdown, if_wanting}
+use Rattle.rkt_serve.proofs.Lighting.{if_kept, if_shutdown, if_wanting, lit_and}
 use Rattle.rkt_serve.proofs.launch.RocketIgniteLaunch.launch.Goals as goal
 
 pub rejoined-closed-requires : goal.rejoined-closed-requires

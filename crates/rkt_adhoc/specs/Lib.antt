@@ -1,0 +1,3 @@
+pub mod AdHoc
+pub mod Changes
+pub mod LifeChanges

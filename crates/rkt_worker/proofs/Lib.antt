@@ -1,0 +1,12 @@
+pub mod Abandoned
+pub mod Abandoning
+pub mod Boards
+pub mod BodyReads
+pub mod Closing
+pub mod Cutting
+pub mod Endings
+pub mod Handings
+pub mod Meanwhile
+pub mod Pieces
+pub mod Resting
+pub mod Sendings

@@ -1,0 +1,8 @@
+use Rattle.rkt_worker.proofs.Resting.{closed_so}
+use Rattle.rkt_worker.proofs.caller.bring_to_close.Goals as goal
+
+pub returns-clause-closed : goal.returns-clause-closed
+returns-clause-closed g c = (closed_so _ _ _ c.close.result (c.close.ensures.due.1 c.requires.closes) c.close.ensures.adds c.requires.callers).0
+
+pub returns-clause-callers : goal.returns-clause-callers
+returns-clause-callers g c = (closed_so _ _ _ c.close.result (c.close.ensures.due.1 c.requires.closes) c.close.ensures.adds c.requires.callers).1

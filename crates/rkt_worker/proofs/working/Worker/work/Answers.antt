@@ -1,0 +1,70 @@
+use Rattle.std.proofs.Common.{◌∙◌, ap, sym}
+use Rattle.rkt_link.proofs.Telling.{tells_then}
+use Rattle.rkt_routing.specs.BetweenLaws.{hands_back_more}
+use Rattle.rkt_worker.proofs.Resting.{busy_given, busy_trip, rest_end, rest_trip}
+use Rattle.rkt_worker.proofs.working.Worker.work.Goals as goal
+
+pub loop-preserved : goal.loop-preserved
+loop-preserved g c =
+    let inv = c.loop.invariant in
+    let turned = c.in-Given.ensures.turned in
+    let served = c.serve_given.ensures in
+    let busy = busy_given c.loop.board.book.marks.items c.turn.new.board.book.marks.items c.in-Given.number c.in-Given.moment turned.0 inv.6 turned.2 in (
+      tt,
+      tt,
+      served.keeps,
+      served.name ∙ (c.turn.ensures.name ∙ inv.3),
+      tells_then _ _ _ inv.4 (tells_then _ _ _ c.turn.ensures.clock served.clock),
+      hands_back_more _ _ _ inv.5 c.in-Some-serve_given.ensures.handle,
+      rest_end served.adds.2 c.serve_given.new.board.book.marks.items c.in-Given.number served.adds.1 served.adds.0 (busy_trip c.in-Given.number 0 c.turn.new.board.book.marks.items served.adds.2 busy served.adds.3) served.adds.4,
+      c.in-Some-serve_given.ensures.handle.wire ∙ (inv.7 ∙ sym (ap (λ n. n.handle.value.wire) (served.name ∙ c.turn.ensures.name))),
+    )
+
+pub returns-in-None-serve_given-clause-rest : goal.returns-in-None-serve_given-clause-rest
+returns-in-None-serve_given-clause-rest g c =
+    let inv = c.loop.invariant in
+    let turned = c.in-Given.ensures.turned in
+    let served = c.serve_given.ensures in
+    let busy = busy_given c.loop.board.book.marks.items c.turn.new.board.book.marks.items c.in-Given.number c.in-Given.moment turned.0 inv.6 turned.2 in
+    rest_end served.adds.2 c.serve_given.new.board.book.marks.items c.in-Given.number served.adds.1 served.adds.0 (busy_trip c.in-Given.number 0 c.turn.new.board.book.marks.items served.adds.2 busy served.adds.3) served.adds.4
+
+pub returns-in-Tripped-clause-rest : goal.returns-in-Tripped-clause-rest
+returns-in-Tripped-clause-rest g c =
+    let turned = c.in-Tripped.ensures.turned in
+    rest_trip c.loop.board.book.marks.items c.turn.new.board.book.marks.items 0 turned.0 turned.1 c.loop.invariant.6 turned.2
+
+pub returns-in-None-serve_given-clause-name : goal.returns-in-None-serve_given-clause-name
+returns-in-None-serve_given-clause-name g c = c.serve_given.ensures.name ∙ (c.turn.ensures.name ∙ c.loop.invariant.3)
+
+pub returns-in-None-serve_given-clause-clock : goal.returns-in-None-serve_given-clause-clock
+returns-in-None-serve_given-clause-clock g c = tells_then _ _ _ c.loop.invariant.4 (tells_then _ _ _ c.turn.ensures.clock c.serve_given.ensures.clock)
+
+pub returns-in-None-serve_given-clause-keeps : goal.returns-in-None-serve_given-clause-keeps
+returns-in-None-serve_given-clause-keeps g c = c.serve_given.ensures.keeps
+
+pub returns-in-Tripped-clause-name : goal.returns-in-Tripped-clause-name
+returns-in-Tripped-clause-name g c = c.turn.ensures.name ∙ c.loop.invariant.3
+
+pub returns-in-Tripped-clause-handle : goal.returns-in-Tripped-clause-handle
+returns-in-Tripped-clause-handle g c = c.loop.invariant.5
+
+pub returns-in-Tripped-clause-clock : goal.returns-in-Tripped-clause-clock
+returns-in-Tripped-clause-clock g c = tells_then _ _ _ c.loop.invariant.4 c.turn.ensures.clock
+
+pub returns-in-Tripped-clause-keeps : goal.returns-in-Tripped-clause-keeps
+returns-in-Tripped-clause-keeps g c = c.turn.ensures.keeps
+
+pub returns-in-Stop-clause-name : goal.returns-in-Stop-clause-name
+returns-in-Stop-clause-name g c = c.turn.ensures.name ∙ c.loop.invariant.3
+
+pub returns-in-Stop-clause-handle : goal.returns-in-Stop-clause-handle
+returns-in-Stop-clause-handle g c = c.loop.invariant.5
+
+pub returns-in-Stop-clause-clock : goal.returns-in-Stop-clause-clock
+returns-in-Stop-clause-clock g c = tells_then _ _ _ c.loop.invariant.4 c.turn.ensures.clock
+
+pub returns-in-Stop-clause-keeps : goal.returns-in-Stop-clause-keeps
+returns-in-Stop-clause-keeps g c = c.turn.ensures.keeps
+
+pub serve_given-requires-clause-keeps : goal.serve_given-requires-clause-keeps
+serve_given-requires-clause-keeps g c = c.turn.ensures.keeps

@@ -1,0 +1,15 @@
+pub mod Begun
+pub mod Causes
+pub mod Gates
+pub mod Handing
+pub mod Headline
+pub mod Lent
+pub mod Lifecycle
+pub mod Looking
+pub mod LookingLaws
+pub mod Progress
+pub mod Rest
+pub mod Sent
+pub mod Serving
+pub mod View
+pub mod Waiting
