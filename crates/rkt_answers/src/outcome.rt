@@ -1,14 +1,30 @@
 //! What a handler answers, made of what a responder does.
 ghost use Rattle.std.specs.Prelude.{◌≡◌, IfOk, OnErr, Ok, Err};
+ghost use Rattle.std.specs.Result.{result_map_both};
 ghost use Rattle.rkt_answers.specs.Replies.{MadeBy};
 ghost use Rattle.rkt_request.specs.Lent.{MayGrow};
 
 use rkt_base::{NoMemory, Want};
 use rkt_http::{Outcome, Status};
 use rkt_request::{Ctx, Request, Types};
-use rkt_response::Responder;
+use rkt_response::{Responder, Response, ResponseResult};
 use rkt_router::RouteOutcome;
+use rkt_source::Source;
 use std::alloc::{AllocError, Global};
+
+// What a handler answers whose responder answers so.
+fn reply<S: Source, B>(
+    answer: ResponseResult<S>,
+) -> Result<Outcome<Response<S>, Status, (B, Status)>, NoMemory>
+    ensures answers { IfOk result (MadeBy (λ given. answer ≡ result_map_both (λ response. response) Want.Refused given)) }
+    ensures starves { OnErr result (answer ≡ Err Want.NoMemory) }
+{
+    match answer {
+        Ok(response) => Ok(Outcome::Success(response)),
+        Err(Want::Refused(status)) => Ok(Outcome::Error(status)),
+        Err(Want::NoMemory) => Err(AllocError),
+    }
+}
 
 /// Success of the responder's response, and Error of its status.
 pub fn from<T: Types, R: Responder<T>>(
@@ -21,11 +37,7 @@ pub fn from<T: Types, R: Responder<T>>(
     ensures starves { OnErr result (R.starves responder request.now ctx.old ctx.new) }
     ensures grows { MayGrow ctx.old ctx.new }
 {
-    match responder.respond_to(alloc, request, ctx) {
-        Ok(response) => Ok(Outcome::Success(response)),
-        Err(Want::Refused(status)) => Ok(Outcome::Error(status)),
-        Err(Want::NoMemory) => Err(AllocError),
-    }
+    reply(responder.respond_to(alloc, request, ctx))
 }
 
 /// What `from` makes of a responder, and Error of 500 where there is none.

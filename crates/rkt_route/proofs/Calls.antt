@@ -1,5 +1,5 @@
 -- What a call has answered that was handed on.
-use Rattle.std.proofs.Common.{◌≡◌, sym, subst, Result, Ok, Err}
+use Rattle.std.proofs.Common.{◌≡◌, subst, Result, Ok, Err}
 use Rattle.std.specs.Borrow.{Bor}
 use Rattle.std.specs.Fn.{Once, FnOnceReturnsAt}
 use Rattle.rkt_base.specs.Want.{IfRefused}
@@ -12,12 +12,15 @@ IfRefused-weaker (Ok x) P Q more given = tt
 IfRefused-weaker (Err (Refused e)) P Q more given = more e given
 IfRefused-weaker (Err NoMemory) P Q more given = tt
 
--- a refusal that is passed on has the same reason
-pub refused_again : {T U E : Type 0} (r : Result T (Want E)) (s : Result U (Want E)) (w : Want E) (P : E → Type 0) → r ≡ Err w → s ≡ Err w → IfRefused r P → IfRefused s P
-refused_again {T} {U} {E} r s (Refused e) P is also given = let Q : Result U (Want E) → Type 0 = λ t. IfRefused t P in
-    subst Q (sym also) (let R : Result T (Want E) → Type 0 = λ t. IfRefused t P in subst R is given)
-refused_again {T} {U} {E} r s NoMemory P is also given = let Q : Result U (Want E) → Type 0 = λ t. IfRefused t P in subst Q (sym also) tt
-
 -- what a closure gave for what is behind a reference
 pub returned_at : {F T R : Type 0} (g : Once F (Bor T × Unit {0}) R) (f : F) (x : T) (r s : R) (p : Bor T) → p.now ≡ x → r ≡ s → g.post f (p, tt) r → FnOnceReturnsAt g f x s
 returned_at {F} {T} {R} g f x r s p is same post = (p, (let P : R → Type 0 = g.post f (p, tt) in subst P same post), is)
+
+-- a refusal that is passed on, and what follows from its reason
+pub refused_on : {E : Type 0} (T U : Type 0) (w : Want E) (P : E → Type 0) → IfRefused {T = T} (Err w) P → IfRefused {T = U} (Err w) P
+refused_on T U (Refused e) P given = given
+refused_on T U NoMemory P given = tt
+
+pub refused_so_on : {E : Type 0} (T U : Type 0) (w : Want E) (P Q : E → Type 0) → ((e : E) → P e → Q e) → IfRefused {T = T} (Err w) P → IfRefused {T = U} (Err w) Q
+refused_so_on T U (Refused e) P Q more given = more e given
+refused_so_on T U NoMemory P Q more given = tt

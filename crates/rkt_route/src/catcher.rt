@@ -9,6 +9,7 @@ ghost use Rattle.rkt_route.specs.RouteUri.{path_alone, root};
 use rkt_base::{NoMemory, Text, Want};
 use rkt_http::{InvalidUri, Origin, Profile};
 use std::alloc::{AllocError, Global};
+use std::mem::replace;
 use thiserror::Error;
 
 /// A code that no catcher may have: it is no error's.
@@ -130,8 +131,20 @@ impl<C: Drop> Catcher<C> {
         // A refusal names the place where the mapper's text leaves the grammar, so that a base is never refused.
         ensures refused { IfRefused result (λ e. (text : _) × FnOnceReturnsAt F.FnOnce mapper self.base (Ok text) × LeavesAt (IsOrigin Profile.Request) (string_bytes text) e.at) }
     {
-        let base = mapper(&self.base)?;
-        self.base = read_base(alloc, base.as_str())?;
-        Ok(self)
+        let Ok(text) = mapper(&self.base) else {
+            // By calls, in which that is proved once for its type.
+            drop(self);
+            return Err(Want::NoMemory);
+        };
+        match read_base(alloc, text.as_str()) {
+            Ok(base) => {
+                drop(replace(&mut self.base, base));
+                Ok(self)
+            }
+            Err(error) => {
+                drop(self);
+                Err(error)
+            }
+        }
     }
 }

@@ -10,6 +10,7 @@ use crate::RouteUri;
 use rkt_base::{NoMemory, Seq, Text, Want};
 use rkt_http::{InvalidUri, Key, MediaType, Method, Origin, Profile};
 use std::alloc::Global;
+use std::mem::replace;
 
 /// What has to be asked before a rocket may be launched with a route.
 #[derive(Drop)]
@@ -101,12 +102,27 @@ impl<H: Drop, S: Drop> Route<H, S> {
         ensures complete { (m : MountedUri) → SpellsMounted (codes "/") info.uri.now m → GivesUnlessNoMemory result (route_of_info info m) }
         ensures refused { IfRefused result (λ e. LeavesAt (IsOrigin Profile.Route) info.uri.now e.at) }
     {
-        let name = Text::new(alloc, info.name)?;
-        let mut route = Route::ranked(alloc, info.rank, info.method, info.uri, info.handler)?;
-        route.name = Some(name);
-        route.format = info.format;
-        route.sentinels = info.sentinels;
-        Ok(route)
+        let Ok(name) = Text::new(alloc, info.name) else {
+            // By a call, in which that is proved once for its type.
+            drop(info);
+            return Err(Want::NoMemory);
+        };
+        match RouteUri::at_root(alloc, info.uri) {
+            Ok(uri) => Ok(Route {
+                name: Some(name),
+                method: info.method,
+                handler: info.handler,
+                rank: info.rank.unwrap_or(uri.default_rank()),
+                uri,
+                format: info.format,
+                sentinels: info.sentinels,
+            }),
+            Err(error) => {
+                drop(name);
+                drop(info);
+                Err(error)
+            }
+        }
     }
 
     /// The same route below another base, whose text is made from that of its own and may have a query, which is dropped.
@@ -122,7 +138,16 @@ impl<H: Drop, S: Drop> Route<H, S> {
         // A refusal names the place where the mapper's text leaves the grammar, so that a base is never refused.
         ensures refused { IfRefused result (λ e. (text : _) × FnOnceReturnsAt F.FnOnce mapper self.uri.base (Ok text) × LeavesAt (IsOrigin Profile.Request) (string_bytes text) e.at) }
     {
-        self.uri = self.uri.at_mapped(alloc, mapper)?;
-        Ok(self)
+        match self.uri.at_mapped(alloc, mapper) {
+            Ok(uri) => {
+                // By calls, in which that is proved once for its type.
+                drop(replace(&mut self.uri, uri));
+                Ok(self)
+            }
+            Err(error) => {
+                drop(self);
+                Err(error)
+            }
+        }
     }
 }

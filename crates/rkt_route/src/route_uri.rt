@@ -10,7 +10,7 @@ use crate::Segment;
 use crate::color::rank;
 use rkt_base::{NoMemory, Seq, Text, Want};
 use rkt_http::{InvalidUri, Origin, Profile, says_what_it_spells};
-use std::alloc::Global;
+use std::alloc::{AllocError, Global};
 use std::fmt;
 use std::marker::Model;
 
@@ -145,9 +145,22 @@ impl RouteUri {
         requires { IsTarget Profile.Route unmounted }
         ensures { IfOk result (λ u. u ≡ record { base = normalized base; unmounted = normalized unmounted; origin = normalized origin }) }
     {
-        let base = base.into_normalized(alloc)?;
-        let unmounted = unmounted.into_normalized(alloc)?;
-        let origin = origin.into_normalized(alloc)?;
+        let Ok(base) = base.into_normalized(alloc) else {
+            // By calls, in which that is proved once for its type.
+            drop(unmounted);
+            drop(origin);
+            return Err(AllocError);
+        };
+        let Ok(unmounted) = unmounted.into_normalized(alloc) else {
+            drop(base);
+            drop(origin);
+            return Err(AllocError);
+        };
+        let Ok(origin) = origin.into_normalized(alloc) else {
+            drop(base);
+            drop(unmounted);
+            return Err(AllocError);
+        };
         RouteUri::of_parts(alloc, base, unmounted, origin)
     }
 

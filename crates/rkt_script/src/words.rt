@@ -53,26 +53,37 @@ fn front(words: &[String]) -> Option<(&str, &str, &[String])>
     }
 }
 
+// Adds the settings of these words.
+fn set_all(table: &mut ConfigTable, words: &[String]) -> Result<(), Want<NoCommand>>
+    ensures set { OnOk result (Settings (map string_bytes words.now) table.old table.new) }
+    ensures refused { IfRefused result (λ _. (set : Table) → ¬ Settings (map string_bytes words.now) table.old set) }
+{
+    let mut rest = words;
+    while let Some((flag, word, more)) = front(rest) {
+        if flag != "--config" {
+            return Err(Want::Refused(NoCommand));
+        }
+        match set(table, word) {
+            Ok(()) => rest = more,
+            Err(error) => return Err(error),
+        }
+    }
+    if rest.is_empty() {
+        Ok(())
+    } else {
+        Err(Want::Refused(NoCommand))
+    }
+}
+
 // What the words behind the first set.
 fn settings(alloc: Global, words: &[String]) -> Result<ConfigTable, Want<NoCommand>>
     ensures read { IfOk result (λ table. Settings (map string_bytes words.now) [] table) }
     ensures refused { IfRefused result (λ _. (table : Table) → ¬ Settings (map string_bytes words.now) [] table) }
 {
     let mut table = ConfigTable::new(alloc);
-    let mut rest = words;
-    while let Some((flag, word, more)) = front(rest) {
-        if flag != "--config" {
-            return Err(Want::Refused(NoCommand));
-        }
-        match set(&mut table, word) {
-            Ok(()) => rest = more,
-            Err(error) => return Err(error),
-        }
-    }
-    if rest.is_empty() {
-        Ok(table)
-    } else {
-        Err(Want::Refused(NoCommand))
+    match set_all(&mut table, words) {
+        Ok(()) => Ok(table),
+        Err(error) => Err(error),
     }
 }
 

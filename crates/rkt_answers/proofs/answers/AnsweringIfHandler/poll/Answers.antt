@@ -1,5 +1,16 @@
-use Rattle.rkt_answers.proofs.Values.{grown_on}
+use Rattle.std.proofs.Common.{◌∙◌, ◌++◌, ◌∷◌, []}
+use Rattle.rkt_answers.proofs.Values.{attempt_polled, gate_kept, grown_on}
 use Rattle.rkt_answers.proofs.answers.AnsweringIfHandler.poll.Goals as goal
+
+pub returns-in-Ok-clause-gate : goal.returns-in-Ok-clause-gate
+returns-in-Ok-clause-gate g c =
+    gate_kept c.answer.new.ctx c.outcome_step.new.ctx c.outcome_step.ensures.grows ∙ gate_kept c.args.ctx.now c.answer.new.ctx c.in-Ok.ensures.grows
+
+pub returns-in-Ok-clause-polls : goal.returns-in-Ok-clause-polls
+returns-in-Ok-clause-polls g c = λ body before gates n begun.
+    attempt_polled (λ handler. g.A.AnswersIf.may handler.0) g.A.Value.Responder.may c.args.self.now (record { request = c.args.request.now; body = body }) before c.args.ctx.now c.answer.new.ctx
+    c.outcome_step.new.ctx (gates ++ c.args.ctx.now.gate ∷ []) n c.args.task.now c.outcome_step.new.task c.in-Ok.outcome c.outcome_step.result begun c.in-Ok.ensures.answers c.in-Ok.ensures.grows
+    (c.outcome_step.ensures.steps body begun.0) c.outcome_step.ensures.grows
 
 pub returns-in-Err-clause-polls : goal.returns-in-Err-clause-polls
 returns-in-Err-clause-polls g c = λ body before gates n begun. (begun.0, grown_on before c.args.ctx.now c.answer.new.ctx begun.1 c.in-Err.ensures.grows, begun.2)

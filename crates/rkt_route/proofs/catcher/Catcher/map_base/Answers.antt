@@ -1,28 +1,28 @@
-use Rattle.std.proofs.Common.{◌≡◌, rules, refl, subst, List, ℕ, Err}
+use Rattle.std.proofs.Common.{refl, subst, List, ℕ}
 use Rattle.rkt_grammar.specs.Grammar.{LeavesAt}
-use Rattle.rkt_uri.specs.Origin.{IsOrigin, Spells}
+use Rattle.rkt_uri.specs.Origin.{IsOrigin, Spells, Target}
 use Rattle.rkt_uri.specs.declared.origin_place.Profile.TheVariants.{Request}
-use Rattle.rkt_route.proofs.Calls.{IfRefused-weaker, refused_again, returned_at}
+use Rattle.rkt_route.specs.declared.catcher.Catcher.{Catcher}
+use Rattle.rkt_route.proofs.Calls.{refused_so_on, returned_at}
 use Rattle.rkt_route.proofs.catcher.Catcher.map_base.Goals as goal
 
-pub returns-in_err-self-clause-refused : goal.returns-in_err-self-clause-refused
-returns-in_err-self-clause-refused g c =
-    let again : c.from_residual-in_err-self.result ≡ Err c.in_err-self.field-0.0 = search rules in
-    refused_again c.read_base.result c.from_residual-in_err-self.result c.in_err-self.field-0.0 _ c.in_err-self.was again
-    (IfRefused-weaker c.read_base.result (λ e. LeavesAt (IsOrigin Request) c.as_str.result.now e.at) _
+pub returns-clause-refused : goal.returns-clause-refused
+returns-clause-refused g c =
+    refused_so_on Target (Catcher g.row.C.Denot) c.in-Err.error (λ e. LeavesAt (IsOrigin Request) c.as_str.result.now e.at) _
     (λ e leaves. (
-      c.in_ok-base.base,
-      returned_at g.F.FnOnce c.args.mapper c.args.self.base c.mapper.result _ _ refl c.in_ok-base.was c.mapper.ensures,
+      c.in-Ok.text,
+      returned_at g.F.FnOnce c.args.mapper c.args.self.base c.mapper.result _ _ refl c.in-Ok.is c.mapper.ensures,
       subst (λ (text : List ℕ). LeavesAt (IsOrigin Request) text e.at) c.as_str.ensures.value leaves,
-    )) c.read_base.ensures.refused)
+    )) c.in-Err.ensures.refused
 
-pub returns-clause-accepted : goal.returns-clause-accepted
-returns-clause-accepted g c = (
-  c.in_ok-base.base,
-  returned_at g.F.FnOnce c.args.mapper c.args.self.base c.mapper.result _ _ refl c.in_ok-base.was c.mapper.ensures,
-  record {
-    base = c.in_ok-self.ensures.accepted.0;
-    spelled = subst (λ (text : List ℕ). Spells Request text c.in_ok-self.ensures.accepted.0) c.as_str.ensures.value c.in_ok-self.ensures.accepted.1;
-    kept = rw c.in_ok-self.ensures.accepted.2 refl;
-  },
-)
+pub returns-in-Ok-read_base-clause-accepted : goal.returns-in-Ok-read_base-clause-accepted
+returns-in-Ok-read_base-clause-accepted g c =
+    let accepted = c.in-Ok-read_base.ensures.accepted in (
+      c.in-Ok.text,
+      returned_at g.F.FnOnce c.args.mapper c.args.self.base c.mapper.result _ _ refl c.in-Ok.is c.mapper.ensures,
+      record {
+        base = accepted.0;
+        spelled = subst (λ (text : List ℕ). Spells Request text accepted.0) c.as_str.ensures.value accepted.1;
+        kept = rw (c.replace.ensures.after, accepted.2) refl;
+      },
+    )
