@@ -1,3 +1,4 @@
+pub mod Adding
 pub mod Layers
 pub mod Meeting
 pub mod OfRoutes

@@ -1,6 +1,7 @@
 //! Ignition: its steps in order, each of which may refuse.
-ghost use Rattle.std.specs.Prelude.{◌≡◌, [], List, IfOk, OnOk};
+ghost use Rattle.std.specs.Prelude.{◌≡◌, [], List, None, IfOk, OnOk};
 ghost use Rattle.rkt_base.specs.Want.{IfRefused};
+ghost use Rattle.rkt_config.specs.Config.{IsConfig, first_bad};
 ghost use Rattle.rkt_ignition.specs.Calls.{SeenCall};
 ghost use Rattle.rkt_ignition.specs.Ignites.{IgnitesAll};
 ghost use Rattle.rkt_ignition.specs.Rounds.{HavePassed, RefusesCalls, RefusesFairings, RefusesRounds};
@@ -13,7 +14,7 @@ use crate::routed::routed;
 use crate::{IgniteCall, IgniteError, IgnitedPartsOf};
 use rkt_base::{NoMemory, Seq, Want};
 use rkt_fairing::{Attach, Building, Fairings, IgniteCallback, Info, Parts};
-use rkt_request::Types;
+use rkt_request::{Config, Types};
 use rkt_sentinel::Aborts;
 use std::alloc::Global;
 use std::mem::replace;
@@ -38,6 +39,37 @@ fn copied(alloc: Global, infos: &[Info]) -> Result<Seq<Info>, NoMemory>
     Ok(copy)
 }
 
+// What is made of what the fairings left, with the configuration that was read of it.
+fn joined<A: Parts, F: Drop>(
+    alloc: Global,
+    attached: Fairings<F>,
+    building: Building<A, F>,
+    config: Config,
+) -> Result<IgnitedParts<A, F>, Want<IgniteError>>
+    requires config { IsConfig building.table config }
+    requires accepted { first_bad building.table ≡ None }
+    ensures ok { IfOk result (IsMadeOf (record { attached = attached; building = building })) }
+    ensures refused { IfRefused result (RefusesTable building.table) }
+{
+    let parts = building.into_parts();
+    let Ok(router) = routed(alloc, parts.routes, parts.catchers) else {
+        // By calls, in which that is proved once for their types.
+        drop(attached);
+        drop(config);
+        drop(parts.fairings);
+        drop(parts.managed);
+        drop(parts.table);
+        return Err(Want::NoMemory);
+    };
+    Ok(IgnitedPartsOf {
+        router,
+        fairings: attached,
+        config,
+        managed: parts.managed,
+        table: parts.table,
+    })
+}
+
 // What is made of what the fairings left.
 fn made<A: Parts, F: Drop>(
     alloc: Global,
@@ -47,16 +79,15 @@ fn made<A: Parts, F: Drop>(
     ensures ok { IfOk result (IsMadeOf (record { attached = attached; building = building })) }
     ensures refused { IfRefused result (RefusesTable building.table) }
 {
-    let config = read_config(alloc, &building.table)?;
-    let parts = building.into_parts();
-    let router = routed(alloc, parts.routes, parts.catchers)?;
-    Ok(IgnitedPartsOf {
-        router,
-        fairings: attached,
-        config,
-        managed: parts.managed,
-        table: parts.table,
-    })
+    match read_config(alloc, &building.table) {
+        Ok(config) => joined::<A, F>(alloc, attached, building, config),
+        Err(refused) => {
+            // By calls, in which that is proved once for their types.
+            drop(attached);
+            drop(building);
+            Err(refused)
+        }
+    }
 }
 
 // The same, where it is accepted.
@@ -70,8 +101,14 @@ fn ready<A: Parts<Sentinel: Aborts<A>>, F: Drop>(
     ensures refused { IfRefused result (RefusesLeft A.Sentinel.may (record { attached = attached; building = building })) }
 {
     let parts = made::<A, F>(alloc, attached, building)?;
-    accept::<A, F, A::Handler, A::Catch, A::Sentinel>(alloc, &parts)?;
-    Ok(parts)
+    match accept::<A, F, A::Handler, A::Catch, A::Sentinel>(alloc, &parts) {
+        Ok(()) => Ok(parts),
+        Err(refused) => {
+            // By a call, in which that is proved once for its type.
+            drop(parts);
+            Err(refused)
+        }
+    }
 }
 
 // Refuses where a call was not done, or a singleton came too late.
@@ -138,6 +175,13 @@ where
     ensures complete { IsValid P.calling F.key F.info A.Sentinel.may building → IfRefused result (λ _. ⊥) }
 {
     let mut attached = replace(&mut building.fairings, Fairings::new(alloc));
-    called::<A, F, P>(alloc, &mut attached, &mut building)?;
-    ready::<A, F>(alloc, attached, building)
+    match called::<A, F, P>(alloc, &mut attached, &mut building) {
+        Ok(()) => ready::<A, F>(alloc, attached, building),
+        Err(refused) => {
+            // By calls, in which that is proved once for their types.
+            drop(attached);
+            drop(building);
+            Err(refused)
+        }
+    }
 }

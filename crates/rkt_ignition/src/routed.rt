@@ -4,7 +4,7 @@ ghost use Rattle.std.specs.Prelude.{◌≡◌, ◌++◌, IfOk, OnOk};
 use rkt_base::NoMemory;
 use rkt_route::{Catcher, Route};
 use rkt_router::Router;
-use std::alloc::Global;
+use std::alloc::{AllocError, Global};
 
 // All of these behind the others, in order.
 fn add_routes<H: Drop, K: Drop, N: Drop>(
@@ -41,7 +41,17 @@ pub(crate) fn routed<H: Drop, K: Drop, N: Drop>(
     ensures { IfOk result (λ router. router ≡ record { routes = routes.items; catchers = catchers.items }) }
 {
     let mut router = Router::new(alloc);
-    add_routes(&mut router, routes)?;
-    add_catchers(&mut router, catchers)?;
-    Ok(router)
+    let Ok(()) = add_routes(&mut router, routes) else {
+        // By calls, in which that is proved once for their types.
+        drop(router);
+        drop(catchers);
+        return Err(AllocError);
+    };
+    match add_catchers(&mut router, catchers) {
+        Ok(()) => Ok(router),
+        Err(_) => {
+            drop(router);
+            Err(AllocError)
+        }
+    }
 }

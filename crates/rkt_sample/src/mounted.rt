@@ -117,7 +117,11 @@ fn route_below(
 {
     // So the base is what the text spells.
     says_what_it_spells();
-    let text = String::from_str(alloc, base)?;
+    let Ok(text) = String::from_str(alloc, base) else {
+        // By a call, in which that is proved once for its type.
+        drop(route);
+        return Err(AllocError);
+    };
     match route.map_base(alloc, move |_own| Ok(text)) {
         Ok(moved) => Ok(moved),
         Err(Want::Refused(_)) => unreachable!(),
@@ -188,7 +192,11 @@ fn catcher_below(
 {
     // So the base is what the text spells.
     says_what_it_spells();
-    let text = String::from_str(alloc, base)?;
+    let Ok(text) = String::from_str(alloc, base) else {
+        // By a call, in which that is proved once for its type.
+        drop(catcher);
+        return Err(AllocError);
+    };
     match catcher.map_base(alloc, move |_own| Ok(text)) {
         Ok(moved) => Ok(moved),
         Err(Want::Refused(_)) => unreachable!(),

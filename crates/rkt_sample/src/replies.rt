@@ -111,7 +111,11 @@ pub(crate) fn flash<T: Types>(
 {
     let response = to_page(alloc, request, ctx)?;
     let flash = Flash::success(alloc, response, "It worked!")?;
-    flash.add_to(alloc, ctx.cookies_mut())?;
+    let Ok(()) = flash.add_to(alloc, ctx.cookies_mut()) else {
+        // By a call, in which that is proved once for its type.
+        drop(flash);
+        return Err(AllocError);
+    };
     Ok(Outcome::Success(flash.into_inner()))
 }
 

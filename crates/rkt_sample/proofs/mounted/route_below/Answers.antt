@@ -7,7 +7,7 @@ unreachable-requires c =
     let leaves = rw c.in-Err-Refused.field-0-is at c.in-Err-Refused.ensures.refused in
     base_stands c.args.base.now _ _ (search (rules, leaves.1)) c.requires leaves.2
 
-pub returns-in-Ok : goal.returns-in-Ok
-returns-in-Ok c =
-    let moves = c.in-Ok.ensures.accepted in
+pub returns-in-Ok-map_base : goal.returns-in-Ok-map_base
+returns-in-Ok-map_base c =
+    let moves = c.in-Ok-map_base.ensures.accepted in
     moved_route c.says_what_it_spells.ensures c.args.route c.args.base.now _ _ (search (rules, moves.1)) moves.2
