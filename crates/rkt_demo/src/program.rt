@@ -145,14 +145,30 @@ pub fn run<R: Wait + Threads, S: Source, K: Sink, C: Clock>(
     };
     let script = match read_all(rt, alloc, source, SCRIPT_LIMIT + 1) {
         Ok(script) => script,
-        Err(StreamError::Fault) => return 4,
-        Err(StreamError::NoMemory) => return 6,
+        Err(StreamError::Fault) => {
+            // By calls, in which that is proved once for each type.
+            drop(table);
+            return 4;
+        }
+        Err(StreamError::NoMemory) => {
+            drop(table);
+            return 6;
+        }
     };
     let requests = match parse_script(alloc, script.as_slice()) {
         Ok(requests) => requests,
-        Err(Want::Refused(bad)) => return refuse_line(rt, alloc, sink, bad.number),
-        Err(Want::NoMemory) => return 6,
+        Err(Want::Refused(bad)) => {
+            drop(script);
+            drop(table);
+            return refuse_line(rt, alloc, sink, bad.number);
+        }
+        Err(Want::NoMemory) => {
+            drop(script);
+            drop(table);
+            return 6;
+        }
     };
+    drop(script);
     match serve_with(rt, alloc, table, requests, clock) {
         Ok(text) => write_text(rt, sink, text.as_slice()),
         Err(Want::Refused(_)) => refuse_config(rt, sink),

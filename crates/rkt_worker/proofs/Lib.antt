@@ -7,6 +7,7 @@ pub mod Cutting
 pub mod Endings
 pub mod Handings
 pub mod Meanwhile
+pub mod Outcomes
 pub mod Pieces
 pub mod Resting
 pub mod Sendings

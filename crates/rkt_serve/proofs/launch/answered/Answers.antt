@@ -1,22 +1,67 @@
-use Rattle.std.proofs.Common.{◌∙◌, ap, refl, subst, sym}
+use Rattle.std.proofs.Common.{◌≡◌, List, ℕ, ap, refl, subst, sym, ◌∙◌}
+use Rattle.rkt_lifecycle.specs.Tables.{SeenTables}
+use Rattle.rkt_life.specs.Rocket.{SeenRocket}
 use Rattle.rkt_turn.specs.HandsBack.{HandsBack}
+use Rattle.rkt_turn.specs.Shutdown.{Handle}
+use Rattle.rkt_board.specs.declared.closing.ClosedOf.{ClosedOf}
+use Rattle.rkt_serve.specs.Left.{IsLeft}
 use Rattle.rkt_serve.proofs.Handles.{hands_back_same}
 use Rattle.rkt_serve.proofs.launch.answered.Goals as goal
 
-pub returns-then-over-clause-ok : goal.returns-then-over-clause-ok
-returns-then-over-clause-ok g c =
-    let rocket = c.into_ignite.ensures ∙ c.from_parts.ensures in
+-- what is closed is left with a rocket of these parts
+left_with : {F H K N V L C R : Type 0} (tables : SeenTables F H K N V) (table : List (List ℕ × List ℕ)) (closed : ClosedOf L C Handle R) (rocket : SeenRocket F H K N V) → rocket ≡ record { tables = tables; table = table; handle = closed.handle }
+    → IsLeft tables table closed (record { rocket = rocket; listener = closed.listener; clock = closed.clock; history = closed.history })
+left_with tables table closed rocket is = record {
+  tables_are = ap (λ r. r.tables) is;
+  table_is = ap (λ r. r.table) is;
+  handle = subst (λ h. HandsBack closed.handle h) (sym (ap (λ r. r.handle) is)) (hands_back_same closed.handle);
+  listener = refl;
+  clock = refl;
+  history = refl;
+}
+
+pub returns-then-failed : goal.returns-then-failed
+returns-then-failed g c =
+    let kind = c.new.ensures in
     record {
-      tables_are = ap (λ r. r.tables) rocket;
-      table_is = ap (λ r. r.table) rocket;
-      handle = subst (λ h. HandsBack c.args.closed.handle h) (sym (ap (λ r. r.handle) rocket)) (hands_back_same c.args.closed.handle);
-      listener = refl;
-      clock = refl;
-      history = refl;
+      ok = tt;
+      over = tt;
+      sound = tt;
+      none_abandoned = tt;
+      kept = rw kind (left_with c.args.tables c.args.table c.args.closed _ (c.into_ignite.ensures ∙ c.from_parts.ensures));
+      kept_sound = rw kind tt;
+      kept_none_abandoned = rw kind tt;
+      kept_goes_on = rw kind tt;
+      shutdown = rw kind (c.has_failed-failed.ensures.failed c.if-failed.true);
+      lit = rw kind tt;
     }
 
-pub returns-then-over-clause-over : goal.returns-then-over-clause-over
-returns-then-over-clause-over g c = c.is_over-over.ensures.found c.if-over.true
+pub returns-then-over : goal.returns-then-over
+returns-then-over g c = record {
+  ok = left_with c.args.tables c.args.table c.args.closed _ (c.into_ignite.ensures ∙ c.from_parts.ensures);
+  over = c.is_over-over.ensures.found c.if-over.true;
+  sound = c.has_failed-failed.ensures.sound c.if-failed.false;
+  none_abandoned = c.has_failed-failed.ensures.none_abandoned c.if-failed.false;
+  kept = tt;
+  kept_sound = tt;
+  kept_none_abandoned = tt;
+  kept_goes_on = tt;
+  shutdown = tt;
+  lit = tt;
+}
 
-pub returns-then-failed-clause-shutdown : goal.returns-then-failed-clause-shutdown
-returns-then-failed-clause-shutdown g c = rw c.new.ensures (c.has_failed-failed.ensures.failed c.if-failed.true)
+pub returns : goal.returns
+returns g c =
+    let kind = c.new-2.ensures in
+    record {
+      ok = tt;
+      over = tt;
+      sound = tt;
+      none_abandoned = tt;
+      kept = rw kind (left_with c.args.tables c.args.table c.args.closed _ (c.into_ignite.ensures ∙ c.from_parts.ensures));
+      kept_sound = rw kind (c.has_failed-failed.ensures.sound c.if-failed.false);
+      kept_none_abandoned = rw kind (c.has_failed-failed.ensures.none_abandoned c.if-failed.false);
+      kept_goes_on = rw kind (c.is_over-over.ensures.goes_on c.if-over.false, c.is_over-over.ensures.trip c.if-over.false);
+      shutdown = rw kind tt;
+      lit = rw kind tt;
+    }

@@ -66,3 +66,41 @@ returns g c =
       complete = λ valid never. lit_and _ c.answered.result c.answered.ensures.lit (if_shutdown _ _ _ (λ l is failed. left_abandoned g.A.Reason.Reason.allowed g.A.Fairing.Shuts.ShutdownCallback.calling (serving g.A-Fairing-Requests-RequestCallback.calling g.A.Fairing.Responses.ResponseCallback.calling g.A-Handler-Handler.calling g.A.Catch.CatchHandler.calling g.A.Source.Source.meaning g.A.Stream.Source.meaning g.L.Link.Link.meaning (g.C.Clock.meaning c.args.clock).window) tables table closed l is
           (never_failed closed.faulted (g.L.Listener.meaning c.args.listener) (g.L.Listener.meaning closed.listener) known.sound never) known.legal.caused known.legal.timed failed) c.answered.result kept (rw joined.2 at c.answered.ensures.shutdown));
     }
+
+pub returns-in_default : goal.returns-in_default
+returns-in_default g c =
+    let kind = c.new.ensures in
+    record {
+      tables = tt;
+      handle = tt;
+      ordered = tt;
+      caused = tt;
+      closed = tt;
+      ended = tt;
+      sound = tt;
+      none_abandoned = tt;
+      requests = tt;
+      settled = tt;
+      offers = tt;
+      word = tt;
+      still = tt;
+      ends = tt;
+      entries = tt;
+      moments = tt;
+      callers = tt;
+      window = tt;
+      kept_tables = rw kind tt;
+      kept_handle = rw kind tt;
+      kept_legal = rw kind tt;
+      kept_sound = rw kind tt;
+      kept_none_abandoned = rw kind tt;
+      kept_settled = rw kind tt;
+      kept_goes_on = rw kind tt;
+      kept_word = rw kind tt;
+      kept_still = rw kind tt;
+      kept_window = rw kind tt;
+      refused = rw kind tt;
+      shutdown = rw kind tt;
+      outside = rw kind tt;
+      complete = λ valid never. rw kind (tt, tt);
+    }

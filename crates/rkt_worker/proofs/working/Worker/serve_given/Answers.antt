@@ -1,4 +1,5 @@
 use Rattle.std.proofs.Common.{ℕ, Option, subst, sym, ap, ◌∙◌, arith}
+use Rattle.rkt_link.proofs.Telling.{tells_then}
 use Rattle.rkt_link.specs.Clock.{IsWithin}
 use Rattle.rkt_board.proofs.Tripping.{stays_open}
 use Rattle.rkt_board.specs.Board.{IsCutWithin}
@@ -61,10 +62,16 @@ end-requires-clause-caused g c moment late =
       λ run is. saw_trip c.note_word-back.result c.serve-entry.result.1 (events last) run.calls c.note_word-back.ensures.unseen c.note_word-back.ensures.trip (served.words run is),
     )
 
-pub returns-clause-adds : goal.returns-clause-adds
-returns-clause-adds g c =
-    let trips = trips_then 0 c.args.board.now.book.marks.items c.serve-entry.new.board.book.marks.items c.note_word-back.new.board.book.marks.items c.note_word-back.ensures.keeps.legal.ordered c.serve-entry.ensures.adds c.note_word-back.ensures.adds in
-    (c.serve-entry.result.0, c.end.ensures.adds.0, c.note_word-back.new.board.book.marks.items, trips, c.end.ensures.adds.1)
-
-pub returns-clause-handle : goal.returns-clause-handle
-returns-clause-handle g c = still_back c.note_word-back.result c.serve-entry.result.1 c.args.shutdown c.note_word-back.ensures.unseen c.serve-entry.ensures.handle
+pub returns : goal.returns
+returns g c =
+    let served = c.serve-entry.ensures in
+    let noted = c.note_word-back.ensures in
+    let ended = c.end.ensures in
+    let trips = trips_then 0 c.args.board.now.book.marks.items c.serve-entry.new.board.book.marks.items c.note_word-back.new.board.book.marks.items noted.keeps.legal.ordered served.adds noted.adds in
+    record {
+      name = ended.name ∙ (noted.name ∙ served.name);
+      adds = (c.serve-entry.result.0, ended.adds.0, c.note_word-back.new.board.book.marks.items, trips, ended.adds.1);
+      handle = still_back c.note_word-back.result c.serve-entry.result.1 c.args.shutdown noted.unseen served.handle;
+      clock = tells_then _ _ _ served.clock (tells_then _ _ _ noted.clock ended.clock);
+      keeps = ended.keeps;
+    }
