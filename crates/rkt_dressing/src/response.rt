@@ -56,7 +56,8 @@ fn name_server<S: Source>(response: &mut Response<S>, ident: &str) -> Result<(),
     response.adjoin_raw_header("Server", ident)
 }
 
-/// Sends the cookies that are pending, and names the server.
+/// Sends the cookies that are pending, and names the server. Where there is no memory, a part of that may be done: whoever calls
+/// it then lets response and context go.
 pub fn dress<T: Types>(
     alloc: Global,
     ctx: &mut Ctx<T>,
