@@ -5,14 +5,15 @@ ghost use Rattle.rkt_link.specs.Memory.{listener_meaning};
 use crate::app::{Site, Stopped, rocket};
 use crate::built::count_links;
 use crate::error::CaseError;
-use crate::launch::{listener, refused};
+use crate::launch::listener;
 use crate::order::events_text;
 use crate::setting::Setting;
 use crate::words::{first_word, number, numbers};
 use rkt_base::{NoMemory, Poll};
 use rkt_life::{Ignite, Rocket};
 use rkt_serve::{
-    Accepted, Clock, Launch, Launched, LaunchedOf, ListClock, ListListener, Listener, MemoryLink,
+    Accepted, Clock, Error, Launch, Launched, LaunchedOf, ListClock, ListListener, Listener,
+    MemoryLink,
 };
 use rkt_turn::Shutdown;
 use std::alloc::Global;
@@ -65,6 +66,12 @@ impl Listener for Bell {
 }
 
 type Over = Launched<Site, Bell, AlarmClock>;
+
+/// Want of memory, which is what is left of the errors of a rocket that has ignited.
+fn refused(error: Error<Site, Bell, AlarmClock>) -> CaseError {
+    let _text = error.pretty_print();
+    CaseError::NoMemory
+}
 
 fn launched<R: Wait + Threads>(
     rt: &R,

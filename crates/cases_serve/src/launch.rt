@@ -11,8 +11,8 @@ use crate::pieces::ended;
 use crate::setting::Setting;
 use crate::words::{first_word, number, numbers};
 use rkt_serve::{
-    Clock, Entry, Error, ErrorKindOf, EventOf, History, Launch, Launched, ListClock, ListListener,
-    Listener, MemoryLink,
+    Entry, Error, ErrorKindOf, EventOf, History, Launch, Launched, ListClock, ListListener,
+    MemoryLink,
 };
 use std::alloc::{AllocError, Global};
 use std::sync::Wait;
@@ -77,7 +77,7 @@ pub fn history_text(
 }
 
 /// Want of memory, which is what is left of the errors of a rocket that has ignited.
-pub fn refused<L: Listener, C: Clock>(error: Error<Site, L, C>) -> CaseError {
+pub fn refused(error: Error<Site, ListListener, ListClock>) -> CaseError {
     let _text = error.pretty_print();
     CaseError::NoMemory
 }

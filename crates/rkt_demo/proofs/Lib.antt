@@ -16,4 +16,5 @@ pub mod SampleCalls
 pub mod SectionsOnce
 pub mod Shielding
 pub mod Showing
+pub mod Statuses
 pub mod Stops

@@ -1,5 +1,5 @@
 //! The program: reads the words and the script, serves, and writes.
-ghost use Rattle.std.specs.Prelude.{◌≡◌, ◌⊎◌, ◌≤◌, ◌+◌, List, ℕ, false, map, string_bytes};
+ghost use Rattle.std.specs.Prelude.{◌≡◌, ◌⊎◌, ◌≤◌, ◌+◌, List, ℕ, IfOk, false, map, string_bytes};
 ghost use Rattle.rkt_base.specs.Counts.{Rose};
 ghost use Rattle.rkt_source.specs.Sink.{Gains};
 ghost use Rattle.rkt_demo.specs.Program.{OfCommand, IsAccepted, OfScript, IsScript, IsGoodScript, IsFirstBadLine, IsText, IsAllRead, refusal};
@@ -9,7 +9,7 @@ ghost use Rattle.rkt_script.specs.Streams.{GainsFront, GainsUnlessRefused};
 ghost use Rattle.rkt_script.specs.Words.{Commands, IsCommand, IsStatus, Table};
 
 use crate::serving::serve_with;
-use rkt_base::Want;
+use rkt_base::{NoMemory, Want};
 use rkt_data::{Sink, Source};
 use rkt_script::{
     SCRIPT_LIMIT, StreamError, USAGE, parse_script, read_all, read_command, sets_once, write_all,
@@ -35,13 +35,20 @@ fn refuse_words<R: Wait, K: Sink>(rt: &R, sink: &mut K) -> u8
     }
 }
 
+// How the first line that is not of the grammar is named.
+fn refusal_text(alloc: Global, number: usize) -> Result<String, NoMemory>
+    ensures { IfOk result (λ text. string_bytes text ≡ refusal number) }
+{
+    format!(in alloc; "script line {number}\n")
+}
+
 // Names the first line that is not of the grammar.
 fn refuse_line<R: Wait, K: Sink>(rt: &R, alloc: Global, sink: &mut K, number: usize) -> u8
     ensures known { (result ≡ 3) ⊎ (result ≡ 6) }
     ensures script { result ≡ 3 → GainsUnlessRefused (K.meaning sink.old) (K.meaning sink.new) (refusal number) }
     ensures front { GainsFront (K.meaning sink.old) (K.meaning sink.new) (refusal number) }
 {
-    let Ok(text) = format!(in alloc; "script line {number}\n") else {
+    let Ok(text) = refusal_text(alloc, number) else {
         return 6;
     };
     match write_all(rt, sink, text.as_bytes()) {

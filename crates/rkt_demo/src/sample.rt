@@ -114,13 +114,20 @@ fn with_routes<Q: StopReason>(
 {
     // So the routes' bases are origins.
     says_what_it_spells();
-    let routes = routes(alloc)?;
+    let Ok(routes) = routes(alloc) else {
+        // By a call, in which that is proved once for its type.
+        drop(rocket);
+        return Err(AllocError);
+    };
     match rocket.mount(alloc, "/", routes) {
         Ok(mounted) => Ok(mounted),
-        Err(Handed { rocket: _, error }) => match error {
-            Want::Refused(_) => unreachable!(),
-            Want::NoMemory => Err(AllocError),
-        },
+        Err(Handed { rocket, error }) => {
+            drop(rocket);
+            match error {
+                Want::Refused(_) => unreachable!(),
+                Want::NoMemory => Err(AllocError),
+            }
+        }
     }
 }
 
@@ -133,13 +140,20 @@ fn with_catchers<Q: StopReason>(
 {
     // So the catchers' bases are origins.
     says_what_it_spells();
-    let catchers = catchers(alloc)?;
+    let Ok(catchers) = catchers(alloc) else {
+        // By a call, in which that is proved once for its type.
+        drop(rocket);
+        return Err(AllocError);
+    };
     match rocket.register(alloc, "/", catchers) {
         Ok(registered) => Ok(registered),
-        Err(Handed { rocket: _, error }) => match error {
-            Want::Refused(_) => unreachable!(),
-            Want::NoMemory => Err(AllocError),
-        },
+        Err(Handed { rocket, error }) => {
+            drop(rocket);
+            match error {
+                Want::Refused(_) => unreachable!(),
+                Want::NoMemory => Err(AllocError),
+            }
+        }
     }
 }
 

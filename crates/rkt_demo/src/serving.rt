@@ -16,11 +16,11 @@ use crate::output::{print_histories, print_history};
 use crate::sample::{Handler, Quiet, Sample, SampleHistory};
 use rkt_base::{NoMemory, Want};
 use rkt_http::{says_what_it_spells, spells_one_host, spells_one_media_type};
-use rkt_life::{App, Ignite, IgniteError, Rocket};
+use rkt_life::{Ignite, IgniteError, Rocket};
 use rkt_request::ConfigTable;
 use rkt_sample::StopReason;
 use rkt_script::{ScriptRequest, before_stop};
-use rkt_serve::{Clock, History, Launch, Launched, LaunchedOf, ListListener, Listener, MemoryLink};
+use rkt_serve::{Clock, Launch, Launched, LaunchedOf, ListListener, MemoryLink};
 use std::alloc::{AllocError, Global};
 use std::sync::Wait;
 use std::thread::Threads;
@@ -56,9 +56,9 @@ struct Served<H, C> {
 }
 
 // Lets go of all else.
-fn into_served<A: App, L: Listener, C: Clock>(
-    launched: Launched<A, L, C>,
-) -> Served<History<A, L::Link>, C>
+fn into_served<Q: StopReason, C: Clock>(
+    launched: Launched<Sample<Q>, ListListener, C>,
+) -> Served<SampleHistory, C>
     ensures history { result.history ≡ launched.history }
     ensures clock { result.clock ≡ launched.clock }
     ensures table { result.table ≡ launched.rocket.table }
@@ -97,7 +97,11 @@ fn serve_launch<Q: StopReason, R: Wait + Threads, C: Clock>(
     says_what_it_spells();
     spells_one_host();
     spells_one_media_type();
-    let listener = listener_for(alloc, requests)?;
+    let Ok(listener) = listener_for(alloc, requests) else {
+        // By a call, in which that is proved once for its type.
+        drop(rocket);
+        return Err(AllocError);
+    };
     match rocket.launch(rt, alloc, listener, clock, 0) {
         Ok(launched) => Ok(into_served(launched)),
         Err(error) => {

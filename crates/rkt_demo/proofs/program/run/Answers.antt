@@ -2,6 +2,7 @@ use Rattle.std.proofs.Common.{inl, inr, sym, subst, refl}
 use Rattle.rkt_script.specs.declared.script.TheConstants.{SCRIPT_LIMIT}
 use Rattle.rkt_demo.specs.Program.{IsAccepted, config_refusal}
 use Rattle.rkt_demo.proofs.Runs.{IsRead, first_bad_read, not_bad, good_script, shown_script}
+use Rattle.rkt_demo.proofs.Statuses.{wrote_status, wrote_not_1, wrote_not_2, wrote_not_3, wrote_not_4, wrote_unless}
 use Rattle.rkt_demo.proofs.program.run.Goals as goal
 
 pub returns-in-Err-NoMemory-clause-memory_text : goal.returns-in-Err-NoMemory-clause-memory_text
@@ -111,3 +112,42 @@ returns-in-Ok-serve_with-clause-memory_text g c refused command = inr (
       let good = good_script before.whole before.taken SCRIPT_LIMIT c.as_slice.result.now read c.in-Ok-parse_script.ensures.good w is in
       (text, inr (inr (good, c.in-Ok-serve_with.ensures.accepted, shown)), rw c.as_slice-in-Ok-serve_with.ensures.value at c.write_text.ensures.front),
 )
+
+pub returns-in-Ok-serve_with-clause-known : goal.returns-in-Ok-serve_with-clause-known
+returns-in-Ok-serve_with-clause-known g c = wrote_status _ c.write_text.ensures.known
+
+pub returns-in-Ok-serve_with-clause-usage : goal.returns-in-Ok-serve_with-clause-usage
+returns-in-Ok-serve_with-clause-usage g c is = absurd (wrote_not_2 _ c.write_text.ensures.known is)
+
+pub returns-in-Ok-serve_with-clause-usage_text : goal.returns-in-Ok-serve_with-clause-usage_text
+returns-in-Ok-serve_with-clause-usage_text g c is = absurd (wrote_not_2 _ c.write_text.ensures.known is)
+
+pub returns-in-Ok-serve_with-clause-read : goal.returns-in-Ok-serve_with-clause-read
+returns-in-Ok-serve_with-clause-read g c is = absurd (wrote_not_4 _ c.write_text.ensures.known is)
+
+pub returns-in-Ok-serve_with-clause-read_text : goal.returns-in-Ok-serve_with-clause-read_text
+returns-in-Ok-serve_with-clause-read_text g c is = absurd (wrote_not_4 _ c.write_text.ensures.known is)
+
+pub returns-in-Ok-serve_with-clause-script : goal.returns-in-Ok-serve_with-clause-script
+returns-in-Ok-serve_with-clause-script g c is = absurd (wrote_not_3 _ c.write_text.ensures.known is)
+
+pub returns-in-Ok-serve_with-clause-config : goal.returns-in-Ok-serve_with-clause-config
+returns-in-Ok-serve_with-clause-config g c is = absurd (wrote_not_1 _ c.write_text.ensures.known is)
+
+pub returns-in-Ok-serve_with-clause-config_text : goal.returns-in-Ok-serve_with-clause-config_text
+returns-in-Ok-serve_with-clause-config_text g c is = absurd (wrote_not_1 _ c.write_text.ensures.known is)
+
+pub returns-in-Ok-serve_with-clause-no_command : goal.returns-in-Ok-serve_with-clause-no_command
+returns-in-Ok-serve_with-clause-no_command g c none = absurd (none (c.in-Ok.table, c.in-Ok.ensures.read))
+
+pub returns-in-Ok-serve_with-clause-unread : goal.returns-in-Ok-serve_with-clause-unread
+returns-in-Ok-serve_with-clause-unread g c none = absurd (none (c.in-Ok.table, c.in-Ok.ensures.read))
+
+pub returns-in-Ok-serve_with-clause-write : goal.returns-in-Ok-serve_with-clause-write
+returns-in-Ok-serve_with-clause-write g c = c.write_text.ensures.cause
+
+pub returns-in-Ok-serve_with-clause-memory_usage : goal.returns-in-Ok-serve_with-clause-memory_usage
+returns-in-Ok-serve_with-clause-memory_usage g c six none = absurd (none (c.in-Ok.table, c.in-Ok.ensures.read))
+
+pub returns-in-Ok-serve_with-clause-complete : goal.returns-in-Ok-serve_with-clause-complete
+returns-in-Ok-serve_with-clause-complete g c table script command accepted is good unread unwritten = wrote_unless _ c.write_text.ensures.known c.write_text.ensures.cause unwritten
