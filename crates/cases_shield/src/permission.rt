@@ -1,6 +1,6 @@
 //! Rules of permissions, as lines say them.
 use crate::features::read_feature;
-use cases::{CaseError, cut, first_word, pair};
+use cases::{CaseError, cut, first_word, pair, written};
 use rkt_base::{NoMemory, Want};
 use rkt_http::Absolute;
 use rkt_shield::{Allow, Feature, OriginWithoutHost, Permission};
@@ -131,7 +131,9 @@ pub fn get_answer(alloc: Global, text: &str, out: &mut String) -> Result<(), Cas
     let (name, rules) = first_word(text);
     let feature = read_feature(name)?;
     let permission = read_permission(alloc, rules)?;
-    Ok(show_list(out, permission.get(feature))?)
+    let shown = show_list(out, permission.get(feature));
+    drop(permission);
+    written(shown)
 }
 
 fn show_rule(out: &mut String, feature: Feature, list: Option<&[Allow]>) -> Result<(), NoMemory> {
@@ -155,11 +157,25 @@ pub fn rules_answer(alloc: Global, text: &str, out: &mut String) -> Result<(), C
     Ok(show_rules(out, &permission)?)
 }
 
+fn push_same(one: &Permission, other: &Permission, out: &mut String) -> Result<(), NoMemory> {
+    let same = one == other;
+    write!(out, "{same}")
+}
+
+/// Adds whether a permission is the same as that of a line.
+fn push_same_as(
+    alloc: Global,
+    one: &Permission,
+    text: &str,
+    out: &mut String,
+) -> Result<(), CaseError> {
+    let other = read_permission(alloc, text)?;
+    written(push_same(one, &other, out))
+}
+
 /// Adds whether two permissions are the same.
 pub fn same_answer(alloc: Global, text: &str, out: &mut String) -> Result<(), CaseError> {
     let (one, other) = pair(text, " <=> ")?;
     let one = read_permission(alloc, one)?;
-    let other = read_permission(alloc, other)?;
-    let same = one == other;
-    Ok(write!(out, "{same}")?)
+    push_same_as(alloc, &one, other, out)
 }

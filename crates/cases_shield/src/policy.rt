@@ -1,7 +1,7 @@
 //! Policies, as lines say them.
 use crate::permission::read_permission;
 use crate::plain::read_plain;
-use cases::{CaseError, first_word, pair, parsed};
+use cases::{CaseError, first_word, pair, parsed, written};
 use rkt_base::NoMemory;
 use rkt_http::{Absolute, Header};
 use rkt_shield::{
@@ -110,9 +110,15 @@ pub fn push_header(out: &mut String, name: &str, value: &str) -> Result<(), NoMe
     write!(out, "{name}: {value}")
 }
 
+fn push_header_of(alloc: Global, policy: &AnyPolicy, out: &mut String) -> Result<(), NoMemory> {
+    let header = policy.header(alloc)?;
+    push_header(out, header.name().as_str(), header.value())
+}
+
 /// Adds the header of the policy that a line says.
 pub fn header_answer(alloc: Global, text: &str, out: &mut String) -> Result<(), CaseError> {
     let policy = read_policy(alloc, text)?;
-    let header = policy.header(alloc)?;
-    Ok(push_header(out, header.name().as_str(), header.value())?)
+    let pushed = push_header_of(alloc, &policy, out);
+    drop(policy);
+    written(pushed)
 }
