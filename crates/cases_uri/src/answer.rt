@@ -21,11 +21,12 @@ fn push_other(alloc: Global, command: &str, text: &str, out: &mut String) -> Res
     }
 }
 
+fn is_of_pieces(command: &str) -> bool {
+    matches!(command, "segments" | "raw" | "fields")
+}
+
 fn is_of_one_origin(command: &str) -> bool {
-    matches!(
-        command,
-        "origin" | "route" | "text" | "segments" | "raw" | "fields" | "normal" | "cleared"
-    )
+    is_of_pieces(command) || matches!(command, "origin" | "route" | "text" | "normal" | "cleared")
 }
 
 fn answer_line(alloc: Global, line: &str, out: &mut String) -> Result<(), Refusal> {

@@ -5,11 +5,15 @@ use rkt_base::NoMemory;
 use rkt_uri::Origin;
 use std::alloc::Global;
 
+fn push_path_and_query(origin: &Origin, out: &mut String) -> Result<(), NoMemory> {
+    let (path, query) = (origin.path(), origin.query());
+    write!(out, "path={path:?} query={query:?}")
+}
+
 /// Adds the path and the query, as a copy has them.
 fn push_parts(alloc: Global, origin: &Origin, out: &mut String) -> Result<(), NoMemory> {
     let copy = origin.try_clone(alloc)?;
-    let (path, query) = (copy.path(), copy.query());
-    write!(out, "path={path:?} query={query:?}")
+    push_path_and_query(&copy, out)
 }
 
 fn push_told(

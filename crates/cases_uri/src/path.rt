@@ -79,6 +79,12 @@ fn compared(alloc: Global, command: &str, one: &Origin, text: &str) -> Result<bo
     Ok(compare(command, one.segments(), other.segments()))
 }
 
+/// Whether what a command says holds of the origins of two texts.
+fn holds_of(alloc: Global, command: &str, one: &str, other: &str) -> Result<bool, Refusal> {
+    let one = Origin::parse(alloc, one)?;
+    compared(alloc, command, &one, other)
+}
+
 /// Adds what a command with two origins answers.
 pub fn push_compared(
     alloc: Global,
@@ -86,8 +92,7 @@ pub fn push_compared(
     rest: &str,
     out: &mut String,
 ) -> Result<(), Refusal> {
-    let (text, other) = first_word(rest);
-    let one = Origin::parse(alloc, text)?;
-    let holds = compared(alloc, command, &one, other)?;
+    let (one, other) = first_word(rest);
+    let holds = holds_of(alloc, command, one, other)?;
     Ok(write!(out, "{holds}")?)
 }

@@ -36,9 +36,13 @@ pub fn push_pieces(origin: &Origin, out: &mut String) -> Result<(), NoMemory> {
     push_each_piece(origin.raw_segments(), out)
 }
 
+fn push_field(name: &str, value: &str, out: &mut String) -> Result<(), NoMemory> {
+    write!(out, "|{name}={value}")
+}
+
 fn push_each_field(fields: QueryFields<'_>, out: &mut String) -> Result<(), NoMemory> {
     for (name, value) in fields {
-        write!(out, "|{name}={value}")?;
+        push_field(name, value, out)?;
     }
     Ok(())
 }
