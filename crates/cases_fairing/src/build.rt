@@ -1,7 +1,7 @@
 //! What is built, which is kept from line to line.
 use crate::named::Named;
-use cases::{CaseError, first_word, parsed};
-use rkt_base::Want;
+use cases::{CaseError, first_word, parsed, written};
+use rkt_base::{NoMemory, Want};
 use rkt_fairing::{BuildingOf, InvalidBase};
 use rkt_http::{Key, Method};
 use rkt_request::{ConfigTable, DuplicateState};
@@ -11,21 +11,35 @@ use std::alloc::Global;
 /// A builder whose handlers are numbers.
 pub type Built = BuildingOf<u32, u32, (), u32, Named>;
 
+fn add_route(alloc: Global, routes: &mut Vec<Route<u32, ()>>, uri: &str) -> Result<(), CaseError> {
+    let route = Route::new(alloc, Method::Get, uri, 0)?;
+    Ok(routes.push(route)?)
+}
+
 /// The routes at these URIs.
 fn read_routes(alloc: Global, text: &str) -> Result<Vec<Route<u32, ()>>, CaseError> {
     let mut routes = Vec::new(alloc);
     for uri in text.split(' ') {
-        routes.push(Route::new(alloc, Method::Get, uri, 0)?)?;
+        add_route(alloc, &mut routes, uri)?;
     }
     Ok(routes)
+}
+
+fn add_catcher(
+    alloc: Global,
+    catchers: &mut Vec<Catcher<u32>>,
+    code: &str,
+) -> Result<(), CaseError> {
+    let code = parsed::<u16>(code)?;
+    let catcher = Catcher::new(alloc, Some(code), 0)?;
+    Ok(catchers.push(catcher)?)
 }
 
 /// The catchers of these codes.
 fn read_catchers(alloc: Global, text: &str) -> Result<Vec<Catcher<u32>>, CaseError> {
     let mut catchers = Vec::new(alloc);
     for code in text.split(' ') {
-        let code = parsed::<u16>(code)?;
-        catchers.push(Catcher::new(alloc, Some(code), 0)?)?;
+        add_catcher(alloc, &mut catchers, code)?;
     }
     Ok(catchers)
 }
@@ -38,6 +52,18 @@ fn of_base(built: Result<(), Want<InvalidBase>>) -> Result<(), CaseError> {
     }
 }
 
+fn push_uri(uri: &str, out: &mut String) -> Result<(), NoMemory> {
+    out.push_str(" ")?;
+    out.push_str(uri)
+}
+
+fn push_uris(built: &Built, out: &mut String) -> Result<(), NoMemory> {
+    for route in built.routes() {
+        push_uri(route.uri.as_str(), out)?;
+    }
+    Ok(())
+}
+
 /// Mounts routes, and adds the URIs of all.
 pub fn mount_answer(
     alloc: Global,
@@ -48,9 +74,17 @@ pub fn mount_answer(
     let (base, uris) = first_word(text);
     let routes = read_routes(alloc, uris)?;
     of_base(built.mount(alloc, base, routes))?;
-    for route in built.routes() {
-        out.push_str(" ")?;
-        out.push_str(route.uri.as_str())?;
+    written(push_uris(built, out))
+}
+
+fn push_catcher(catcher: &Catcher<u32>, out: &mut String) -> Result<(), NoMemory> {
+    let (base, code) = (catcher.base.as_str(), catcher.code.unwrap_or(0));
+    write!(out, " {base}:{code}")
+}
+
+fn push_catchers(built: &Built, out: &mut String) -> Result<(), NoMemory> {
+    for catcher in built.catchers() {
+        push_catcher(catcher, out)?;
     }
     Ok(())
 }
@@ -65,11 +99,7 @@ pub fn register_answer(
     let (base, codes) = first_word(text);
     let catchers = read_catchers(alloc, codes)?;
     of_base(built.register(alloc, base, catchers))?;
-    for catcher in built.catchers() {
-        let base = catcher.base.as_str();
-        write!(out, " {base}:{}", catcher.code.unwrap_or(0))?;
-    }
-    Ok(())
+    written(push_catchers(built, out))
 }
 
 fn of_state(managed: Result<(), Want<DuplicateState<u32>>>) -> Result<(), CaseError> {
