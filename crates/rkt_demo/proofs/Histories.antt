@@ -1,6 +1,7 @@
 -- The entries of a launch over the sample tell of the requests that its links ask.
-use Rattle.std.proofs.Common.{◌≡◌, ◌<◌, ◌++◌, ◌⊎◌, inl, inr, ℕ, List, [], ◌∷◌, Bool, true, false, ◌==◌, IsSome, IsTrue, Option, Some, if◌then◌else◌, length, map, min, slice_get, take, refl, ap, ◌∙◌, sym, subst, arith}
+use Rattle.std.proofs.Common.{◌≡◌, ◌<◌, ◌≤◌, ◌+◌, ◌++◌, ◌⊎◌, ◌&&◌, inl, inr, ℕ, nat_le, List, [], ◌∷◌, Bool, true, false, ◌==◌, IsSome, IsTrue, Option, Some, None, if◌then◌else◌, length, map, min, slice_get, take, refl, ap, ◌∙◌, sym, subst, arith}
 use Rattle.std.specs.Option.{ForSome, option_map}
+use Rattle.std.proofs.lemmas.Bool.{false≢true, leb-false, leb-true}
 use Rattle.std.proofs.lemmas.Grind.{common_steps}
 use Rattle.std.proofs.lemmas.List.{length-map, length-take}
 use Rattle.std.proofs.lemmas.Option.{none-some, same_Some, slice_get-map}
@@ -14,6 +15,7 @@ use Rattle.rkt_board.specs.Closed.{AllAdmitted}
 use Rattle.rkt_board.specs.Board.{IsCutWithin}
 use Rattle.rkt_board.specs.Events.{is_abandoned, is_trip, was_abandoned, admitted, end_of, InOrder}
 use Rattle.rkt_worker.specs.Headline.{AllTimed, HasEntry}
+use Rattle.rkt_worker.specs.Serving.{gates_of}
 use Rattle.rkt_link.specs.Listener.{Settled}
 use Rattle.rkt_link.specs.Memory.{LinkInMemory, ListenerInMemory, asked_of, listener_meaning}
 use Rattle.rkt_board.specs.declared.history.End.{End as Ending}
@@ -24,6 +26,8 @@ use Rattle.rkt_board.specs.declared.history.EventOf.{EventOf}
 use Rattle.rkt_board.specs.declared.history.EventOf.TheVariants.{Lift, Trip, Admit, End, Down, Close}
 use Rattle.rkt_life.specs.declared.no_fairing.NoFairing.{NoFairing}
 use Rattle.rkt_orbit.specs.Calls.{CallingAtShutdown}
+use Rattle.rkt_lifecycle.specs.declared.ended.RunOf.{RunOf}
+use Rattle.rkt_sample.specs.Calm.{IsCalm, IsWithinGrace}
 use Rattle.rkt_sample.specs.declared.catcher.SampleCatcher.{SampleCatcher}
 use Rattle.rkt_sample.specs.declared.route.SampleRoute.{SampleRoute}
 use Rattle.rkt_message.specs.Reading.{StreamErrs}
@@ -88,6 +92,11 @@ trip_told allowed shuts word stop window tables alone before (End n x m b ∷ es
 trip_told allowed shuts word stop window tables alone before (Down calls ∷ es) caused ordered there = trip_told allowed shuts word stop window tables alone (before ++ Down calls ∷ []) es caused.1 ordered.1 there
 trip_told allowed shuts word stop window tables alone before (Close m ∷ es) caused ordered there = trip_told allowed shuts word stop window tables alone (before ++ Close m ∷ []) es caused.1 ordered.1 there
 
+-- a window is as long as the grace
+abbrev is_long : Option (ℕ × ℕ) → ℕ → Bool
+is_long None grace = true
+is_long (Some w) grace = nat_le (w.0 + grace) w.1
+
 -- an entry of a request
 record ServedFor (word : ℕ) (window : Option (ℕ × ℕ)) (request : ScriptRequest) (seen : Option ℕ) (entry : Kept) : Type 0 where
   pub asks : asked_of entry.link.io ≡ asked_for request
@@ -124,35 +133,80 @@ none_left k (Down calls ∷ es) entry none found = none_left k es entry none fou
 none_left k (Close m ∷ es) entry none found = none_left k es entry none found
 
 module _ (laws : Spelling) (word : ℕ) (window : Option (ℕ × ℕ)) (table : Table) (tables : SampleTables) (sample : IsSample table tables) where
+  -- an exchange over these tables made this response to a request
+  record MadeHere (shown : Bool) (request : ScriptRequest) (response : ResponseOf SourceInMemory) : Type 0 where
+    pub run : RunOf ℕ
+    pub timed : IsWithin window run.moment
+    pub lifecycle : LeadsTo word window tables shown (asked_for request) run response
+
+  abbrev made_by : (shown : Bool) (request : ScriptRequest) (response : ResponseOf SourceInMemory) → MadeHere shown request response → IsMade table word window shown request response
+  made_by shown request response here = record { tables = tables; sample = sample; run = here.run; timed = here.timed; lifecycle = here.lifecycle }
+
   -- the response of an entry was made of its request
-  made_of : (request : ScriptRequest) (seen : Option ℕ) (entry : Kept) (ended : Ending) (ran : Ran (served_in word window) tables seen entry ended) → ServedFor word window request seen entry → IsMade table word window ran.shown request ran.first
+  made_of : (request : ScriptRequest) (seen : Option ℕ) (entry : Kept) (ended : Ending) (ran : Ran (served_in word window) tables seen entry ended) → ServedFor word window request seen entry → MadeHere ran.shown request ran.first
   made_of request seen entry ended ran served = record {
-    tables = tables;
-    sample = sample;
     run = ran.run;
     timed = served.timed ran.run ran.run_kept;
     lifecycle = subst (λ (a : Asked). LeadsTo word window tables ran.shown a ran.run ran.first) served.asks (ran.lifecycle (asked_of entry.link.io) refl);
   }
 
-  -- what was sent of a response, with or without a trip
-  answered_so : (shown : Bool) (k : ℕ) (request : ScriptRequest) (response : ResponseOf SourceInMemory) (pieces : List Piece) → (IsTrue shown → 0 < word) → IsMade table word window shown request response → Sent source_meaning response pieces
-      → IsSection (served_so shown) table word window k request (sent_section k pieces)
-  answered_so false k request response pieces told made sent = record { response = response; made = made; told = rw sent.1 (record { pieces = pieces; sent = sent; text = refl }) }
-  answered_so true k request response pieces told made sent = record { told = told refl; response = response; made = made; text = inl (record { pieces = pieces; sent = sent; text = refl }) }
+  -- a window is no longer than the grace, or it is
+  short_where : (w : Option (ℕ × ℕ)) → is_long w tables.config.grace ≡ false → IsWithinGrace w (Some (tables.config.grace, tables.config.mercy))
+  short_where None not_long = absurd (false≢true (sym not_long))
+  short_where (Some w) not_long = leb-false (w.0 + tables.config.grace) w.1 not_long
+
+  long_where : (w : Option (ℕ × ℕ)) → is_long w tables.config.grace ≡ true → ForSome w (λ ends. ends.0 + tables.config.grace ≤ ends.1)
+  long_where None long = λ ends is. absurd (none-some ends is)
+  long_where (Some w) long = λ ends is. subst (λ (e : ℕ × ℕ). e.0 + tables.config.grace ≤ e.1) (same_Some w ends is) (leb-true (w.0 + tables.config.grace) w.1 long)
+
+  -- what was sent of a response, where a read of its request's body may have been refused or not
+  answered_so : (shown long : Bool) → is_long window tables.config.grace ≡ long → (k : ℕ) (request : ScriptRequest) (response : ResponseOf SourceInMemory) (pieces : List Piece) → (IsTrue shown → 0 < word)
+      → MadeHere shown request response → Sent source_meaning response pieces → IsSection (served_so (shown && long)) table word window k request (sent_section k pieces)
+  answered_so false long is k request response pieces told made sent = record {
+    shown = false;
+    response = response;
+    made = made_by false request response made;
+    calm = inl refl;
+    told = rw sent.1 (record { pieces = pieces; sent = sent; text = refl });
+  }
+  answered_so true false is k request response pieces told made sent = record {
+    shown = true;
+    response = response;
+    made = made_by true request response made;
+    calm = inr (short_where window is);
+    told = rw sent.1 (record { pieces = pieces; sent = sent; text = refl });
+  }
+  answered_so true true is k request response pieces told made sent = record {
+    told = told refl;
+    response = response;
+    made = made_by true request response made;
+    long = long_where window is;
+    text = inl (record { pieces = pieces; sent = sent; text = refl });
+  }
 
   -- of one that has no head
-  headless_so : (shown : Bool) (k : ℕ) (request : ScriptRequest) (response : ResponseOf SourceInMemory) → (IsTrue shown → 0 < word) → IsMade table word window shown request response → has_head response ≡ false
-      → IsSection (served_so shown) table word window k request (failed_section k)
-  headless_so false k request response told made none = record { response = response; made = made; told = rw none refl }
-  headless_so true k request response told made none = record { told = told refl; response = response; made = made; text = inr refl }
+  headless_so : (shown long : Bool) → is_long window tables.config.grace ≡ long → (k : ℕ) (request : ScriptRequest) (response : ResponseOf SourceInMemory) → (IsTrue shown → 0 < word) → MadeHere shown request response
+      → has_head response ≡ false → IsSection (served_so (shown && long)) table word window k request (failed_section k)
+  headless_so false long is k request response told made none = record { shown = false; response = response; made = made_by false request response made; calm = inl refl; told = rw none refl }
+  headless_so true false is k request response told made none = record { shown = true; response = response; made = made_by true request response made; calm = inr (short_where window is); told = rw none refl }
+  headless_so true true is k request response told made none = record { told = told refl; response = response; made = made_by true request response made; long = long_where window is; text = inr refl }
 
-  -- and of one whose body failed, as none does without a trip
-  failed_so : (shown : Bool) (k : ℕ) (request : ScriptRequest) (turns : ℕ) (first last : ResponseOf SourceInMemory) → (IsTrue shown → 0 < word) → IsMade table word window shown request first
-      → (((e : SourceError) × StreamErrs source_meaning e first.body.content last.body.content) ⊎ MayWait source_meaning turns first.body.content) → IsSection (served_so shown) table word window k request (failed_section k)
-  failed_so false k request turns first last told made fails =
-      let one = made_once laws table word word window window request first first made made in
-      absurd (never_fails turns first.body.content last.body.content one.1 fails)
-  failed_so true k request turns first last told made fails = record { told = told refl; response = first; made = made; text = inr refl }
+  -- what may make a body fail
+  abbrev BodyFails : ℕ → ResponseOf SourceInMemory → ResponseOf SourceInMemory → Type 0
+  BodyFails turns first last = ((e : SourceError) × StreamErrs source_meaning e first.body.content last.body.content) ⊎ MayWait source_meaning turns first.body.content
+
+  -- no body fails of a response that was made where nothing is cut off
+  never_failed : (shown : Bool) (request : ScriptRequest) (turns : ℕ) (first last : ResponseOf SourceInMemory) → IsCalm (gates_of window tables shown) → MadeHere shown request first → BodyFails turns first last → ⊥
+  never_failed shown request turns first last calm made fails =
+      let is : IsMade table word window shown request first = made_by shown request first made in
+      never_fails turns first.body.content last.body.content (made_once laws table word word window window shown shown request first first is is calm calm).1 fails
+
+  -- and of one whose body failed
+  failed_so : (shown long : Bool) → is_long window tables.config.grace ≡ long → (k : ℕ) (request : ScriptRequest) (turns : ℕ) (first last : ResponseOf SourceInMemory) → (IsTrue shown → 0 < word) → MadeHere shown request first
+      → BodyFails turns first last → IsSection (served_so (shown && long)) table word window k request (failed_section k)
+  failed_so false long is k request turns first last told made fails = absurd (never_failed false request turns first last (inl refl) made fails)
+  failed_so true false is k request turns first last told made fails = absurd (never_failed true request turns first last (inr (short_where window is)) made fails)
+  failed_so true true is k request turns first last told made fails = record { told = told refl; response = first; made = made_by true request first made; long = long_where window is; text = inr refl }
 
   -- whether a Gate of an exchange may have shown a trip, where there was one
   abbrev shown_in : (seen : Option ℕ) (entry : Kept) (ended : Ending) → CausedAs (served_in word window) tables seen entry ended → Bool
@@ -163,12 +217,16 @@ module _ (laws : Spelling) (word : ℕ) (window : Option (ℕ × ℕ)) (table : 
   shown_in seen entry Abandoned caused = true
   shown_in seen entry Starved caused = false
 
+  -- and whether a read of its body may have been refused
+  abbrev warned_in : (seen : Option ℕ) (entry : Kept) (ended : Ending) → CausedAs (served_in word window) tables seen entry ended → Bool
+  warned_in seen entry ended caused = shown_in seen entry ended caused && is_long window tables.config.grace
+
   section_of_cause : (k : ℕ) (request : ScriptRequest) (seen : Option ℕ) (entry : Kept) (ended : Ending) → was_abandoned ended ≡ false → (caused : CausedAs (served_in word window) tables seen entry ended) → IsCutWithin window ended
-      → ServedFor word window request seen entry → IsSection (told_of (shown_in seen entry ended caused) ended) table word window k request (ended_section k ended entry.link.io.held)
+      → ServedFor word window request seen entry → IsSection (told_of (warned_in seen entry ended caused) ended) table word window k request (ended_section k ended entry.link.io.held)
   section_of_cause k request seen entry Starved not caused cut served = refl
   section_of_cause k request seen entry Abandoned not caused cut served = absurd (cc not)
   section_of_cause k request seen entry Answered not caused cut served =
-      answered_so caused.shown k request caused.first entry.link.io.held (λ is. served.told (caused.behind is)) (made_of request seen entry Answered caused served)
+      answered_so caused.shown (is_long window tables.config.grace) refl k request caused.first entry.link.io.held (λ is. served.told (caused.behind is)) (made_of request seen entry Answered caused served)
       (subst (Sent source_meaning caused.first) (sym (caused.held entry.link.io.held refl)) caused.sent)
   section_of_cause k request seen entry (Cut saw at) not caused cut served = record {
     told = served.told caused.1.tripped;
@@ -179,9 +237,9 @@ module _ (laws : Spelling) (word : ℕ) (window : Option (ℕ × ℕ)) (table : 
   }
   section_of_cause k request seen entry Lost not caused cut served = absurd (cc (ap (λ (a : Asked). a.never_faults) served.asks, caused.1))
   section_of_cause k request seen entry (Failed BadHead) not caused cut served =
-      headless_so caused.shown k request caused.first (λ is. served.told (caused.behind is)) (made_of request seen entry (Failed BadHead) caused served) caused.sent.0
+      headless_so caused.shown (is_long window tables.config.grace) refl k request caused.first (λ is. served.told (caused.behind is)) (made_of request seen entry (Failed BadHead) caused served) caused.sent.0
   section_of_cause k request seen entry (Failed BodyFault) not caused cut served =
-      failed_so caused.shown k request _ caused.first caused.response (λ is. served.told (caused.behind is)) (made_of request seen entry (Failed BodyFault) caused served) caused.sent.0
+      failed_so caused.shown (is_long window tables.config.grace) refl k request _ caused.first caused.response (λ is. served.told (caused.behind is)) (made_of request seen entry (Failed BodyFault) caused served) caused.sent.0
 
   -- a launch serves a front of what its listener offers
   pub launched_serves : (given : Option (List Asked)) (count : ℕ) (events : List (EventOf ℕ SourceInMemory LinkInMemory)) (requests : List ScriptRequest) → given ≡ Some (take count (map asked_for requests)) → AllAdmitted given events
@@ -202,7 +260,7 @@ module _ (laws : Spelling) (word : ℕ) (window : Option (ℕ × ℕ)) (table : 
               entry.entry,
               entry.found,
               record {
-                shown = shown_in entry.seen entry.entry entry.entry.end entry.caused;
+                warned = warned_in entry.seen entry.entry entry.entry.end entry.caused;
                 section = λ n.
                     let times = timed_end window k events entry.entry timed entry.found in
                     section_of_cause n request entry.seen entry.entry entry.entry.end (none_left k events entry.entry none entry.found) entry.caused times.1 (record {

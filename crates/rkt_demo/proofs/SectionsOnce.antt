@@ -1,16 +1,18 @@
 -- So many requests of a script are shown as one text.
-use Rattle.std.proofs.Common.{suc, ◌≡◌, ◌≢◌, ◌<◌, ◌≤◌, ◌++◌, ◌+◌, ◌⊎◌, inl, inr, ℕ, List, [], ◌∷◌, Bool, true, false, ltb, Option, Some, length, map, flat_map, min, slice_get, take, refl, ap, ◌∙◌, sym, subst, append-nil, arith}
+use Rattle.std.proofs.Common.{suc, ◌≡◌, ◌≢◌, ◌<◌, ◌≤◌, ◌++◌, ◌+◌, ◌⊎◌, inl, inr, ℕ, List, [], ◌∷◌, Bool, true, false, ltb, Option, Some, None, length, map, flat_map, min, slice_get, take, refl, ap, ◌∙◌, sym, subst, append-nil, arith}
 use borrow.Author.Tests.{ltb-true, ltb-false}
 use Rattle.std.proofs.lemmas.List.{length-take}
 use Rattle.std.proofs.lemmas.Option.{slice_get_within}
 use Rattle.std.specs.Prelude.{MatchBool}
 use Rattle.std.specs.List.{concat}
+use Rattle.std.specs.Option.{ForSome}
 use Rattle.rkt_message.specs.Body.{left_of}
 use Rattle.rkt_message.specs.Sent.{Sent, has_head, head_of}
 use Rattle.rkt_message.specs.declared.content.Content.{Content}
 use Rattle.rkt_message.specs.declared.content.Content.TheVariants as content
 use Rattle.rkt_message.specs.declared.piece.Piece.{Piece}
 use Rattle.rkt_message.specs.declared.piece.Piece.TheVariants.{Chunk, End}
+use Rattle.rkt_sample.specs.Calm.{IsWithinGrace}
 use Rattle.rkt_source.specs.Memory.{SourceInMemory, source_meaning}
 use Rattle.rkt_demo.proofs.LivesOnce.{made_once}
 use Rattle.rkt_demo.proofs.Once.{Spelling}
@@ -19,7 +21,7 @@ use Rattle.rkt_demo.proofs.Stops.{none_at}
 use Rattle.rkt_demo.proofs.SampleCalls.{IsAtHand, Response}
 use Rattle.rkt_demo.specs.Output.{answered_section, body_bytes, failed_section, head_text, sent_section}
 use Rattle.rkt_script.specs.Script.{lines_of, requests_of}
-use Rattle.rkt_demo.specs.Shown.{IsAnswered, IsSection, IsServed, ShownFrom, ShownOnce, Told}
+use Rattle.rkt_demo.specs.Shown.{IsAnswered, IsSection, IsServed, IsShort, NoneStarved, PrintedOnce, ShownFrom, ShownOnce, Told}
 use Rattle.rkt_script.specs.Stopping.{FollowsWord, StandBefore}
 use Rattle.rkt_script.specs.Words.{Table}
 use Rattle.rkt_script.specs.declared.script.ScriptRequest.{ScriptRequest}
@@ -61,10 +63,15 @@ told_once : (t : Bool) (k : ℕ) (response : Response) (section section' : List 
 told_once true k response section section' here told told' = answered_once k response section section' here told told'
 told_once false k response section section' here told told' = told' ∙ sym told
 
+-- moments within the grace are not as long as it
+never_long : (window : Option (ℕ × ℕ)) (grace mercy : ℕ) → IsWithinGrace window (Some (grace, mercy)) → ForSome window (λ w. w.0 + grace ≤ w.1) → ⊥
+never_long None grace mercy short long = short
+never_long (Some w) grace mercy short long = let from = long w refl in absurd (omega (arith, short, from))
+
 served_once : (laws : Spelling) (table : Table) (word word' : ℕ) (window window' : Option (ℕ × ℕ)) (k : ℕ) (request : ScriptRequest) (section section' : List ℕ) → IsServed table word window k request section
     → IsServed table word' window' k request section' → section' ≡ section
 served_once laws table word word' window window' k request section section' served served' =
-    let one = made_once laws table word word' window window' request served.response served'.response served.made served'.made in
+    let one = made_once laws table word word' window window' served.shown served'.shown request served.response served'.response served.made served'.made served.calm served'.calm in
     told_once (has_head served.response) k served.response section section' one.1 served.told
     (subst (λ (r : Response). MatchBool (has_head r) (IsAnswered k r section') (section' ≡ failed_section k)) one.0 served'.told)
 
@@ -103,3 +110,29 @@ one_text laws table window window' told n before script text text' stands unwarn
     from_once laws table window window' told n before all stands unwarned 0 0 0 (take n all) text text' (omega (arith, size)) (λ until. refl)
     (λ i r there. let same : 0 + i ≡ i = omega arith in
     ap (slice_get all) same ∙ sym (front_at all n i (omega (arith, size, slice_get_within (take n all) i r there))) ∙ there) is is'
+
+-- over a window whose moments are all within the grace nothing else is told of a request than that it was served, or that there was
+-- no memory
+short_section : (table : Table) (word : ℕ) (window : Option (ℕ × ℕ)) (told : Told) (k : ℕ) (request : ScriptRequest) (section : List ℕ) → IsShort table window → told ≢ Told.NoMemory → IsSection told table word window k request section
+    → IsServed table word window k request section
+short_section table word window Told.NoMemory k request section short some is = absurd (some refl)
+short_section table word window Told.Served k request section short some is = is
+short_section table word window Told.Warned k request section short some is = absurd (never_long window is.made.tables.config.grace is.made.tables.config.mercy (short is.made.tables.config is.made.sample.config) is.long)
+short_section table word window Told.CutShort k request section short some is = absurd (never_long window is.tables.config.grace is.tables.config.mercy (short is.tables.config is.sample.config) is.long)
+
+module _ (laws : Spelling) (table : Table) (window window' : Option (ℕ × ℕ)) (told told' : ℕ → Told) (n : ℕ) (short : IsShort table window) (short' : IsShort table window') (some : NoneStarved n told) (some' : NoneStarved n told') where
+  printed_from : (k word word' : ℕ) (requests : List ScriptRequest) (text text' : List ℕ) → k + length requests ≤ n → ShownFrom table window told word k requests text → ShownFrom table window' told' word' k requests text' → text' ≡ text
+  printed_from k word word' [] text text' within is is' = is' ∙ sym is
+  printed_from k word word' (request ∷ requests) text text' within is is' =
+      let inside : k < n = omega (arith, within) in
+      let first : is'.0 ≡ is.0 = served_once laws table is.2 is'.2 window window' k request is.0 is'.0
+      (short_section table is.2 window (told k) k request is.0 short (some k inside) is.4)
+      (short_section table is'.2 window' (told' k) k request is'.0 short' (some' k inside) is'.4) in
+      let rest : is'.1 ≡ is.1 = printed_from (k + 1) is.2 is'.2 requests is.1 is'.1 (omega (arith, within)) is.5 is'.5 in
+      is'.6 ∙ rw (first, rest) (sym is.6)
+
+pub one_print : Spelling → PrintedOnce
+one_print laws table window window' told told' n script text text' short short' some some' is is' =
+    let all : List ScriptRequest = requests_of (lines_of script) in
+    let size : length (take n all) ≡ min n (length all) = length-take n all in
+    printed_from laws table window window' told told' n short short' some some' 0 0 0 (take n all) text text' (omega (arith, size)) is is'

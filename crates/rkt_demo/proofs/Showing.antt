@@ -65,7 +65,7 @@ module _ (table : Table) (window : Option (ℕ × ℕ)) where
   abbrev told_from : (word : ℕ → ℕ) (entries : List (Option Kept)) (requests : List ScriptRequest) → AllTell word entries requests → ℕ → Told
   told_from word [] requests tell i = Told.Served
   told_from word (entry ∷ entries) [] tell i = Told.Served
-  told_from word (entry ∷ entries) (request ∷ requests) tell zero = told_of (tell 0 request refl).1.2.shown (tell 0 request refl).1.0.end
+  told_from word (entry ∷ entries) (request ∷ requests) tell zero = told_of (tell 0 request refl).1.2.warned (tell 0 request refl).1.0.end
   told_from word (entry ∷ entries) (request ∷ requests) tell (suc i) = told_from (λ j. word (suc j)) entries requests (next_tell word entry entries request requests tell) i
 
   shown_from : (told : ℕ → Told) (word : ℕ → ℕ) (k : ℕ) (entries : List (Option Kept)) (requests : List ScriptRequest) (tell : AllTell word entries requests) → length entries ≡ length requests
@@ -77,7 +77,7 @@ module _ (table : Table) (window : Option (ℕ × ℕ)) where
       let here = tell 0 request refl in
       let is : entry ≡ Some here.1.0 = same_Some entry (Some here.1.0) here.1.1 in
       let number : k + 0 ≡ k = omega arith in
-      let now : told k ≡ told_of here.1.2.shown here.1.0.end = ap told (sym number) ∙ tells 0 in
+      let now : told k ≡ told_of here.1.2.warned here.1.0.end = ap told (sym number) ∙ tells 0 in
       let section : IsSection (told k) table (word 1) window k request (entry_section k entry) =
       subst (λ (e : Option Kept). IsSection (told k) table (word 1) window k request (entry_section k e)) (sym is)
       (subst (λ (t : Told). IsSection t table (word 1) window k request (ended_section k here.1.0.end here.1.0.link.io.held)) (sym now) (here.1.2.section k)) in (

@@ -12,24 +12,24 @@ use Rattle.rkt_demo.specs.Shown.{IsSection, Told}
 use Rattle.rkt_script.specs.Words.{Table}
 use Rattle.rkt_script.specs.declared.script.ScriptRequest.{ScriptRequest}
 
--- what is told of a request that was served, under Gates that may have shown a trip or not
+-- what is told of a request that was served, where a read of its body may have been refused or not
 abbrev pub served_so : Bool → Told
 served_so true = Told.Warned
 served_so false = Told.Served
 
 -- what is told of what ended so
 abbrev pub told_of : Bool → End → Told
-told_of shown Answered = served_so shown
-told_of shown Lost = served_so shown
-told_of shown (Cut saw cut) = Told.CutShort
-told_of shown (Failed failure) = served_so shown
-told_of shown Abandoned = served_so shown
-told_of shown Starved = Told.NoMemory
+told_of warned Answered = served_so warned
+told_of warned Lost = served_so warned
+told_of warned (Cut saw cut) = Told.CutShort
+told_of warned (Failed failure) = served_so warned
+told_of warned Abandoned = served_so warned
+told_of warned Starved = Told.NoMemory
 
 -- whatever its number is, the section of an entry is one of this request
 pub record TellsOf (table : Table) (word : ℕ) (window : Option (ℕ × ℕ)) (request : ScriptRequest) (entry : EntryOf ℕ SourceInMemory LinkInMemory) : Type 0 where
-  pub shown : Bool
-  pub section : (k : ℕ) → IsSection (told_of shown entry.end) table word window k request (ended_section k entry.end entry.link.io.held)
+  pub warned : Bool
+  pub section : (k : ℕ) → IsSection (told_of warned entry.end) table word window k request (ended_section k entry.end entry.link.io.held)
 
 -- a history has admitted the first of these requests, in order, and the entry of each tells of it
 pub record ServesFront (table : Table) (word : ℕ) (window : Option (ℕ × ℕ)) (requests : List ScriptRequest) (events : List (EventOf ℕ SourceInMemory LinkInMemory)) : Type 0 where

@@ -1,6 +1,8 @@
 -- What the program writes of the requests that it served.
-use Rattle.std.specs.Prelude.{◌≡◌, ◌≢◌, ◌<◌, ◌≤◌, ◌⊎◌, ℕ, ◌+◌, ◌++◌, List, [], ◌∷◌, Bool, true, false, MatchBool, Option, Some, take}
+use Rattle.std.specs.Prelude.{◌≡◌, ◌≢◌, ◌<◌, ◌≤◌, ◌⊎◌, ℕ, ◌+◌, ◌++◌, List, [], ◌∷◌, Bool, true, MatchBool, Option, Some, take}
 use Rattle.std.specs.Option.{ForSome}
+use Rattle.rkt_config.specs.Config.{IsConfig}
+use Rattle.rkt_config.specs.declared.config.Config.{Config}
 use Rattle.rkt_fairing.specs.Callbacks.{quiet}
 use Rattle.rkt_http.specs.declared.status.Status.{Status}
 use Rattle.rkt_life.specs.declared.no_fairing.NoFairing.{NoFairing}
@@ -9,6 +11,7 @@ use Rattle.rkt_message.specs.Response.{ResponseOf}
 use Rattle.rkt_message.specs.Sent.{Sent, has_head}
 use Rattle.rkt_message.specs.declared.piece.Piece.{Piece}
 use Rattle.rkt_sample.specs.Bodies.{SampleBody}
+use Rattle.rkt_sample.specs.Calm.{IsCalm, IsWithinGrace}
 use Rattle.rkt_sample.specs.Catching.{catch_calling}
 use Rattle.rkt_sample.specs.Routing.{route_calling}
 use Rattle.rkt_sample.specs.declared.catcher.SampleCatcher.{SampleCatcher}
@@ -17,7 +20,7 @@ use Rattle.rkt_link.specs.Asked.{Asked}
 use Rattle.rkt_link.specs.Clock.{IsWithin}
 use Rattle.rkt_worker.specs.Lifecycle.{Lifecycle}
 use Rattle.rkt_link.specs.Memory.{LinkInMemory, link_meaning}
-use Rattle.rkt_worker.specs.Serving.{Serving, callbacks_of, serving}
+use Rattle.rkt_worker.specs.Serving.{Serving, callbacks_of, gates_of, serving}
 use Rattle.rkt_source.specs.Memory.{SourceInMemory, source_meaning}
 use Rattle.rkt_demo.specs.Output.{cut_section, failed_section, last_line, sent_section, starved_section}
 use Rattle.rkt_demo.specs.Sample.{IsSample, SampleTables}
@@ -53,18 +56,23 @@ pub record IsAnswered (k : ℕ) (response : ResponseOf SourceInMemory) (section 
   pub sent : Sent source_meaning response pieces
   pub text : section ≡ sent_section k pieces
 
--- the section of the request with this number: of a response that an exchange made, sent where a head of it can be formed
+-- the section of the request with this number: of a response that an exchange made under Gates by which nothing is cut off, sent
+-- where a head of it can be formed
 pub record IsServed (table : Table) (word : ℕ) (window : Option (ℕ × ℕ)) (k : ℕ) (request : ScriptRequest) (section : List ℕ) : Type 0 where
+  pub shown : Bool
   pub response : ResponseOf SourceInMemory
-  pub made : IsMade table word window false request response
+  pub made : IsMade table word window shown request response
+  pub calm : IsCalm (gates_of window made.tables shown)
   pub told : MatchBool (has_head response) (IsAnswered k response section) (section ≡ failed_section k)
 
--- the section of a request whose exchange may have been shown a trip, since `/stop` has told its word, so that a read of its body
--- may have been refused: of a response that an exchange made under such Gates, whether it could be sent or not
+-- the section of a request whose exchange may have been shown a trip, since `/stop` has told its word, over a window as long as the
+-- grace, so that a read of its body may have been refused: of a response that an exchange made under such Gates, whether it could
+-- be sent or not
 pub record IsWarned (table : Table) (word : ℕ) (window : Option (ℕ × ℕ)) (k : ℕ) (request : ScriptRequest) (section : List ℕ) : Type 0 where
   pub told : 0 < word
   pub response : ResponseOf SourceInMemory
   pub made : IsMade table word window true request response
+  pub long : ForSome window (λ w. w.0 + made.tables.config.grace ≤ w.1)
   pub text : IsAnswered k response section ⊎ (section ≡ failed_section k)
 
 -- the section of a request whose link was cut off: `/stop` has told its word, and so long a grace has gone by since
@@ -75,8 +83,8 @@ pub record IsCutShort (table : Table) (word : ℕ) (window : Option (ℕ × ℕ)
   pub long : ForSome window (λ w. w.0 + tables.config.grace ≤ w.1)
   pub text : section ≡ cut_section k
 
--- what a section tells: that its request was served, with or without a trip that its exchange may have been shown, or that its
--- link was cut off, or that there was no memory
+-- what a section tells: that its request was served, and that nothing was cut off or that a read of its body may have been refused,
+-- or that its link was cut off, or that there was no memory
 pub data Told : Type 0 where
   Served : Told
   Warned : Told
@@ -110,3 +118,17 @@ ShowsRequests table window requests text = (n : ℕ) × (told : ℕ → Told) ×
 abbrev pub ShownOnce : Type 0
 ShownOnce = (table : Table) (window window' : Option (ℕ × ℕ)) (told : ℕ → Told) (n before : ℕ) (script text text' : List ℕ) → StandBefore (requests_of (lines_of script)) before → ((k : ℕ) → before ≤ k → k < n → told k ≢ Told.Warned)
     → Shown table window told n script text → Shown table window' told n script text' → text' ≡ text
+
+-- the moments of a window are all within the grace that a table configures
+abbrev pub IsShort : Table → Option (ℕ × ℕ) → Type 0
+IsShort table window = (config : Config) → IsConfig table config → IsWithinGrace window (Some (config.grace, config.mercy))
+
+-- of none of the first n requests it is told that there was no memory
+abbrev pub NoneStarved : ℕ → (ℕ → Told) → Type 0
+NoneStarved n told = (k : ℕ) → k < n → told k ≢ Told.NoMemory
+
+-- Over windows whose moments are all within the grace so many requests of one script are shown as one text at most, where there was
+-- memory for all of them.
+abbrev pub PrintedOnce : Type 0
+PrintedOnce = (table : Table) (window window' : Option (ℕ × ℕ)) (told told' : ℕ → Told) (n : ℕ) (script text text' : List ℕ) → IsShort table window → IsShort table window' → NoneStarved n told → NoneStarved n told'
+    → Shown table window told n script text → Shown table window' told' n script text' → text' ≡ text

@@ -128,8 +128,9 @@ pub fn run<R: Wait + Threads, S: Source, K: Sink, C: Clock>(
         (text : List ℕ) × IsText table (C.meaning clock).window script text × GainsFront (K.meaning sink.old) (K.meaning sink.new) text)) }
 
     // 0: the text shows as many requests of the script as may be served: all of them where none is for `/stop`. Where the same is
-    // told of each, there is one such text for that number, as a law of texts says, unless the exchange of a request from the
-    // first one for `/stop` on may have been shown a trip.
+    // told of each, there is one such text for that number, as a law of texts says, unless a read of the body of a request from the
+    // first one for `/stop` on may have been refused. Over moments that are all within the grace there is just one, as another law
+    // says, where there was memory for each request.
     ensures text { result ≡ 0 → OfCommand (map string_bytes words.now) (λ table. IsAccepted table × OfScript (S.meaning source.old) (λ script.
         (n : ℕ) × (told : ℕ → Told) × (text : List ℕ) × IsCount script n × Shown table (C.meaning clock).window told n script text × Gains (K.meaning sink.old) (K.meaning sink.new) text)) }
 

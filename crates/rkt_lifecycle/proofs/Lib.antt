@@ -1,3 +1,4 @@
 pub mod Chaining
 pub mod Exchanging
 pub mod Peeks
+pub mod Running

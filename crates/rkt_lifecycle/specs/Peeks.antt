@@ -1,10 +1,11 @@
 -- What a peek at the front of a body leaves of it.
-use Rattle.std.specs.Prelude.{◌≡◌, ◌≤◌, ◌⊎◌, ◌++◌, ℕ, IsTrue, List, Option, Result, length, max, take}
+use Rattle.std.specs.Prelude.{◌≡◌, ◌≤◌, ◌⊎◌, ◌++◌, ⊤, ℕ, IsTrue, List, Option, None, Some, Result, length, max, take}
+use Rattle.std.specs.List.{All}
 use Rattle.rkt_base.specs.declared.poll.Poll.{Poll}
 use Rattle.rkt_base.specs.declared.poll.Poll.TheVariants.{Pending, Ready}
-use Rattle.rkt_cancel.specs.Cancel.{Cancellable, ReadsCut, cut_meaning}
+use Rattle.rkt_cancel.specs.Cancel.{Cancellable, ReadsCut, Runs, cut_meaning}
 use Rattle.rkt_data.specs.Body.{Body, FrontOf, PeekStops, Peeked, TakenIsHeld, WasRefused}
-use Rattle.rkt_data.specs.Tap.{ByGate, SameTap, body}
+use Rattle.rkt_data.specs.Tap.{ByGate, SameTap, Tapped, body}
 use Rattle.rkt_http.specs.declared.method.Method.{Method}
 use Rattle.rkt_router.specs.Calls.{GateFits, GateRule}
 use Rattle.rkt_routing.specs.declared.progress.Progress.{Progress}
@@ -67,9 +68,20 @@ cuts meaning s = cut_meaning s.stage (meaning s.io)
 abbrev pub cut_reads : {S : Type 0} → (S → Poll (Unit {0}) → S → Type 0) → Reads S → Reads (Cancellable S)
 cut_reads shuts polled s gate answer t = ReadsCut shuts polled s gate answer t
 
--- a peek of 14 bytes, as many as _method=delete has
+-- it is the same source, and calls under Gates of the rule, one after another, led its machine from the first stage to the second
+abbrev pub RanBy : {S : Type 0} → GateRule → Option (Tapped (Cancellable S)) → Option (Tapped (Cancellable S)) → Type 0
+RanBy rule None None = ⊤
+RanBy rule None (Some u) = ⊥
+RanBy rule (Some t) None = ⊥
+RanBy rule (Some t) (Some u) = (gates : List Gate) × All (GateFits rule) gates × Runs gates t.now.stage u.now.stage
+
+-- a peek of 14 bytes, as many as _method=delete has, of a body whose source may be cut off
+pub record CutPeekOf {S : Type 0} (meaning : S → Meaning) (rule : GateRule) (b : Body (Cancellable S)) (shown : List ℕ) (c : Body (Cancellable S)) : Type 0 where
+  pub peek : PeekOf (cuts meaning) rule 14 b shown c
+  pub machine : RanBy rule b.tap c.tap
+
 abbrev pub peeks_of : {S : Type 0} → (S → Meaning) → GateRule → Body (Cancellable S) → List ℕ → Body (Cancellable S) → Type 0
-peeks_of meaning rule b shown c = PeekOf (cuts meaning) rule 14 b shown c
+peeks_of meaning rule b shown c = CutPeekOf meaning rule b shown c
 
 -- its source was Pending in the poll under this Gate
 abbrev pub waits_of : {S : Type 0} → (S → Meaning) → (S → Poll (Unit {0}) → S → Type 0) → Reads S → Gate → Body (Cancellable S) → Body (Cancellable S) → Type 0

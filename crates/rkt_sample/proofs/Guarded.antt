@@ -1,21 +1,19 @@
 -- How the reading of a text ends that was polled once.
 use Rattle.std.proofs.Common.{◌≡◌, ◌<◌, ◌-◌, ◌++◌, ◌∷◌, ◌⊎◌, ℕ, Bool, true, false, IsTrue, List, [], Option, Some, None, Result, Ok, Err, String, string_bytes, length, ap, arith, length-append, refl, subst}
 use Rattle.std.specs.declared.alloc.Global.{Global}
-use Rattle.rkt_base.specs.declared.poll.Poll.{Poll}
+use Rattle.rkt_base.specs.declared.poll.Poll.TheVariants.{Ready}
 use Rattle.rkt_cancel.specs.Cancel.{Cancellable}
 use Rattle.rkt_data.specs.Body.{IsWhole, opened_tap}
-use Rattle.rkt_data.specs.Gathering.{Completes}
-use Rattle.rkt_data.specs.Stream.{Follows}
-use Rattle.rkt_data.specs.Tap.{Tapped}
+use Rattle.rkt_data.specs.Gathering.{Completes, reads_end}
+use Rattle.rkt_data.specs.Tap.{ByGate, Tapped}
 use Rattle.rkt_data.specs.Text.{AnswersText, TextErr}
 use Rattle.rkt_data.specs.declared.capped.Capped.{Capped}
 use Rattle.rkt_data.specs.declared.error.DataError.{DataError}
 use Rattle.rkt_request.specs.Guards.{Ends, IsReading, pended, pendings, read_of}
 use Rattle.rkt_source.specs.Source.{Meaning}
 use Rattle.rkt_source.specs.declared.source.Gate.{Gate}
-use Rattle.rkt_source.specs.declared.source.SourceError.{SourceError}
 use Rattle.rkt_sample.specs.Bodies.{ReadsAll, SampleBody, meaning_of, text_in, whole}
-use Rattle.rkt_sample.proofs.Texts.{IsTold, ReadsOn, errs_so, reads_text}
+use Rattle.rkt_sample.proofs.Texts.{IsTold, Reading, ReadsOn, errs_so, reads_cut, reads_text}
 
 -- a list of one element is split in one way
 alone : (earlier : List Gate) (last gate : Gate) → gate ∷ [] ≡ earlier ++ last ∷ [] → (earlier ≡ []) × (last ≡ gate)
@@ -27,26 +25,20 @@ abbrev pub IsAnswer : {S : Type 0} → (S → Meaning) → ℕ → SampleBody S 
 IsAnswer meaning limit b gate (Ok c) = ((c.n.complete ≡ true) × (text_in limit (whole meaning b) ≡ Some (string_bytes c.value))) ⊎ ((c.n.complete ≡ false) × (text_in limit (whole meaning b) ≡ None))
 IsAnswer meaning limit b gate (Err e) = (text_in limit (whole meaning b) ≡ None) ⊎ ¬ ReadsAll meaning b (gate ∷ [])
 
-module _ {S : Type 0} (meaning : S → Meaning) (told : IsTold meaning) (polled : Cancellable S → Gate → Poll (Result ℕ SourceError) → Cancellable S → Type 0) (limit : ℕ) (b : SampleBody S) (gate : Gate)
+module _ {S : Type 0} (meaning : S → Meaning) (told : IsTold meaning) (how : Reading S) (limit : ℕ) (b : SampleBody S) (gate : Gate)
     (is_whole : IsTrue b.complete → IsWhole (meaning_of meaning) b) where
-  pub text_ended : (answer : Result (Capped (String Global)) DataError) → Ends (meaning_of meaning) polled (AnswersText (meaning_of meaning)) limit b (gate ∷ []) answer → IsAnswer meaning limit b gate answer
+  pub text_ended : (answer : Result (Capped (String Global)) DataError) → Ends (meaning_of meaning) (reads_cut how) (AnswersText (meaning_of meaning)) limit b (gate ∷ []) answer → IsAnswer meaning limit b gate answer
   text_ended answer ends =
       let one = alone ends.earlier ends.last gate ends.polls in
-      let reading : IsReading (meaning_of meaning) polled limit b [] 0 ends.before = subst (λ (gates : List Gate). IsReading (meaning_of meaning) polled limit b gates 0 ends.before) one.0 ends.reading in
-      let reads : ReadsOn meaning limit b gate ends.before.stream ends.after.stream = record {
-        front = reading.front;
-        limit = reading.limit;
-        tap = reading.source;
-        follows = subst (λ (g : Gate). Follows (meaning_of meaning) g.tripped ends.before.stream ends.after.stream) one.1 ends.follows;
-        is_whole = is_whole;
-      } in
-      by_answer answer ends reads reading.from
+      let reading : IsReading (meaning_of meaning) (reads_cut how) limit b [] 0 ends.before = subst (λ (gates : List Gate). IsReading (meaning_of meaning) (reads_cut how) limit b gates 0 ends.before) one.0 ends.reading in
+      let reads : ReadsOn meaning limit b ends.before.stream = record { front = reading.front; limit = reading.limit; tap = reading.source; is_whole = is_whole } in
+      by_answer answer ends reads reading.from (subst (λ (g : Gate). ByGate (reads_cut how) g (reads_end (Ready answer)) ends.before.stream.tap ends.after.stream.tap) one.1 ends.by_gate)
     where
-      by_answer : (answer : Result (Capped (String Global)) DataError) (ends : Ends (meaning_of meaning) polled (AnswersText (meaning_of meaning)) limit b (gate ∷ []) answer)
-          → ReadsOn meaning limit b gate ends.before.stream ends.after.stream → ends.before.from ≡ 0 → IsAnswer meaning limit b gate answer
-      by_answer (Ok c) ends reads from = reads_text meaning told _ _ _ _ _ reads c (subst (λ (n : ℕ). Completes (meaning_of meaning) ends.before.stream n (string_bytes c.value) c.n) from ends.answers.1)
-      by_answer (Err e) ends reads from =
-          errs_so meaning told _ _ _ _ _ reads e (λ is. ends.cause (ap Err is)) (subst (λ (n : ℕ). TextErr (meaning_of meaning) n ends.before.stream ends.after.stream e) from ends.answers.2)
+      by_answer : (answer : Result (Capped (String Global)) DataError) (ends : Ends (meaning_of meaning) (reads_cut how) (AnswersText (meaning_of meaning)) limit b (gate ∷ []) answer)
+          → ReadsOn meaning limit b ends.before.stream → ends.before.from ≡ 0 → ByGate (reads_cut how) gate (reads_end (Ready answer)) ends.before.stream.tap ends.after.stream.tap → IsAnswer meaning limit b gate answer
+      by_answer (Ok c) ends reads from by_gate = reads_text meaning told _ _ _ reads c (subst (λ (n : ℕ). Completes (meaning_of meaning) ends.before.stream n (string_bytes c.value) c.n) from ends.answers.1)
+      by_answer (Err e) ends reads from by_gate =
+          errs_so meaning told _ _ _ reads how gate ends.after.stream e (λ is. ends.cause (ap Err is)) by_gate (subst (λ (n : ℕ). TextErr (meaning_of meaning) n ends.before.stream ends.after.stream e) from ends.answers.2)
 
 -- no read of a body is Pending, where none is of its source
 pub never_pending : {S : Type 0} (meaning : S → Meaning) → ((s : S) → (meaning s).pendings ≡ 0) → (b : SampleBody S)

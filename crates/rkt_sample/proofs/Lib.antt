@@ -3,6 +3,7 @@ pub mod Guarded
 pub mod Limits
 pub mod Made
 pub mod Moved
+pub mod Polled
 pub mod Spelled
 pub mod TextGuard
 pub mod Texts

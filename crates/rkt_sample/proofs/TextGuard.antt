@@ -2,7 +2,6 @@
 use Rattle.std.proofs.Common.{◌≡◌, ◌∷◌, ℕ, [], Option, Some, None, IfOk, IsTrue, Result, Ok, Err, String, string_bytes, codes, ap, inl, inr, refl, subst, ◌∙◌}
 use Rattle.std.specs.Option.{option_map_or}
 use Rattle.std.specs.declared.alloc.Global.{Global}
-use Rattle.rkt_base.specs.declared.poll.Poll.{Poll}
 use Rattle.rkt_base.specs.declared.poll.Poll.TheVariants.{Ready}
 use Rattle.rkt_cancel.specs.Cancel.{Cancellable}
 use Rattle.rkt_data.specs.Body.{IsWhole}
@@ -16,11 +15,10 @@ use Rattle.rkt_request.specs.Seen.{Seen}
 use Rattle.rkt_request.specs.declared.from_data.GuardError.{GuardError}
 use Rattle.rkt_source.specs.Source.{Meaning}
 use Rattle.rkt_source.specs.declared.source.Gate.{Gate}
-use Rattle.rkt_source.specs.declared.source.SourceError.{SourceError}
 use Rattle.rkt_sample.specs.Bodies.{SampleBody, meaning_of, string_limit, text_in, whole}
 use Rattle.rkt_sample.specs.Echo.{IsText}
 use Rattle.rkt_sample.proofs.Guarded.{IsAnswer, text_ended}
-use Rattle.rkt_sample.proofs.Texts.{IsTold}
+use Rattle.rkt_sample.proofs.Texts.{IsTold, Reading, reads_cut}
 use Rattle.rkt_sample.proofs.Limits.{string_limit_is}
 
 module _ {V S : Type 0} (meaning : S → Meaning) (request : Seen V) (b : SampleBody S) (gate : Gate) where
@@ -33,11 +31,11 @@ module _ {V S : Type 0} (meaning : S → Meaning) (request : Seen V) (b : Sample
   text_is limit (Err e) same (inl untold) = (refl, inl (subst (λ (n : ℕ). text_in n (whole meaning b) ≡ None) same untold))
   text_is limit (Err e) same (inr refused) = (refl, inr refused)
 
-  module _ (told : IsTold meaning) (polled : Cancellable S → Gate → Poll (Result ℕ SourceError) → Cancellable S → Type 0) (is_whole : IsTrue b.complete → IsWhole (meaning_of meaning) b) where
+  module _ (told : IsTold meaning) (how : Reading S) (is_whole : IsTrue b.complete → IsWhole (meaning_of meaning) b) where
     pub text_guarded : {W : Type 0} (answer : Result (Guarded (SampleBody S) (String Global) GuardError) W) (reading : Gathering (Cancellable S))
-        → AnswersData (guard_map strict (text_guard (meaning_of meaning) polled)) request b (gate ∷ []) 0 (Ready answer) reading → IfOk answer (IsText meaning request b (gate ∷ []))
+        → AnswersData (guard_map strict (text_guard (meaning_of meaning) (reads_cut how))) request b (gate ∷ []) 0 (Ready answer) reading → IfOk answer (IsText meaning request b (gate ∷ []))
     text_guarded (Ok outcome) reading is =
         let inner = is.1 in
         let ended = inner.2 in
-        rw (is.2, ended.2) (text_is inner.0 ended.0 (limit_is inner.0 inner.1) (text_ended meaning told polled inner.0 b gate is_whole ended.0 ended.1))
+        rw (is.2, ended.2) (text_is inner.0 ended.0 (limit_is inner.0 inner.1) (text_ended meaning told how inner.0 b gate is_whole ended.0 ended.1))
     text_guarded (Err e) reading is = tt

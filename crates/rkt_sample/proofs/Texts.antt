@@ -1,18 +1,19 @@
 -- What the guard of a text answers of a body in memory.
-use Rattle.std.proofs.Common.{◌≡◌, ◌≢◌, ◌≤◌, ◌&&◌, ◌∷◌, ◌⊎◌, ⊎_elim, ℕ, Bool, true, false, IsTrue, IsUtf8, List, [], Option, Some, None, IfSome, IsNone, IsSome, String, string_bytes, length, nat_le, option_map, if◌then◌else◌, ap, arith, inl, inr, refl, subst, sym, ◌∙◌, drop}
+use Rattle.std.proofs.Common.{◌≡◌, ◌≢◌, ◌≤◌, ◌&&◌, ◌||◌, ◌∷◌, ◌⊎◌, ℕ, Bool, true, false, IsTrue, IsUtf8, List, [], Option, Some, None, IfSome, IsSome, Result, Err, String, string_bytes, length, nat_le, option_map, if◌then◌else◌, ap, arith, inl, inr, refl, subst, sym, ◌∙◌, drop}
+use Rattle.std.proofs.lemmas.Bool.{false≢true}
 use Rattle.std.proofs.lemmas.Bool.Decides.{nat_tests}
-use Rattle.std.proofs.lemmas.List.Elements.{All-head}
 use Rattle.std.proofs.lemmas.List.{take_all}
 use Rattle.std.proofs.lemmas.Str.{IsUtf8-from_is_utf8, IsUtf8-string_bytes, is_utf8-from_IsUtf8}
 use Rattle.std.specs.Option.{ForSome}
 use Rattle.std.specs.Str.{is_utf8}
 use Rattle.std.specs.declared.alloc.Global.{Global}
-use Rattle.rkt_cancel.specs.Cancel.{Cancellable}
-use Rattle.rkt_cancel.specs.CancelLaws.{cut_shut_is_warned}
+use Rattle.rkt_base.specs.declared.poll.Poll.{Poll}
+use Rattle.rkt_base.specs.declared.poll.Poll.TheVariants.{Ready}
+use Rattle.rkt_cancel.specs.Cancel.{Cancellable, ReadsCut, advanced, is_gone, is_open}
 use Rattle.rkt_data.specs.Body.{IsWhole, opened_tap}
-use Rattle.rkt_data.specs.Gathering.{Completes, cut_from}
-use Rattle.rkt_data.specs.Stream.{Follows, IsComplete, Opened, whole_of}
-use Rattle.rkt_data.specs.Tap.{SameTap, TapErrs, Tapped, body}
+use Rattle.rkt_data.specs.Gathering.{Completes, cause_of, cut_from}
+use Rattle.rkt_data.specs.Stream.{IsComplete, Opened, whole_of}
+use Rattle.rkt_data.specs.Tap.{ByGate, TapErrs, Tapped, body}
 use Rattle.rkt_data.specs.Text.{TextErr}
 use Rattle.rkt_data.specs.declared.capped.Capped.{Capped}
 use Rattle.rkt_data.specs.declared.error.DataError.{DataError}
@@ -22,16 +23,27 @@ use Rattle.rkt_source.specs.Source.{Meaning}
 use Rattle.rkt_source.specs.declared.source.Gate.{Gate}
 use Rattle.rkt_source.specs.declared.source.SourceError.{SourceError}
 use Rattle.rkt_source.specs.declared.source.SourceError.TheVariants as source_error
-use Rattle.rkt_sample.specs.Bodies.{IsSteady, ReadsAll, SampleBody, meaning_of, text_in, whole}
+use Rattle.rkt_sample.specs.Bodies.{ReadsAll, SampleBody, meaning_of, text_in, whole}
+use Rattle.rkt_sample.specs.Calm.{KeepsOpen}
+use Rattle.rkt_sample.specs.CalmLaws.{errs_open, not_gone}
 
 told_of : (n : ℕ) (bytes : Option (List ℕ)) → IsSome bytes → (w : List ℕ) × (option_map (drop n) bytes ≡ Some w)
 told_of n (Some bytes) some = (drop n bytes, refl)
 told_of n None some = cc some
 
--- a source that tells its bytes, and is shut only where it was warned
+-- a source that tells its bytes, and is not shut of its own accord
 pub record IsTold {S : Type 0} (meaning : S → Meaning) : Type 0 where
   pub tells : (s : S) → IsSome (meaning s).whole
-  pub shut_is_warned : (s : S) → IsTrue (meaning s).shut → IsTrue (meaning s).warned
+  pub stays_open : (s : S) → (meaning s).shut ≡ false
+
+-- how a source is read, whose shutdown is told so
+pub record Reading (S : Type 0) : Type 1 where
+  pub shuts : S → Poll (Unit {0}) → S → Type 0
+  pub polled : S → Gate → Poll (Result ℕ SourceError) → S → Type 0
+
+-- and how it is read where it may be cut off
+abbrev pub reads_cut : {S : Type 0} → Reading S → Cancellable S → Gate → Poll (Result ℕ SourceError) → Cancellable S → Type 0
+reads_cut reading s gate answer t = ReadsCut reading.shuts reading.polled s gate answer t
 
 -- a body's bytes are those of it once it is opened
 opened_whole : {X : Type 0} (meaning : X → Meaning) (complete : Bool) (held w : List ℕ) (tap : Option (Tapped X)) → (IsTrue complete → ForSome (body meaning held tap) (λ all. held ≡ all)) → body meaning held tap ≡ Some w
@@ -69,33 +81,38 @@ module _ {S : Type 0} (meaning : S → Meaning) (told : IsTold meaning) where
       by_tap held None = (held, refl)
       by_tap held (Some t) = told_of (meaning t.begun.io).taken (meaning t.begun.io).whole (told.tells t.begun.io)
 
-  not_shut : (t u : Tapped (Cancellable S)) (gate : Gate) → SameTap (meaning_of meaning) gate.tripped (Some t) (Some u) → IsTrue (meaning_of meaning u.now).shut → IsSteady (meaning_of meaning t.now) → IsNone gate.tripped → ⊥
-  not_shut t u gate same shut steady untripped = ⊎_elim
-      (λ (warned : IsTrue (meaning_of meaning t.now).warned). cc (warned, steady.unwarned))
-      (λ (tripped : IsSome gate.tripped). cc (tripped, untripped))
-      (same.1.warned (cut_shut_is_warned u.now.stage (meaning u.now.io) (told.shut_is_warned u.now.io) shut))
+  neither : (a b : Bool) → a ≡ false → b ≡ false → IsTrue (a || b) → ⊥
+  neither true b one other both = false≢true (sym one)
+  neither false b one other both = false≢true (sym other ∙ both)
 
-  -- a source that never fails and was shown no trip refuses no read
-  refuses_none : (e : SourceError) (gate : Gate) (m n : SampleTap) → SameTap (meaning_of meaning) gate.tripped m n → TapErrs (meaning_of meaning) e m n → IfSome m (λ t. IsSteady (meaning_of meaning t.now)) → IsNone gate.tripped → ⊥
-  refuses_none e gate None n same errs steady untripped = errs
-  refuses_none e gate (Some t) None same errs steady untripped = errs
-  refuses_none source_error.SourceFault gate (Some t) (Some u) same errs steady untripped = cc (steady.never_faults, errs.1)
-  refuses_none source_error.Gone gate (Some t) (Some u) same errs steady untripped = not_shut t u gate same errs steady untripped
-  refuses_none source_error.TimedOut gate (Some t) (Some u) same errs steady untripped = not_shut t u gate same errs steady untripped
+  not_shut : (t : Cancellable S) → is_open t.stage ≡ true → IsTrue (meaning_of meaning t).shut → ⊥
+  not_shut t goes shut = neither (is_gone t.stage) (meaning t.io).shut (not_gone t.stage goes) (told.stays_open t.io) shut
 
-  read_steady : (complete : Bool) (tap : SampleTap) → IfSome tap (λ t. IsSteady (meaning_of meaning t.now)) → IfSome (opened_tap complete tap) (λ t. IsSteady (meaning_of meaning t.now))
-  read_steady true tap steady = tt
-  read_steady false tap steady = steady
+  -- a source never fails, and is open to the next call under a Gate
+  abbrev Serves : Gate → Cancellable S → Type 0
+  Serves gate source = IsTrue (meaning source.io).never_faults × (is_open (advanced gate source.stage) ≡ true)
 
--- a body was opened up to a limit, and read on under a Gate
-pub record ReadsOn {S : Type 0} (meaning : S → Meaning) (most : ℕ) (b : SampleBody S) (gate : Gate) (o p : Opened (Cancellable S)) : Type 0 where
+  -- such a one refuses no read under it
+  refuses_none : (reading : Reading S) (e : SourceError) (gate : Gate) (m n : SampleTap) → ByGate (reads_cut reading) gate (Ready (Err e)) m n → TapErrs (meaning_of meaning) e m n → IfSome m (λ t. Serves gate t.now) → ⊥
+  refuses_none reading e gate None n reads errs serves = errs
+  refuses_none reading e gate (Some t) None reads errs serves = errs
+  refuses_none reading source_error.SourceFault gate (Some t) (Some u) reads errs serves = cc (serves.0, errs.1)
+  refuses_none reading source_error.Gone gate (Some t) (Some u) reads errs serves = not_shut u.now (errs_open reading.shuts reading.polled gate source_error.Gone t.now u.now reads serves.1) errs
+  refuses_none reading source_error.TimedOut gate (Some t) (Some u) reads errs serves = not_shut u.now (errs_open reading.shuts reading.polled gate source_error.TimedOut t.now u.now reads serves.1) errs
+
+  read_served : (gate : Gate) (complete : Bool) (tap : SampleTap) → IfSome tap (λ t. IsTrue (meaning t.now.io).never_faults) → IfSome tap (λ t. KeepsOpen (gate ∷ []) t.now.stage) → IfSome (opened_tap complete tap) (λ t. Serves gate t.now)
+  read_served gate true tap never goes = tt
+  read_served gate false None never goes = tt
+  read_served gate false (Some t) never goes = (never, goes.0)
+
+-- a body was opened up to a limit
+pub record ReadsOn {S : Type 0} (meaning : S → Meaning) (most : ℕ) (b : SampleBody S) (o : Opened (Cancellable S)) : Type 0 where
   pub front : o.front ≡ b.held
   pub limit : o.limit ≡ most
   pub tap : o.tap ≡ read_of b
-  pub follows : Follows (meaning_of meaning) gate.tripped o p
   pub is_whole : IsTrue b.complete → IsWhole (meaning_of meaning) b
 
-module _ {S : Type 0} (meaning : S → Meaning) (told : IsTold meaning) (limit : ℕ) (b : SampleBody S) (gate : Gate) (o p : Opened (Cancellable S)) (reads : ReadsOn meaning limit b gate o p) where
+module _ {S : Type 0} (meaning : S → Meaning) (told : IsTold meaning) (limit : ℕ) (b : SampleBody S) (o : Opened (Cancellable S)) (reads : ReadsOn meaning limit b o) where
   opened_told : (w : List ℕ) → whole meaning b ≡ Some w → whole_of (meaning_of meaning) o ≡ Some w
   opened_told w is_told = rw (reads.front, reads.tap) (opened_whole (meaning_of meaning) b.complete b.held w b.tap reads.is_whole is_told)
 
@@ -121,19 +138,19 @@ module _ {S : Type 0} (meaning : S → Meaning) (told : IsTold meaning) (limit :
   not_utf8 : (w : List ℕ) → whole meaning b ≡ Some w → ¬ IsUtf8 (cut_from 0 w o.limit) → Untold
   not_utf8 w is_told fails = rw is_told (misses limit w (λ both. fails (subst IsUtf8 (sym (cut_whole w both.0)) both.1)))
 
-  refusal : (e : SourceError) → TapErrs (meaning_of meaning) e o.tap p.tap → ¬ ReadsAll meaning b (gate ∷ [])
-  refusal e errs all =
-      refuses_none meaning told e gate o.tap p.tap reads.follows.tap errs
-      (rw reads.tap (read_steady meaning told b.complete b.tap all.steady))
-      (All-head (λ (g : Gate). IsNone g.tripped) gate [] all.untripped)
+  module _ (reading : Reading S) (gate : Gate) (p : Opened (Cancellable S)) where
+    refusal : (e : SourceError) → ByGate (reads_cut reading) gate (Ready (Err e)) o.tap p.tap → TapErrs (meaning_of meaning) e o.tap p.tap → ¬ ReadsAll meaning b (gate ∷ [])
+    refusal e by_gate errs all =
+        refuses_none meaning told reading e gate o.tap p.tap by_gate errs
+        (rw reads.tap (read_served meaning told gate b.complete b.tap all.never_faults all.stays_open))
 
-  pub errs_so : (e : DataError) → e ≢ error.NoMemory → TextErr (meaning_of meaning) 0 o p e → Untold ⊎ ¬ ReadsAll meaning b (gate ∷ [])
-  errs_so error.SourceFault some errs = inr (refusal source_error.SourceFault errs.0)
-  errs_so error.Gone some errs = inr (refusal source_error.Gone errs.0)
-  errs_so error.TimedOut some errs = inr (refusal source_error.TimedOut errs.0)
-  errs_so (error.NotUtf8 n) some errs = let bytes = whole_told meaning told b in inl (not_utf8 bytes.0 bytes.1 (errs bytes.0 (opened_told bytes.0 bytes.1)).1)
-  errs_so error.SinkFault some errs = absurd errs
-  errs_so error.NoMemory some errs = absurd (some refl)
+    pub errs_so : (e : DataError) → e ≢ error.NoMemory → ByGate (reads_cut reading) gate (Ready (cause_of e)) o.tap p.tap → TextErr (meaning_of meaning) 0 o p e → Untold ⊎ ¬ ReadsAll meaning b (gate ∷ [])
+    errs_so error.SourceFault some by_gate errs = inr (refusal source_error.SourceFault by_gate errs.0)
+    errs_so error.Gone some by_gate errs = inr (refusal source_error.Gone by_gate errs.0)
+    errs_so error.TimedOut some by_gate errs = inr (refusal source_error.TimedOut by_gate errs.0)
+    errs_so (error.NotUtf8 n) some by_gate errs = let bytes = whole_told meaning told b in inl (not_utf8 bytes.0 bytes.1 (errs bytes.0 (opened_told bytes.0 bytes.1)).1)
+    errs_so error.SinkFault some by_gate errs = absurd errs
+    errs_so error.NoMemory some by_gate errs = absurd (some refl)
 
   pub reads_text : (c : Capped (String Global)) → Completes (meaning_of meaning) o 0 (string_bytes c.value) c.n → ((c.n.complete ≡ true) × Told (string_bytes c.value)) ⊎ ((c.n.complete ≡ false) × Untold)
   reads_text c done =

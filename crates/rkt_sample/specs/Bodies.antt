@@ -1,5 +1,5 @@
 -- The bodies of requests, and what is read of them. S is the type of their sources.
-use Rattle.std.specs.Prelude.{◌≡◌, ◌&&◌, ℕ, List, All, Option, Some, None, false, IfSome, IsNone, IsTrue, length, nat_le, codes, if◌then◌else◌}
+use Rattle.std.specs.Prelude.{◌&&◌, ℕ, List, Option, Some, None, IfSome, IsTrue, length, nat_le, codes, if◌then◌else◌}
 use Rattle.std.specs.Map.{lookup}
 use Rattle.std.specs.Option.{option_map_or}
 use Rattle.std.specs.Str.{bytes_eq, is_utf8}
@@ -7,8 +7,10 @@ use Rattle.rkt_cancel.specs.Cancel.{Cancellable, cut_meaning}
 use Rattle.rkt_data.specs.Body.{Body}
 use Rattle.rkt_data.specs.Tap.{body}
 use Rattle.rkt_data.specs.declared.data_stream.ByteUnit.{ByteUnit}
+use Rattle.rkt_router.specs.Calls.{GateRule}
 use Rattle.rkt_source.specs.Source.{Meaning}
 use Rattle.rkt_source.specs.declared.source.Gate.{Gate}
+use Rattle.rkt_sample.specs.Calm.{KeepsOpen, StillOpen}
 
 -- the body of a request, whose source may be cut off
 abbrev pub SampleBody : Type 0 → Type 0
@@ -22,19 +24,19 @@ meaning_of meaning source = cut_meaning source.stage (meaning source.io)
 abbrev pub whole : {S : Type 0} → (S → Meaning) → SampleBody S → Option (List ℕ)
 whole meaning b = body (meaning_of meaning) b.held b.tap
 
--- a source never fails, and was shown no trip
-pub record IsSteady (source : Meaning) : Type 0 where
-  pub never_faults : IsTrue source.never_faults
-  pub unwarned : source.warned ≡ false
+-- a source never fails, and calls under Gates of a rule may have led its machine to where it is, none of which was refused
+pub record IsUncut {S : Type 0} (meaning : S → Meaning) (rule : GateRule) (source : Cancellable S) : Type 0 where
+  pub never_faults : IsTrue (meaning source.io).never_faults
+  pub stage : StillOpen rule source.stage
 
 -- so it is with the source of a body, where it has one
-abbrev pub IsSteadyBody : {S : Type 0} → (S → Meaning) → SampleBody S → Type 0
-IsSteadyBody meaning b = IfSome b.tap (λ t. IsSteady (meaning_of meaning t.now))
+abbrev pub IsUncutBody : {S : Type 0} → (S → Meaning) → GateRule → SampleBody S → Type 0
+IsUncutBody meaning rule b = IfSome b.tap (λ t. IsUncut meaning rule t.now)
 
--- no read of a body is refused under these Gates
+-- no read of a body is refused under these Gates: its source never fails, and is not cut off
 pub record ReadsAll {S : Type 0} (meaning : S → Meaning) (b : SampleBody S) (gates : List Gate) : Type 0 where
-  pub steady : IsSteadyBody meaning b
-  pub untripped : All (λ gate. IsNone gate.tripped) gates
+  pub never_faults : IfSome b.tap (λ t. IsTrue (meaning t.now.io).never_faults)
+  pub stays_open : IfSome b.tap (λ t. KeepsOpen gates t.now.stage)
 
 -- the most bytes that a text may have
 abbrev pub string_limit : List (List ℕ × ByteUnit) → ℕ

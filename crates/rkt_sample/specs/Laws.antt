@@ -1,5 +1,5 @@
 -- What the laws of the sample say.
-use Rattle.std.specs.Prelude.{◌≡◌, ◌≤◌, ℕ, List, Result, String, false}
+use Rattle.std.specs.Prelude.{◌≡◌, ◌≤◌, ℕ, List, Result, String}
 use Rattle.std.specs.Result.{result_ok}
 use Rattle.std.specs.declared.alloc.Global.{Global}
 use Rattle.rkt_http.specs.declared.status.Status.{Status}
@@ -11,7 +11,8 @@ use Rattle.rkt_router.specs.declared.turn.Final.{Final}
 use Rattle.rkt_router.specs.declared.turn.Final.TheVariants.{Done}
 use Rattle.rkt_source.specs.Memory.{SourceInMemory, source_meaning}
 use Rattle.rkt_sample.specs.Added.{AddsOnly, with_added}
-use Rattle.rkt_sample.specs.Bodies.{IsSteadyBody, SampleBody}
+use Rattle.rkt_sample.specs.Bodies.{IsUncutBody, SampleBody}
+use Rattle.rkt_sample.specs.Calm.{IsCalm}
 use Rattle.rkt_sample.specs.Catching as catching
 use Rattle.rkt_sample.specs.Greeting.{age_of}
 use Rattle.rkt_sample.specs.Replies.{left_by, reply_of}
@@ -25,11 +26,11 @@ pub record ComesTo {A : Type 0} (given expected : Final A) (before after left : 
   pub leaves : after ≡ left
   pub adds : AddsOnly before after
 
--- a whole call of a route, of a steady body and under Gates without a trip, is done, and replies what its route does; `/stop`
--- may tell any word
+-- a whole call of a route, of a body that was not cut off and under Gates of a calm rule, is done, and replies what its route does;
+-- `/stop` may tell any word
 abbrev pub RoutesReply : Type 0
-RoutesReply = (rule : GateRule) (turns word : ℕ) (route : SampleRoute) (handed : Handed ℕ (SampleBody SourceInMemory)) (before after : Kept ℕ) (reply : Final (Reply SourceInMemory (SampleBody SourceInMemory))) → rule.may_trip ≡ false → 1 ≤ turns
-    → IsSteadyBody source_meaning handed.body → Made (route_calling source_meaning word) rule turns route handed before reply after → ComesTo reply (Done (reply_of source_meaning route handed)) before after (left_by word route before)
+RoutesReply = (rule : GateRule) (turns word : ℕ) (route : SampleRoute) (handed : Handed ℕ (SampleBody SourceInMemory)) (before after : Kept ℕ) (reply : Final (Reply SourceInMemory (SampleBody SourceInMemory))) → IsCalm rule → 1 ≤ turns
+    → IsUncutBody source_meaning rule handed.body → Made (route_calling source_meaning word) rule turns route handed before reply after → ComesTo reply (Done (reply_of source_meaning route handed)) before after (left_by word route before)
 
 -- a whole call of a catcher is done, and answers what its catcher does
 abbrev pub CatchersAnswer : Type 0

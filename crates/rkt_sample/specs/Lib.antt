@@ -1,5 +1,7 @@
 pub mod Added
 pub mod Bodies
+pub mod Calm
+pub mod CalmLaws
 pub mod Catching
 pub mod CatchingLaws
 pub mod Echo

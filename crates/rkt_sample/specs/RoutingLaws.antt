@@ -1,6 +1,6 @@
 -- That the routes of the sample keep the laws of handlers.
 use Rattle.std.specs.Prelude.{◌≡◌, ◌<◌, zero, suc, ℕ, List, ◌∷◌, [], Option, Some, None, false}
-use Rattle.std.proofs.Common.{⊎_elim, append-nil, arith, le_refl, refl, sym, ◌∙◌}
+use Rattle.std.proofs.Common.{⊎_elim, append-nil, arith, le_refl, refl, sym}
 use Rattle.std.proofs.lemmas.List.Elements.{All-cons, All-nil}
 use Rattle.rkt_cookie.specs.Cookie.{Parts}
 use Rattle.rkt_cookie.specs.Jar.{addition}

@@ -3,8 +3,8 @@ ghost use Rattle.rkt_sample.specs.Laws.{CatchersAnswer, ReadsAge, RoutesReply};
 
 use rkt_param::FromParam;
 
-/// A law of the routes: a whole call, of a body whose source never fails and under Gates without a trip, is done, and replies
-/// and leaves one thing.
+/// A law of the routes: a whole call, of a body whose source never fails, under Gates without a trip or with moments within one
+/// grace, is done, and replies and leaves one thing.
 pub fn routes_reply()
     ensures { RoutesReply }
 {}

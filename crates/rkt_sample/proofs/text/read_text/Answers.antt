@@ -10,5 +10,6 @@ unreachable-requires g c =
 
 pub returns : goal.returns
 returns g c =
-    text_guarded g.S.Source.meaning c.args.request.now c.args.body c.args.gate (record { tells = g.met.S.ToldSource.tells; shut_is_warned = g.met.S.Source.shut_is_warned }) _ (λ complete. c.peek_complete.ensures.whole (c.peek_complete.ensures.complete ∙ complete)) c.in-Ready.answer _
+    text_guarded g.S.Source.meaning c.args.request.now c.args.body c.args.gate (record { tells = g.met.S.ToldSource.tells; stays_open = g.met.S.ToldSource.stays_open })
+    (record { shuts = g.S.Shut.shuts; polled = g.S.Source.polled }) (λ complete. c.peek_complete.ensures.whole (c.peek_complete.ensures.complete ∙ complete)) c.in-Ready.answer _
     (c.in-Ready.ensures c.args.request.now c.args.body [] 0 c.from_data-reading.ensures)

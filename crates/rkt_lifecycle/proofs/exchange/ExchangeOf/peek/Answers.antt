@@ -1,8 +1,10 @@
 use Rattle.std.specs.Prelude.{take}
 use Rattle.std.proofs.Common.{refl}
+use Rattle.rkt_base.specs.declared.poll.Poll.TheVariants.{Pending, Ready}
 use Rattle.rkt_fairing.specs.InSlot.{slot_request, slot_response}
 use Rattle.rkt_lifecycle.proofs.Exchanging.{peeking_done, peeking_on}
 use Rattle.rkt_lifecycle.proofs.Peeks.{peek_on, peek_once}
+use Rattle.rkt_lifecycle.proofs.Running.{tap_runs, taps_run_on}
 use Rattle.rkt_lifecycle.specs.Peeks.{cut_reads, cuts, peeks_of, waits_of}
 use Rattle.rkt_lifecycle.specs.Relations.{relations}
 use Rattle.rkt_lifecycle.proofs.exchange.ExchangeOf.peek.Goals as goal
@@ -11,7 +13,10 @@ pub returns-in-Pending : goal.returns-in-Pending
 returns-in-Pending g c = λ rule first fits is.
     let gives = c.in-Pending.ensures in
     peeking_on (relations (peeks_of g.T.Source.Source.meaning) (slot_request g.P.RequestCallback.calling) (slot_response g.Q.ResponseCallback.calling) g.H.Handler.calling g.K.CatchHandler.calling rule) first c.args.self.now.tables (waits_of g.T.Source.Source.meaning g.T.Source.Shut.shuts g.T.Source.Source.polled) c.args.peeking c.in-Pending.peeking c.args.gate is gives.0 gives.1
-    (λ shown after peeks. peek_on (cuts g.T.Source.Source.meaning) rule c.args.gate fits c.args.peeking.body c.in-Pending.peeking.body after shown gives.1.peeked peeks)
+    (λ shown after peeks. record {
+      peek = peek_on (cuts g.T.Source.Source.meaning) rule c.args.gate fits c.args.peeking.body c.in-Pending.peeking.body after shown gives.1.peeked peeks.peek;
+      machine = taps_run_on rule c.args.peeking.body.tap c.in-Pending.peeking.body.tap after.tap (tap_runs g.T.Source.Shut.shuts g.T.Source.Source.polled rule c.args.gate fits Pending c.args.peeking.body.tap c.in-Pending.peeking.body.tap gives.1.by_gate) peeks.machine;
+    })
 
 pub returns-in-Ready : goal.returns-in-Ready
 returns-in-Ready g c = λ rule first fits is.
@@ -19,4 +24,7 @@ returns-in-Ready g c = λ rule first fits is.
     let shown = take 14 c.in-Ready.opened.body.held in
     c.begin_asking.ensures rule first fits
     (peeking_done (relations (peeks_of g.T.Source.Source.meaning) (slot_request g.P.RequestCallback.calling) (slot_response g.Q.ResponseCallback.calling) g.H.Handler.calling g.K.CatchHandler.calling rule) first c.args.self.now.tables c.args.peeking c.in-Ready.opened shown is gives.0
-    (peek_once (cuts g.T.Source.Source.meaning) rule c.args.gate fits (cut_reads g.T.Source.Shut.shuts g.T.Source.Source.polled) c.args.peeking.body c.in-Ready.opened.body shown gives.1 refl) gives.2)
+    (record {
+      peek = peek_once (cuts g.T.Source.Source.meaning) rule c.args.gate fits (cut_reads g.T.Source.Shut.shuts g.T.Source.Source.polled) c.args.peeking.body c.in-Ready.opened.body shown gives.1 refl;
+      machine = tap_runs g.T.Source.Shut.shuts g.T.Source.Source.polled rule c.args.gate fits (Ready gives.1.by_gate.0) c.args.peeking.body.tap c.in-Ready.opened.body.tap gives.1.by_gate.1;
+    }) gives.2)
