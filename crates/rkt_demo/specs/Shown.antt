@@ -113,8 +113,8 @@ Shown table window told n script text = ShownFrom table window told 0 0 (take n 
 abbrev pub ShowsRequests : Table → Option (ℕ × ℕ) → List ScriptRequest → List ℕ → Type 0
 ShowsRequests table window requests text = (n : ℕ) × (told : ℕ → Told) × MayServe requests n × ShownFrom table window told 0 0 (take n requests) text
 
--- so many requests of one script are shown as one text at most, whatever the moments, where from the first one for `/stop` on no
--- exchange may have been shown a trip
+-- so many requests of one script are shown as one text at most, whatever the moments, where the same is told of each, and of none
+-- from the first one for `/stop` on that a read of its body may have been refused
 abbrev pub ShownOnce : Type 0
 ShownOnce = (table : Table) (window window' : Option (ℕ × ℕ)) (told : ℕ → Told) (n before : ℕ) (script text text' : List ℕ) → StandBefore (requests_of (lines_of script)) before → ((k : ℕ) → before ≤ k → k < n → told k ≢ Told.Warned)
     → Shown table window told n script text → Shown table window' told n script text' → text' ≡ text
