@@ -39,37 +39,49 @@ pub fn cookies(alloc: Global, jar: &CookieJar) -> Result<String, AllocError> {
     Ok(list)
 }
 
-/// The status, the content type and the server of a response, and the size of its body.
-fn answered(alloc: Global, mut response: Response<MemorySource>) -> Result<String, AllocError> {
+/// Adds the status, the content type and the server of a response, and the size of its body.
+fn push_answered(response: &mut Response<MemorySource>, text: &mut String) -> Result<(), NoMemory> {
     let size = response.body_mut().size().unwrap_or(0);
     let media = response.headers().get_one("Content-Type").unwrap_or("-");
     let server = response.headers().get_one("Server").unwrap_or("-");
-    format!(in alloc;
-        "{} {media}, {size} bytes, by {server}",
-        response.status().code
+    let code = response.status().code;
+    write!(text, "{code} {media}, {size} bytes, by {server}")
+}
+
+/// Adds how much a run did, with the cookies of its jar.
+fn push_counts(run: &Run<Site>, cookies: &str, text: &mut String) -> Result<(), NoMemory> {
+    let (calls, cached, moment) = (run.calls.len(), run.cache.len(), run.moment);
+    write!(
+        text,
+        "; {calls} calls, cookies [{cookies}], {cached} cached, at {moment}"
     )
 }
 
-/// What a run did.
-fn done(alloc: Global, run: &Run<Site>) -> Result<String, AllocError> {
-    let (calls, cached) = (run.calls.len(), run.cache.len());
+/// Adds what a run did.
+fn push_done(alloc: Global, run: &Run<Site>, text: &mut String) -> Result<(), NoMemory> {
     let cookies = cookies(alloc, &run.jar)?;
-    format!(in alloc;
-        "{calls} calls, cookies [{cookies}], {cached} cached, at {}",
-        run.moment
-    )
+    push_counts(run, cookies.as_str(), text)
+}
+
+fn told(
+    alloc: Global,
+    run: &Run<Site>,
+    response: &mut Response<MemorySource>,
+) -> Result<String, CaseError> {
+    let mut text = String::new(alloc);
+    push_answered(response, &mut text)?;
+    push_done(alloc, run, &mut text)?;
+    Ok(text)
 }
 
 fn shown(
     alloc: Global,
     run: &Run<Site>,
-    response: Response<MemorySource>,
+    mut response: Response<MemorySource>,
 ) -> Result<String, CaseError> {
-    let mut text = answered(alloc, response)?;
-    let done = done(alloc, run)?;
-    text.push_str("; ")?;
-    text.push_str(done.as_str())?;
-    Ok(text)
+    let text = told(alloc, run, &mut response);
+    drop(response);
+    text
 }
 
 fn no_body(alloc: Global) -> Result<Body0<Site>, NoMemory> {
@@ -147,13 +159,23 @@ pub fn exchange(alloc: Global, setting: &Setting, text: &str) -> Result<String, 
     text
 }
 
-/// How many routes a rocket has that was taken apart and put together, and whether it has a managed value.
-pub fn parted(alloc: Global, setting: &Setting) -> Result<String, CaseError> {
-    let rocket = rocket(alloc, setting)?;
+/// A rocket that was taken apart and put together.
+fn put_together(rocket: Rocket<Ignite, Site>) -> Rocket<Orbit, Site> {
     let (tables, table, handle) = rocket.into_orbit().into_parts();
-    let rocket = Rocket::<Orbit, Site>::from_parts(tables, table, handle);
+    Rocket::<Orbit, Site>::from_parts(tables, table, handle)
+}
+
+/// How many routes it has then, and whether it has a managed value.
+fn counted(rocket: Rocket<Ignite, Site>) -> (usize, bool) {
+    let rocket = put_together(rocket);
     let routes = rocket.tables().router.routes().len();
     let managed = rocket.tables().managed.get(Key(0)).is_some();
     drop(rocket);
+    (routes, managed)
+}
+
+/// How many routes a rocket has that was taken apart and put together, and whether it has a managed value.
+pub fn parted(alloc: Global, setting: &Setting) -> Result<String, CaseError> {
+    let (routes, managed) = counted(rocket(alloc, setting)?);
     Ok(format!(in alloc; "{routes} routes, managed {managed}")?)
 }
