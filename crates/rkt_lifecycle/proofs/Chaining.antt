@@ -69,40 +69,41 @@ module _ {F A X Task C Y : Type 0} (chain : Chain F A X Task C) (Whole : List Ca
       between_call Whole first (chain.kept called.before).shutdown (chain.kept now).shutdown calls calls' call _ _ called.back (ap (λ c. c.word) call_is) calls_is
       (λ rest over done. chained_call chain place called.before now call rest (follow over) called.fairing called.found (record { reply = reply; made = once_made reply other called.made; kept_as = call_is }) done) called.between
 
-  -- a turn of a call was made, of which there are so many
-  pub call_turned : (now now' : X) (calls calls' : List Call) (call call' : FairingTask Task) (gate : Gate) (n : ℕ) (made : Turn (Unit {0})) → n ≡ chain.turns → GateFits chain.gates gate → calls' ≡ calls → call'.place ≡ call.place
-      → call'.turn ≡ call.turn + 1 → (made ≡ turn.Pending → call.turn + 1 < n)
-      → (made ≡ turn.Pending → (fairing : Slot F) → fairing_at chain.event chain.fairings call.place ≡ Some fairing → Polls chain.calling fairing chain.handed call.task now gate step.Pending call'.task now')
-      → ((before : X) (fairing : Slot F) → fairing_at chain.event chain.fairings call.place ≡ Some fairing → Making chain.calling chain.gates n fairing chain.handed before call.task now call.turn
-      → HandsBack (chain.kept before).shutdown (chain.kept now').shutdown)
-      → ((before : X) (fairing : Slot F) → fairing_at chain.event chain.fairings call.place ≡ Some fairing → Making chain.calling chain.gates n fairing chain.handed before call.task now call.turn
-      → Turned chain.calling chain.gates n fairing chain.handed before made call'.task now' (call.turn + 1))
-      → CallsNow chain Whole first follow now calls call → CallTurned chain Whole first follow gate now' calls' call' made
-  call_turned now now' calls calls' call call' gate n turn.Pending n_is fits calls_is place_is turn_is left polls back gives was =
-      let after = pends chain.calling chain.gates chain.turns was.fairing chain.handed was.before now now' gate call.task call'.task call.turn (subst (λ m. call.turn + 1 < m) n_is (left refl)) fits was.making
-      (polls refl was.fairing was.found) in
-      let making = subst (λ t. (m : Making chain.calling chain.gates chain.turns was.fairing chain.handed was.before call'.task now' t) × (m.gates ≡ was.making.gates ++ gate ∷ [])) (sym turn_is) after in
-      subst (λ cs. CallTurned chain Whole first follow gate now' cs call' turn.Pending) (sym calls_is)
-      (record { before = was.before; fairing = was.fairing; found = rw place_is was.found; between = rw place_is was.between; making = making.0 }, (was.making.gates, making.1))
-  call_turned now now' calls calls' call call' gate n (turn.Over reply) n_is fits calls_is place_is turn_is left polls back gives was =
-      let making = subst (λ m. Making chain.calling chain.gates m was.fairing chain.handed was.before call.task now call.turn) (sym n_is) was.making in
-      subst (λ cs. CallTurned chain Whole first follow gate now' cs call' (turn.Over reply)) (sym calls_is) (record {
+  -- so stands the call of the fairing that was found at its place, which may be polled so often
+  pub call_made : (now : X) (calls : List Call) (call : FairingTask Task) (n : ℕ) (fairing : Slot F) → n ≡ chain.turns → Some fairing ≡ fairing_at chain.event chain.fairings call.place
+      → (was : CallsNow chain Whole first follow now calls call) → Making chain.calling chain.gates n fairing chain.handed was.before call.task now call.turn
+  call_made now calls call n fairing n_is here was =
+      subst (λ m. Making chain.calling chain.gates m fairing chain.handed was.before call.task now call.turn) (sym n_is)
+      (subst (λ f. Making chain.calling chain.gates chain.turns f chain.handed was.before call.task now call.turn) (sym (same_fairing here was.found)) was.making)
+
+  -- a turn of it was made
+  pub call_turned : (now now' : X) (calls : List Call) (call : FairingTask Task) (task : Option Task) (gate : Gate) (n : ℕ) (fairing : Slot F) (made : Turn (Unit {0}))
+      → n ≡ chain.turns → GateFits chain.gates gate → Some fairing ≡ fairing_at chain.event chain.fairings call.place
+      → (made ≡ turn.Pending → call.turn + 1 < n)
+      → (made ≡ turn.Pending → Polls chain.calling fairing chain.handed call.task now gate step.Pending task now')
+      → ((before : X) → Making chain.calling chain.gates n fairing chain.handed before call.task now call.turn → HandsBack (chain.kept before).shutdown (chain.kept now').shutdown)
+      → ((before : X) → Making chain.calling chain.gates n fairing chain.handed before call.task now call.turn → Turned chain.calling chain.gates n fairing chain.handed before made task now' (call.turn + 1))
+      → CallsNow chain Whole first follow now calls call → CallTurned chain Whole first follow gate now' calls (record { place = call.place; task = task; turn = call.turn + 1 }) made
+  call_turned now now' calls call task gate n fairing turn.Pending n_is fits here left polls back gives was =
+      let making = subst (λ m. Making chain.calling chain.gates m fairing chain.handed was.before call.task now call.turn) n_is (call_made now calls call n fairing n_is here was) in
+      let after = pends chain.calling chain.gates chain.turns fairing chain.handed was.before now now' gate call.task task call.turn (subst (λ m. call.turn + 1 < m) n_is (left refl)) fits making (polls refl) in
+      (record { before = was.before; fairing = fairing; found = sym here; between = was.between; making = after.0 }, (making.gates, after.1))
+  call_turned now now' calls call task gate n fairing (turn.Over reply) n_is fits here left polls back gives was =
+      let making = call_made now calls call n fairing n_is here was in record {
         before = was.before;
-        fairing = was.fairing;
-        found = rw place_is was.found;
-        between = rw place_is was.between;
-        back = back was.before was.fairing was.found making;
-        made = subst (λ m. OnceOver reply (Made chain.calling chain.gates m was.fairing chain.handed was.before reply now')) n_is (gives was.before was.fairing was.found making);
-      })
+        fairing = fairing;
+        found = sym here;
+        between = was.between;
+        back = back was.before making;
+        made = subst (λ m. OnceOver reply (Made chain.calling chain.gates m fairing chain.handed was.before reply now')) n_is (gives was.before making);
+      }
 
   -- the handle is one of the first one's wire
-  pub call_backs : (now now' : X) (calls : List Call) (call : FairingTask Task) (n : ℕ) → n ≡ chain.turns
-      → ((before : X) (fairing : Slot F) → fairing_at chain.event chain.fairings call.place ≡ Some fairing → Making chain.calling chain.gates n fairing chain.handed before call.task now call.turn
-      → HandsBack (chain.kept before).shutdown (chain.kept now').shutdown)
+  pub call_backs : (now now' : X) (calls : List Call) (call : FairingTask Task) (n : ℕ) (fairing : Slot F) → n ≡ chain.turns → Some fairing ≡ fairing_at chain.event chain.fairings call.place
+      → ((before : X) → Making chain.calling chain.gates n fairing chain.handed before call.task now call.turn → HandsBack (chain.kept before).shutdown (chain.kept now').shutdown)
       → CallsNow chain Whole first follow now calls call → HandsBack first (chain.kept now').shutdown
-  call_backs now now' calls call n n_is back was =
-      hands_back_more first (chain.kept was.before).shutdown (chain.kept now').shutdown was.between.backs.hands_back
-      (back was.before was.fairing was.found (subst (λ m. Making chain.calling chain.gates m was.fairing chain.handed was.before call.task now call.turn) (sym n_is) was.making))
+  call_backs now now' calls call n fairing n_is here back was =
+      hands_back_more first (chain.kept was.before).shutdown (chain.kept now').shutdown was.between.backs.hands_back (back was.before (call_made now calls call n fairing n_is here was))
 
 -- all were called: the calls that were made lead to what they left
 pub calls_end : {F A X Task C : Type 0} (chain : Chain F A X Task C) (start : X) (first : Handle) (now : X) (calls : List Call)

@@ -1,3 +1,5 @@
+pub mod AnswerTurns
+pub mod AskTurns
 pub mod Chaining
 pub mod Exchanging
 pub mod Peeks

@@ -171,23 +171,19 @@ impl<'a, T: Types, F, Q: ResponseCallback<T, F>> AnsweringOf<'a, T, F, Q> {
                 &mut live.ctx,
             );
             call.turn += 1;
-            match turn {
-                Turn::Pending => {
-                    let next = Some(call);
-                    return Progress::Pending(AnsweringOf {
-                        alloc,
-                        fairings,
-                        turns,
-                        underway: Underway { lent, next },
-                    });
-                }
-                Turn::Over(reply) => {
-                    match called::<T, F, Q>(fairings, turns, &mut lent, call.place, reply) {
-                        Ok(begun) => next = begun,
-                        Err(_) => return Progress::Ready(give_up(lent)),
-                    }
-                }
-            }
+            let Turn::Over(reply) = turn else {
+                let next = Some(call);
+                return Progress::Pending(AnsweringOf {
+                    alloc,
+                    fairings,
+                    turns,
+                    underway: Underway { lent, next },
+                });
+            };
+            let Ok(begun) = called::<T, F, Q>(fairings, turns, &mut lent, call.place, reply) else {
+                return Progress::Ready(give_up(lent));
+            };
+            next = begun;
         }
     }
 }

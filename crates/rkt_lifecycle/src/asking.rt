@@ -168,23 +168,19 @@ impl<'a, T: Types, F, P: RequestCallback<T, F>> AskingOf<'a, T, F, P> {
                 &mut live.ctx,
             );
             call.turn += 1;
-            match turn {
-                Turn::Pending => {
-                    let next = Some(call);
-                    return Progress::Pending(AskingOf {
-                        alloc,
-                        fairings,
-                        turns,
-                        underway: Underway { lent, next },
-                    });
-                }
-                Turn::Over(reply) => {
-                    match called::<T, F, P>(fairings, turns, &mut lent, call.place, reply) {
-                        Ok(begun) => next = begun,
-                        Err(_) => return Progress::Ready(give_up(lent)),
-                    }
-                }
-            }
+            let Turn::Over(reply) = turn else {
+                let next = Some(call);
+                return Progress::Pending(AskingOf {
+                    alloc,
+                    fairings,
+                    turns,
+                    underway: Underway { lent, next },
+                });
+            };
+            let Ok(begun) = called::<T, F, P>(fairings, turns, &mut lent, call.place, reply) else {
+                return Progress::Ready(give_up(lent));
+            };
+            next = begun;
         }
     }
 }

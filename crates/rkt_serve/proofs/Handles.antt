@@ -1,10 +1,7 @@
 -- A handle that is lent again and again.
-use Rattle.std.proofs.Common.{◌≡◌, ◌<◌, max, refl, subst, arith}
+use Rattle.std.proofs.Common.{◌≡◌, ◌<◌, max, subst, arith}
 use Rattle.rkt_turn.specs.Shutdown.{Handle}
 use Rattle.rkt_turn.specs.HandsBack.{HandsBack}
-
-pub hands_back_same : (h : Handle) → HandsBack h h
-hands_back_same h = record { wire = refl; looked = omega arith; seen = λ some. refl }
 
 -- a handle that took back what was split off
 pub rejoined : (before lent after other : Handle) → lent ≡ before → after.wire ≡ lent.wire → after.looked ≡ max lent.looked other.looked
