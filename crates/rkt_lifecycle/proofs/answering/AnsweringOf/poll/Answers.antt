@@ -65,8 +65,8 @@ loop-next-preserved-in-Ok g c =
           c.in-Ok.ensures.gives rule first (record {
             request = now.request;
             call = rw c.in-Over.is at (answer_turned (slot_response g.Q.ResponseCallback.calling) rule c.self.inside.fairings.now c.self.inside.turns first c.loop-next.lent c.in-Some.call c.max-most.result c.in-Some-get.fairing.now
-            (record { response = c.turn_response-turn.new.response; kept = c.turn_response-turn.new.ctx.kept }) c.turn_response-turn.new.task c.args.gate c.turn_response-turn.result c.max-most.ensures fits c.loop-next.invariant.0 c.in-Some-get.ensures.found c.turn_response-turn.ensures.left c.turn_response-turn.ensures.pending
-            (λ before making. (c.turn_response-turn.ensures.grows rule before making).shutdown) (λ before fits making. c.turn_response-turn.ensures.gives rule before fits making) (rw c.in-Some.is at now));
+                (record { response = c.turn_response-turn.new.response; kept = c.turn_response-turn.new.ctx.kept }) c.turn_response-turn.new.task c.args.gate c.turn_response-turn.result c.max-most.ensures fits c.loop-next.invariant.0 c.in-Some-get.ensures.found c.turn_response-turn.ensures.left c.turn_response-turn.ensures.pending
+                (λ before making. (c.turn_response-turn.ensures.grows rule before making).shutdown) (λ before fits making. c.turn_response-turn.ensures.gives rule before fits making) (rw c.in-Some.is at now));
           }),
     )
 
@@ -84,8 +84,8 @@ loop-next-preserved g c =
           c.in-Ok.ensures.gives rule first (record {
             request = now.request;
             call = rw c.in-Over.is at (answer_turned (slot_response g.Q.ResponseCallback.calling) rule c.self.inside.fairings.now c.self.inside.turns first c.loop-next.lent c.in-Some.call c.max-most.result c.in-Some-get.fairing.now
-            (record { response = c.turn_response-turn.new.response; kept = c.turn_response-turn.new.ctx.kept }) c.turn_response-turn.new.task c.args.gate c.turn_response-turn.result c.max-most.ensures fits c.loop-next.invariant.0 c.in-Some-get.ensures.found c.turn_response-turn.ensures.left c.turn_response-turn.ensures.pending
-            (λ before making. (c.turn_response-turn.ensures.grows rule before making).shutdown) (λ before fits making. c.turn_response-turn.ensures.gives rule before fits making) (rw c.in-Some.is at now));
+                (record { response = c.turn_response-turn.new.response; kept = c.turn_response-turn.new.ctx.kept }) c.turn_response-turn.new.task c.args.gate c.turn_response-turn.result c.max-most.ensures fits c.loop-next.invariant.0 c.in-Some-get.ensures.found c.turn_response-turn.ensures.left c.turn_response-turn.ensures.pending
+                (λ before making. (c.turn_response-turn.ensures.grows rule before making).shutdown) (λ before fits making. c.turn_response-turn.ensures.gives rule before fits making) (rw c.in-Some.is at now));
           }),
     )
 
