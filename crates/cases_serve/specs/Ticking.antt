@@ -1,5 +1,5 @@
 -- What Gates of one moment after another watch.
-use Rattle.std.proofs.Common.{◌≡◌, ◌≤◌, ◌∙◌, ℕ, Option, None, Some, option_map, arith, refl, ap}
+use Rattle.std.proofs.Common.{◌≡◌, ◌≤◌, ◌∙◌, ℕ, Option, None, option_map, arith, refl, ap}
 use Rattle.rkt_worker.specs.Gates.{Watched, WatchedOn}
 use Rattle.cases_serve.specs.declared.ticks.Ticks.{Ticks}
 

@@ -1,4 +1,4 @@
-use Rattle.std.proofs.Common.{◌∙◌, ℕ, Option, None, Some, option_map, ap, refl, sym}
+use Rattle.std.proofs.Common.{◌∙◌, ℕ, Option, Some, option_map, ap, refl, sym}
 use Rattle.rkt_worker.specs.Gates.{word_in}
 use Rattle.cases_serve.proofs.ticks.TicksGates.next_gate.Goals as goal
 
