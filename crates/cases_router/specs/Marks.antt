@@ -6,7 +6,6 @@ use Rattle.std.proofs.lemmas.List.{append-nil}
 use Rattle.rkt_cookie.specs.declared.change.Change.{Change}
 use Rattle.rkt_http.specs.declared.outcome.Outcome.TheVariants.{Forward}
 use Rattle.rkt_request.specs.Lent.{Grows, Kept}
-use Rattle.rkt_request.specs.LentLaws.{grows_same}
 use Rattle.rkt_router.specs.CallbackLaws.{at_once_keeps}
 use Rattle.rkt_router.specs.Callbacks.{Handed, KeepsHandler, Reply, at_once}
 use Rattle.rkt_router.specs.Calling.{Calling}

@@ -14,7 +14,7 @@ use Rattle.rkt_answers.specs.Replies.{MadeBy, reply_of}
 use Rattle.rkt_router.specs.Callbacks.{GivesBack, Handed, Keeps, KeepsHandler, Refused, Reply}
 use Rattle.rkt_router.specs.Calling.{Calling}
 use Rattle.rkt_router.specs.declared.step.Step.{Step}
-use Rattle.rkt_router.specs.declared.step.Step.TheVariants.{Done, Fault, Pending, Starved}
+use Rattle.rkt_router.specs.declared.step.Step.TheVariants.{Done, Starved}
 
 -- A value was made, and answered so: Made says which value may be made of what is lent and what that leaves, and May what a
 -- value may answer. C is the type of cached values, A that of answers, X that of values.

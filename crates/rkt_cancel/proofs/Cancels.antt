@@ -9,7 +9,7 @@ use Rattle.rkt_cancel.specs.declared.stage.Stage.{Stage}
 use Rattle.rkt_cancel.specs.declared.stage.Stage.TheVariants.{Active, Grace, Mercy, Gone}
 use Rattle.rkt_cancel.specs.declared.stage.Refused.{Refused}
 use Rattle.rkt_source.specs.Source.{Meaning, Keeps}
-use Rattle.rkt_cancel.specs.Cancel.{Cancellable, Steps, Runs, HaveGrace, CutsAfterGrace, Ending, ClosedAt, Closed, Arrives, noticed, run_out, advanced, late, saw_of, cut_of, is_warned, is_gone, cut_meaning}
+use Rattle.rkt_cancel.specs.Cancel.{Cancellable, Steps, Runs, HaveGrace, CutsAfterGrace, Ending, ClosedAt, Arrives, noticed, run_out, advanced, late, saw_of, cut_of, is_warned, is_gone, cut_meaning}
 
 grace_by : (b : Bool) (grace now old saw : ℕ) → nat_le grace (now - old) ≡ b → (if b then Mercy old now else Grace old) ≡ Grace saw → now - saw < grace
 grace_by true grace now old saw t e = absurd (cc)

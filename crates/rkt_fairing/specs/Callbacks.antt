@@ -4,7 +4,6 @@ use Rattle.std.proofs.Common.{ap}
 use Rattle.rkt_message.specs.Response.{ResponseOf}
 use Rattle.rkt_request.specs.Lent.{Kept, Grows}
 use Rattle.rkt_request.specs.LentLaws.{grows_same}
-use Rattle.rkt_request.specs.Seen.{Seen}
 use Rattle.rkt_router.specs.Callbacks.{RequestAt, at_once}
 use Rattle.rkt_router.specs.Calling.{Calling}
 use Rattle.rkt_source.specs.declared.source.Gate.{Gate}

@@ -1,5 +1,5 @@
 -- Two steps on an outcome, one after the other.
-use Rattle.std.proofs.Common.{◌≡◌, ◌↔◌, refl, sym, ap, subst}
+use Rattle.std.proofs.Common.{◌≡◌, refl, sym, ap, subst}
 use Rattle.rkt_http.specs.declared.outcome.Outcome.{Outcome}
 use Rattle.rkt_http.specs.declared.outcome.Outcome.TheVariants.{Success, Error, Forward}
 use Rattle.rkt_http.specs.Outcome.{IsSuccessAnd, Maps, GoesOn}

@@ -4,7 +4,7 @@ use Rattle.std.specs.Fmt.{decimal}
 use Rattle.std.proofs.lemmas.Fmt.{decimal_digit, decimal_step}
 use Rattle.rkt_http.specs.Table.{row_at}
 use Rattle.rkt_http.specs.Status.{reasons, reason_of}
-use Rattle.rkt_http.specs.DefaultPage.{Page, said, unknown, descriptions, page_with, page_of, html_text, json_text, html_page, json_page, page_reason_of, description_of}
+use Rattle.rkt_http.specs.DefaultPage.{said, unknown, descriptions, page_with, page_of, html_text, json_text, html_page, json_page, page_reason_of, description_of}
 
 page_is : (code : ℕ) (description reason : Option (List ℕ)) → row_at code descriptions ≡ description → reason_of code ≡ reason → page_of code ≡ page_with description reason
 unfolding page_of

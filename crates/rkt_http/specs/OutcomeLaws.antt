@@ -2,7 +2,7 @@
 use Rattle.std.specs.Prelude.{◌≡◌, ◌↔◌}
 use Rattle.rkt_http.specs.Outcome.{Maps, GoesOn}
 use Rattle.rkt_http.specs.declared.outcome.Outcome.{Outcome}
-use Rattle.rkt_http.specs.declared.outcome.Outcome.TheVariants.{Success, Error, Forward}
+use Rattle.rkt_http.specs.declared.outcome.Outcome.TheVariants.{Success}
 
 -- the second is what the function gives of the first
 abbrev pub GivenBy : {A B : Type 0} → (A → B) → A → B → Type 0

@@ -16,12 +16,13 @@ use Rattle.rkt_router.specs.declared.turn.Final.TheVariants as final
 use Rattle.rkt_router.specs.declared.turn.Turn.{Turn}
 use Rattle.rkt_router.specs.declared.turn.Turn.TheVariants as turn
 use Rattle.rkt_routing.specs.Backs.{Backs}
-use Rattle.rkt_routing.specs.BetweenLaws.{between_call, between_on, hands_back_more}
+use Rattle.rkt_routing.specs.BetweenLaws.{between_call, between_on}
 use Rattle.rkt_routing.specs.MakingLaws.{pends}
 use Rattle.rkt_routing.specs.Recorded.{recorded}
 use Rattle.rkt_routing.specs.declared.run.Call.{Call}
 use Rattle.rkt_source.specs.declared.source.Gate.{Gate}
 use Rattle.rkt_turn.specs.HandsBack.{HandsBack}
+use Rattle.rkt_turn.specs.HandsBackLaws.{hands_back_more}
 use Rattle.rkt_turn.specs.Shutdown.{Handle}
 use Rattle.rkt_lifecycle.specs.Chain.{Begins, Called, CallStands, to_call, CallTurned, CallsFrom, CallsNow, Chain, Chained, Ends, FairingCall}
 use Rattle.rkt_lifecycle.specs.Recorded.{fairing_answer}

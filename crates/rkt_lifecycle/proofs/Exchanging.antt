@@ -9,7 +9,8 @@ use Rattle.rkt_request.specs.declared.bad.Bad.{Bad}
 use Rattle.rkt_router.specs.Calls.{GateFits}
 use Rattle.rkt_routing.specs.Beginning.{Beginning}
 use Rattle.rkt_routing.specs.Backs.{Backs}
-use Rattle.rkt_routing.specs.BetweenLaws.{backs_more, hands_back_more}
+use Rattle.rkt_routing.specs.BetweenLaws.{backs_more}
+use Rattle.rkt_turn.specs.HandsBackLaws.{hands_back_more}
 use Rattle.rkt_routing.specs.Routed.{is_head}
 use Rattle.rkt_routing.specs.Stands.{Holding, StandsAt, PolledGives as RoutingGives}
 use Rattle.rkt_routing.specs.declared.progress.Progress.TheVariants as progress

@@ -7,6 +7,7 @@ use Rattle.std.proofs.lemmas.Option.{get_or_from_slice_get, option_and_then_some
 use Rattle.std.specs.List.{Contains, slice_get}
 use Rattle.std.proofs.Math.Nat.{le_refl}
 use Rattle.rkt_turn.specs.HandsBack.{HandsBack}
+use Rattle.rkt_turn.specs.HandsBackLaws.{hands_back_more, hands_back_same}
 use Rattle.rkt_turn.specs.Shutdown.{Handle}
 use Rattle.rkt_fairing.specs.Fairings.{SeenFairings}
 use Rattle.rkt_fairing.specs.Life.{SeenView}
@@ -23,22 +24,8 @@ pub counted_more : (calls more : List Called) (called : Called) (n : ℕ) → mo
 counted_more calls more called n is all = ap length is ∙ length_push calls called ∙ ap (λ (m : ℕ). m + 1) all
 
 -- a handle that is the same comes back
-pub hands_back_same : (before after : Handle) → after ≡ before → HandsBack before after
-hands_back_same before after same = record {
-  wire = ap (λ (handle : Handle). handle.wire) same;
-  looked = rw (ap (λ (handle : Handle). handle.looked) same) (le_refl before.looked);
-  seen = λ was. ap (λ (handle : Handle). handle.seen) same;
-}
-
--- and one that comes back twice
-pub hands_back_more : (a b c : Handle) → HandsBack a b → HandsBack b c → HandsBack a c
-hands_back_more a b c first second = record {
-  wire = second.wire ∙ first.wire;
-  looked = omega (arith, first.looked, second.looked);
-  seen = λ was.
-      let kept = first.seen was in
-      second.seen (subst (λ (n : ℕ). 0 < n) (sym kept) was) ∙ kept;
-}
+pub back_same : (before after : Handle) → after ≡ before → HandsBack before after
+back_same before after same = subst (λ h. HandsBack before h) (sym same) (hands_back_same before)
 
 -- one place of a list is another one
 slice_get-set_other : {X : Type 0} (xs : List X) (i j : ℕ) (x : X) → j ≢ i → slice_get (set xs i x) j ≡ slice_get xs j
@@ -87,12 +74,12 @@ module _ {H K N V F Task : Type 0} (calling : CallingAtLiftoff H K N V F Task) (
 
   -- after a call the handle stays one of its wire
   pub lift_back : (slot left : Slot F) (before after : Handle) (called : Called) → CalledAtLiftoff calling view slot before called left after → HandsBack before after
-  lift_back (Shield headers) left before after called gives = hands_back_same before after gives.2
+  lift_back (Shield headers) left before after called gives = back_same before after gives.2
   lift_back (App fairing) left before after called (changed, is, gives, back) = back
 
   -- and after a chain
   pub lifts_back : (n : ℕ) (before after : Lifting F) (calls : List Called) → LiftsFrom calling view n before calls after → HandsBack before.shutdown after.shutdown
-  lifts_back n before after [] chain = hands_back_same before.shutdown after.shutdown (ap (λ (l : Lifting F). l.shutdown) chain)
+  lifts_back n before after [] chain = back_same before.shutdown after.shutdown (ap (λ (l : Lifting F). l.shutdown) chain)
   lifts_back n before after (first ∷ calls) (mid, link, rest) =
       hands_back_more before.shutdown mid.shutdown after.shutdown (lift_back link.slot link.left before.shutdown mid.shutdown first link.gives) (lifts_back (n + 1) mid after calls rest)
 

@@ -1,13 +1,13 @@
 -- That fewer are left behind each route that is tried.
 use Rattle.std.specs.Prelude.{◌≡◌, ◌≤◌, ◌<◌, ◌<ℤ◌, ◌⊎◌, ◌+◌, zero, suc, ℕ, ℤ, List, [], ◌∷◌, Bool, true, false, Option, Some, None, IfSome, IsSomeAnd, length, slice_get, if◌then◌else◌, nat_lt}
-use Rattle.std.specs.Int.Signed.{lt_z, lt_z_yes, lt_z_no, <ℤ_irrefl, ◌≤ℤ◌}
+use Rattle.std.specs.Int.Signed.{lt_z, lt_z_yes, <ℤ_irrefl}
 use Rattle.std.specs.Cmp.{int_chain}
-use Rattle.std.proofs.Common.{arith, sym, inl, inr, refl, ap, ◌∙◌, subst}
+use Rattle.std.proofs.Common.{arith, sym, inl, inr, refl, ◌∙◌, subst}
 use Rattle.rkt_route.specs.declared.route.Route.{Route}
 use Rattle.rkt_router.proofs.Orders.{matching_within}
 use Rattle.rkt_router.specs.Left.{count, is_behind, left, goes_before}
 use Rattle.rkt_request.specs.Seen.{Seen}
-use Rattle.rkt_router.specs.Tries.{Before, Behind, IsNextTry, Matches, MatchesAt}
+use Rattle.rkt_router.specs.Tries.{Behind, IsNextTry, Matches}
 
 one_of : (b : Bool) → (if b then 1 else 0) ≤ 1
 one_of true = omega arith

@@ -4,20 +4,11 @@ use Rattle.std.specs.List.{All}
 use Rattle.std.proofs.Common.{arith, refl, sym, ◌∙◌, append_assoc, subst}
 use Rattle.std.proofs.lemmas.List.Elements.{All-append, All-push, All-weaker}
 use Rattle.rkt_turn.specs.HandsBack.{HandsBack}
+use Rattle.rkt_turn.specs.HandsBackLaws.{hands_back_more, hands_back_same}
 use Rattle.rkt_turn.specs.Shutdown.{Handle}
 use Rattle.rkt_routing.specs.Backs.{Backs, Sees}
 use Rattle.rkt_routing.specs.Between.{BetweenOf}
 use Rattle.rkt_routing.specs.declared.run.Call.{Call}
-
-pub hands_back_same : (h : Handle) → HandsBack h h
-hands_back_same h = record { wire = refl; looked = omega arith; seen = λ some. refl }
-
-pub hands_back_more : (a b c : Handle) → HandsBack a b → HandsBack b c → HandsBack a c
-hands_back_more a b c one two = record {
-  wire = two.wire ∙ one.wire;
-  looked = omega (arith, one.looked, two.looked);
-  seen = λ some. two.seen (subst (λ n. 0 < n) (sym (one.seen some)) some) ∙ one.seen some;
-}
 
 -- a word that was seen stays seen
 sees_more : (now after : Handle) → HandsBack now after → (call : Call) → Sees now call → Sees after call

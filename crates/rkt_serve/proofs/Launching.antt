@@ -16,7 +16,7 @@ use Rattle.rkt_board.specs.Events.{is_abandoned, is_trip, admitted, trip_of}
 use Rattle.rkt_board.specs.declared.closing.ClosedOf.{ClosedOf}
 use Rattle.rkt_board.specs.declared.history.HistoryOf.{HistoryOf}
 use Rattle.rkt_worker.proofs.Abandoned.{may_abandon}
-use Rattle.rkt_routing.specs.BetweenLaws.{hands_back_more}
+use Rattle.rkt_turn.specs.HandsBackLaws.{hands_back_more}
 use Rattle.rkt_worker.specs.Causes.{AllCaused}
 use Rattle.rkt_worker.specs.Headline.{AllTimed, GoesOn, IsLegal, IsOver}
 use Rattle.rkt_ignition.specs.declared.error.IgniteError.{IgniteError}

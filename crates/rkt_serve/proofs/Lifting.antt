@@ -9,7 +9,7 @@ use Rattle.rkt_lifecycle.specs.Tables.{SeenTables}
 use Rattle.rkt_orbit.specs.Calls.{CallingAtLiftoff}
 use Rattle.rkt_orbit.specs.Lifts.{Lifts}
 use Rattle.rkt_orbit.specs.declared.called.Called.{Called}
-use Rattle.rkt_routing.specs.BetweenLaws.{hands_back_more}
+use Rattle.rkt_turn.specs.HandsBackLaws.{hands_back_more}
 use Rattle.rkt_serve.specs.Left.{IsLeft}
 use Rattle.rkt_serve.specs.Lifted.{LiftsOff, IsLifted}
 use Rattle.rkt_worker.specs.View.{view_of}

@@ -150,7 +150,7 @@ fn begin<A: App, K: Link>(
 }
 
 // A handle that takes another one of its wire back.
-#[tactic(auto, using(crate::proofs::Handles::rejoined, rkt_routing::specs::BetweenLaws::hands_back_same))]
+#[tactic(auto, using(crate::proofs::Handles::rejoined, rkt_turn::specs::HandsBackLaws::hands_back_same))]
 fn with_back<W: Reason>(mut handle: Shutdown<W>, back: Option<Shutdown<W>>) -> Shutdown<W>
     requires wire { IfSome back (λ other. other.wire ≡ handle.wire) }
     ensures { HandsBack handle result }

@@ -6,3 +6,4 @@ pub mod Turn
 pub mod TurnRule
 pub mod Wire
 pub mod HandsBack
+pub mod HandsBackLaws

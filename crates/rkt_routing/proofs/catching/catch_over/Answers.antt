@@ -1,5 +1,5 @@
 use Rattle.std.proofs.Common.{refl}
-use Rattle.rkt_routing.specs.BetweenLaws.{hands_back_more}
+use Rattle.rkt_turn.specs.HandsBackLaws.{hands_back_more}
 use Rattle.rkt_routing.proofs.Statuses.{called_caught}
 use Rattle.rkt_routing.proofs.catching.catch_over.Goals as goal
 

@@ -1,5 +1,5 @@
 use Rattle.std.proofs.Common.{refl}
-use Rattle.rkt_routing.specs.BetweenLaws.{hands_back_more}
+use Rattle.rkt_turn.specs.HandsBackLaws.{hands_back_more}
 use Rattle.rkt_routing.proofs.Routes.{tried_replied}
 use Rattle.rkt_routing.proofs.trying.route_over.Goals as goal
 

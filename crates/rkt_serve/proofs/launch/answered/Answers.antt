@@ -5,7 +5,7 @@ use Rattle.rkt_turn.specs.HandsBack.{HandsBack}
 use Rattle.rkt_turn.specs.Shutdown.{Handle}
 use Rattle.rkt_board.specs.declared.closing.ClosedOf.{ClosedOf}
 use Rattle.rkt_serve.specs.Left.{IsLeft}
-use Rattle.rkt_routing.specs.BetweenLaws.{hands_back_same}
+use Rattle.rkt_turn.specs.HandsBackLaws.{hands_back_same}
 use Rattle.rkt_serve.proofs.launch.answered.Goals as goal
 
 -- what is closed is left with a rocket of these parts

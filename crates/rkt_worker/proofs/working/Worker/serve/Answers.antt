@@ -7,7 +7,7 @@ use Rattle.rkt_link.proofs.Telling.{tells_same, tells_then}
 use Rattle.rkt_link.specs.Clock.{IsAmid}
 use Rattle.rkt_link.specs.Link.{LinkMeaning}
 use Rattle.rkt_routing.specs.Backs.{Sees}
-use Rattle.rkt_routing.specs.BetweenLaws.{hands_back_same}
+use Rattle.rkt_turn.specs.HandsBackLaws.{hands_back_same}
 use Rattle.rkt_worker.proofs.Cutting.{amid_later, some_word}
 use Rattle.rkt_worker.proofs.Meanwhile.{still_unclosed, trips_then}
 use Rattle.rkt_worker.proofs.Outcomes.{for_none, not_abandoned}

@@ -1,6 +1,6 @@
 use Rattle.std.proofs.Common.{◌∙◌, ap, sym}
 use Rattle.rkt_link.proofs.Telling.{tells_then}
-use Rattle.rkt_routing.specs.BetweenLaws.{hands_back_more}
+use Rattle.rkt_turn.specs.HandsBackLaws.{hands_back_more}
 use Rattle.rkt_worker.proofs.Resting.{busy_given, busy_trip, rest_end, rest_trip}
 use Rattle.rkt_worker.proofs.working.Worker.work.Goals as goal
 
