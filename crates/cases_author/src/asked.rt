@@ -42,23 +42,13 @@ pub fn context(alloc: Global) -> Result<Ctx<Site>, NoMemory> {
     Ok(Ctx::new(alloc, CookieJar::new(alloc), shutdown, GATE))
 }
 
-fn request_of(
-    alloc: Global,
-    setting: &Setting,
-    uri: Origin,
-) -> Result<Request<'_, Site>, NoMemory> {
-    Request::new(alloc, &setting.config, &setting.managed, Method::Get, uri)
-}
-
 pub fn request<'a>(
     alloc: Global,
     setting: &'a Setting,
     path: &str,
 ) -> Result<Request<'a, Site>, CaseError> {
-    match request_of(alloc, setting, Origin::parse(alloc, path)?) {
-        Ok(request) => Ok(request),
-        Err(_) => Err(CaseError::NoMemory),
-    }
+    let uri = Origin::parse(alloc, path)?;
+    Ok(Request::new(alloc, &setting.config, &setting.managed, Method::Get, uri))
 }
 
 pub fn push_status(out: &mut String, word: &str, status: Status) -> Result<(), CaseError> {

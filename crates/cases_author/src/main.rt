@@ -13,6 +13,7 @@
 //! | `motto` | the same of one that promises which text it answers, and that text |
 //! | `places TEXT` | the same of one that reads a body of this text |
 //! | `rocket` | how many routes and catchers the application's rocket has |
+//! | `fairing KIND` | the name, the key and the kind that a fairing of this kind tells which is made of one change |
 //! | `visits` | the same of one that leaves a cookie, and how many changes of cookies it leaves |
 //! | `says STATUS PATH`, `notes STATUS PATH` | the same of a catcher's answer, and how many changes of cookies it leaves |
 //!
@@ -24,6 +25,7 @@ mod asked;
 mod author;
 mod callbacks;
 mod called;
+mod fairings;
 mod question;
 
 use crate::app::{places, push_rocket};
@@ -34,6 +36,7 @@ use crate::asked::{
 use crate::author::Site;
 use crate::callbacks::{Greets, Motto, Notes, Says, Shows, Visits};
 use crate::called::{push_caught, push_handled, push_taken};
+use crate::fairings::push_fairing;
 use crate::question::{Callback, Question, parse_line};
 use cases::{Answers, CaseError, answer_lines_if_made, written};
 use rkt_answers::{Answering, AnsweringIf, AnsweringWith};
@@ -206,6 +209,9 @@ impl Answers for Program {
     fn answer(&mut self, alloc: Global, line: &str, out: &mut String) -> Result<(), CaseError> {
         if line == "rocket" {
             return push_rocket(alloc, out);
+        }
+        if let Some(kind) = line.strip_prefix("fairing ") {
+            return push_fairing(out, kind);
         }
         let (question, path) = parse_line(line)?;
         self.ctx = context(alloc)?;

@@ -8,10 +8,10 @@ use cases::CaseError;
 use rkt_base::Want;
 use rkt_data::MemorySource;
 use rkt_fairing::{App, Fairings, Parts};
-use rkt_http::{InvalidUri, Origin};
+use rkt_http::InvalidUri;
 use rkt_lifecycle::{Tables, TablesOf};
 use rkt_request::{Config, Managed, Types};
-use rkt_router::{Catcher, Catching, Route, Router};
+use rkt_router::{Base, Catcher, Catching, Route, Router};
 use sample_app::Stopped;
 use std::alloc::Global;
 
@@ -68,7 +68,7 @@ fn handler_of(page: Option<Page>) -> Catching<Page> {
 
 fn register(alloc: Global, router: &mut SiteRouter, row: &CatcherRow) -> Result<(), CaseError> {
     let (base, code, page) = *row;
-    let base = Origin::parse(alloc, base)?;
+    let base = Base::parse(alloc, base)?;
     let catcher = Catcher {
         name: None,
         base,

@@ -88,7 +88,12 @@ pub fn push_route(tables: &Tables<Site>, text: &str, out: &mut String) -> Result
 }
 
 fn push_catcher_of(catcher: &Catcher<Page>, out: &mut String) -> Result<(), NoMemory> {
-    write!(out, "{} code={:?}", catcher.base.as_str(), catcher.code)?;
+    write!(
+        out,
+        "{} code={:?}",
+        catcher.base.origin().as_str(),
+        catcher.code
+    )?;
     write!(out, " {:?}", catcher.handler)
 }
 

@@ -78,7 +78,7 @@ pub fn mount_answer(
 }
 
 fn push_catcher(catcher: &Catcher<u32>, out: &mut String) -> Result<(), NoMemory> {
-    let (base, code) = (catcher.base.as_str(), catcher.code.unwrap_or(0));
+    let (base, code) = (catcher.base.origin().as_str(), catcher.code.unwrap_or(0));
     write!(out, " {base}:{code}")
 }
 

@@ -96,7 +96,7 @@ fn context(alloc: Global) -> Result<Ctx<Site>, NoMemory> {
 
 fn request(alloc: Global, orbit: &Orbit) -> Result<Request<'_, Site>, CaseError> {
     let uri = Origin::parse(alloc, "/")?;
-    Ok(Request::new(alloc, &orbit.config, &orbit.managed, Method::Get, uri)?)
+    Ok(Request::new(alloc, &orbit.config, &orbit.managed, Method::Get, uri))
 }
 
 /// Adds the answer to a line on what is done to a request.

@@ -29,7 +29,7 @@ fn push_headers(headers: HeaderIter<'_>, out: &mut String) -> Result<(), NoMemor
     Ok(())
 }
 
-/// Adds how many groups there are, and each header behind a bar.
+/// Adds how many values there are, and each header behind a bar.
 fn push_map(map: &HeaderMap, out: &mut String) -> Result<(), NoMemory> {
     write!(out, "{}", map.len())?;
     push_headers(map.iter(), out)

@@ -44,7 +44,7 @@ impl Source for Stalling {
 
     ghost meaning = { λ s. record (source_meaning s.inner) { pended = s.waited; pendings = s.waited + s.waits } };
 
-    ghost polled = { λ _ _ _ _. Unit {0} };
+    ghost polled = { λ _ _ _ _ _. Unit {0} };
 
     fn poll_read(&mut self, gate: Gate, buf: &mut [u8]) -> Poll<Result<usize, SourceError>> {
         if buf.is_empty() {

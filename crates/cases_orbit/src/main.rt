@@ -4,7 +4,7 @@
 //!
 //! | Line | Answer |
 //! |---|---|
-//! | `new NUMBER` | `done`: from here on there is a rocket with nothing attached, whose configuration grants so many turns |
+//! | `new NUMBER` | `done`: from here on a rocket has nothing attached, and is granted so many turns, where none count as one |
 //! | `attach KIND ACT` | how many fairings are called at liftoff, and how many at a shutdown |
 //! | `shield` | the same, once the shield is attached |
 //! | `liftoff` | how each call at liftoff ended, how often each fairing was polled so far, and the word that the handle has seen |

@@ -1,11 +1,11 @@
 //! A rocket in orbit.
 use crate::actor::{Actor, Acts};
 use crate::site::{Site, Stopped};
-use cases::CaseError;
+use cases::{CaseError, parsed};
 use rkt_base::{NoMemory, Seq};
 use rkt_fairing::{Fairings, Slot, ViewOf};
 use rkt_orbit::{Called, down_room, liftoff, shut_down};
-use rkt_request::{Config, ConfigTable, Managed};
+use rkt_request::{Config, Managed};
 use rkt_router::{Dummy, Router};
 use rkt_turn::{Shutdown, TripWire};
 use std::alloc::Global;
@@ -72,9 +72,9 @@ impl Orbit {
 }
 
 fn read_config(alloc: Global, turns: &str) -> Result<Config, CaseError> {
-    let mut table = ConfigTable::new(alloc);
-    table.set("turns", turns)?;
-    Ok(Config::from_table(alloc, &table)?)
+    let mut config = Config::default(alloc)?;
+    config.turns = parsed::<u32>(turns)?;
+    Ok(config)
 }
 
 /// One with nothing attached, whose configuration grants so many turns.

@@ -53,14 +53,10 @@ fn ask(
     asked: (Question<'_>, &str),
     out: &mut String,
 ) -> Result<(), CaseError> {
-    match server.request(alloc, first.0, first.1) {
-        Ok(mut request) => {
-            let pushed = push_stepped(alloc, &mut request, ctx, asked, out);
-            drop(request);
-            pushed
-        }
-        Err(_) => Err(CaseError::NoMemory),
-    }
+    let mut request = server.request(alloc, first.0, first.1);
+    let pushed = push_stepped(alloc, &mut request, ctx, asked, out);
+    drop(request);
+    pushed
 }
 
 /// The answer to a question, by the request behind it.

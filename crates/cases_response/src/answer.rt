@@ -56,24 +56,6 @@ fn answer_to(
     }
 }
 
-/// The same, where there may have been no memory for the request.
-fn answer_to_made(
-    alloc: Global,
-    made: Result<Asked<'_>, NoMemory>,
-    command: &str,
-    rest: &str,
-    out: &mut String,
-) -> Result<(), CaseError> {
-    match made {
-        Ok(request) => {
-            let answered = answer_to(alloc, &request, command, rest, out);
-            drop(request);
-            answered
-        }
-        Err(_) => Err(CaseError::NoMemory),
-    }
-}
-
 fn answer_by(
     alloc: Global,
     server: &Server,
@@ -82,13 +64,10 @@ fn answer_by(
     out: &mut String,
 ) -> Result<(), CaseError> {
     let uri = Origin::parse(alloc, "/")?;
-    answer_to_made(
-        alloc,
-        server.request(alloc, Method::Get, uri),
-        command,
-        rest,
-        out,
-    )
+    let request = server.request(alloc, Method::Get, uri);
+    let answered = answer_to(alloc, &request, command, rest, out);
+    drop(request);
+    answered
 }
 
 impl Answers for Program {

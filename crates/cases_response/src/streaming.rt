@@ -27,11 +27,7 @@ impl Types for Streaming {
     type Reason = Stopped;
 }
 
-fn request(
-    alloc: Global,
-    server: &Server,
-    uri: Origin,
-) -> Result<Request<'_, Streaming>, NoMemory> {
+fn request(alloc: Global, server: &Server, uri: Origin) -> Request<'_, Streaming> {
     Request::new(alloc, &server.config, &server.managed, Method::Get, uri)
 }
 
@@ -69,12 +65,8 @@ pub fn reader_stream(
     out: &mut String,
 ) -> Result<(), CaseError> {
     let uri = Origin::parse(alloc, "/")?;
-    match request(alloc, server, uri) {
-        Ok(request) => {
-            let streamed = stream_to(alloc, &request, text, out);
-            drop(request);
-            streamed
-        }
-        Err(_) => Err(CaseError::NoMemory),
-    }
+    let request = request(alloc, server, uri);
+    let streamed = stream_to(alloc, &request, text, out);
+    drop(request);
+    streamed
 }

@@ -88,7 +88,7 @@ fn ask(
     asked: Asked<'_>,
     out: &mut String,
 ) -> Result<(), CaseError> {
-    let request = server.request(alloc, asked.method, uri)?;
+    let request = server.request(alloc, asked.method, uri);
     let pushed = push_asked(alloc, router, &request, asked.question, out);
     drop(request);
     pushed

@@ -4,9 +4,9 @@ use crate::routes::SampleRouter;
 use crate::words::parsed_or_any;
 use cases::{CaseError, first_word, written};
 use rkt_base::{NoMemory, Want};
-use rkt_http::{InvalidUri, Origin};
+use rkt_http::InvalidUri;
 use rkt_router::catcher::StaticInfo;
-use rkt_router::{BadCode, Catcher, Catching};
+use rkt_router::{BadCode, Base, Catcher, Catching};
 use std::alloc::Global;
 
 type SampleCatcher = Catcher<u8>;
@@ -20,7 +20,7 @@ fn push_handler(handler: Catching<u8>, out: &mut String) -> Result<(), NoMemory>
 
 fn push_catcher(catcher: &SampleCatcher, out: &mut String) -> Result<(), NoMemory> {
     let name = catcher.name.as_ref().map_or("none", |name| name.as_str());
-    let (base, code) = (catcher.base.as_str(), catcher.code);
+    let (base, code) = (catcher.base.origin().as_str(), catcher.code);
     write!(out, "{base} code={code:?} name={name}")?;
     push_handler(catcher.handler, out)
 }
@@ -106,7 +106,7 @@ fn default_below(
 
 fn placed(
     code: Option<u16>,
-    base: Result<Origin, Want<InvalidUri>>,
+    base: Result<Base, Want<InvalidUri>>,
 ) -> Result<SampleCatcher, Want<InvalidUri>> {
     match base {
         Ok(base) => Ok(Catcher {
@@ -127,7 +127,7 @@ fn at_base(
 ) -> Result<(), CaseError> {
     let (base, code) = first_word(line);
     let code = parsed_or_any::<u16>(code)?;
-    register_placed(router, placed(code, Origin::parse(alloc, base)), out)
+    register_placed(router, placed(code, Base::parse(alloc, base)), out)
 }
 
 /// Makes the catcher that a line says, shows it, and registers it.

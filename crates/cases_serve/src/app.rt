@@ -7,11 +7,11 @@ use crate::setting::{Place, Setting};
 use rkt_base::{NoMemory, Want};
 use rkt_data::{Gate, MemorySource, Source};
 use rkt_http::{InvalidUri, Method, Outcome, Status};
-use rkt_life::{App, DefaultCatcher, Fairings, Ignite, Parts, Rocket, TablesOf};
+use rkt_life::{App, DefaultCatcher, Fairings, Ignite, Orbit, Parts, Rocket, TablesOf};
 use rkt_message::Response;
 use rkt_request::{Body0, Config, ConfigTable, Ctx, Managed, Request, Types};
 use rkt_router::{Handler, Route, RouteOutcome, Router, Step};
-use rkt_turn::Reason;
+use rkt_turn::{Reason, TripWire};
 use std::alloc::Global;
 
 /// Answers with its own text, once it was Pending so often. One that says `stop` or `trip` notifies the wire in its first poll, and
@@ -173,7 +173,9 @@ fn assembled(
         config,
         managed: Managed::new(alloc),
     };
-    Rocket::<Ignite, Site>::from_tables(alloc, tables, ConfigTable::new(alloc))
+    let (_wire, shutdown) = TripWire::new(alloc)?;
+    let orbiting = Rocket::<Orbit, Site>::from_parts(tables, ConfigTable::new(alloc), shutdown);
+    Ok(orbiting.into_ignite())
 }
 
 /// A rocket with the routes and the fairings of the setting.

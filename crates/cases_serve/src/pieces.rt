@@ -72,7 +72,7 @@ fn sent<R: Wait>(
     link: &mut CancellableIo<MemoryLink>,
     response: Response<MemorySource>,
     turns: u32,
-) -> Result<End, NoMemory>
+) -> End
     requires active { link.old.stage ≡ Stage.Active }
 {
     let (response, ended) = send(rt, alloc, ticks, link, response, turns);
@@ -90,8 +90,10 @@ fn send_over<R: Wait>(
 ) -> Result<String, CaseError>
     requires active { link.old.stage ≡ Stage.Active }
 {
-    let end = sent(rt, alloc, ticks, link, response, turns)?;
-    Ok(ended(alloc, end, link.kept())?)
+    match sent(rt, alloc, ticks, link, response, turns) {
+        End::Starved => Err(CaseError::NoMemory),
+        end => Ok(ended(alloc, end, link.kept())?),
+    }
 }
 
 fn send_body<R: Wait>(

@@ -1,24 +1,15 @@
 -- Callbacks of a rocket's life that an author writes as one change.
-use Rattle.std.specs.Prelude.{◌≡◌, Bool, false, None, Option, MatchOption, Ok, Result, ⊤}
+use Rattle.std.specs.Prelude.{◌≡◌, Bool, None, Option, MatchOption, Ok, Result, ⊤}
 use Rattle.rkt_turn.specs.HandsBack.{HandsBack}
 use Rattle.rkt_turn.specs.Shutdown.{Handle}
 use Rattle.rkt_router.specs.Calling.{Calling}
 use Rattle.rkt_router.specs.Callbacks.{at_once}
 use Rattle.rkt_fairing.specs.Building.{SeenBuilding}
 use Rattle.rkt_fairing.specs.Life.{IgniteAt, KeepsLiftoff, LiftoffAt, SeenView}
+use Rattle.rkt_adhoc.specs.Changes.{made_once}
 
 -- H is the type of handlers, K that of catchers' handlers, N that of what sentries ask, V that of managed values, F that of
 -- fairings
-
--- A call that is done at its first poll, and changes what Grown allows. Where that poll found no memory, which the task then
--- says, no later one finds any: so a change is made once.
-abbrev pub made_once : {Self H Held A : Type 0} → (Held → Held → Type 0) → (Self → H → Held → A → Held → Type 0) → Calling Self H Held A Bool
-made_once Grown may = record {
-  may = λ callback handed before gates answer after. may callback handed before answer after × Grown before after;
-  begun = λ callback handed starved before now gates n. (starved ≡ false → now ≡ before) × Grown before now × (n ≡ 0);
-  pendings = λ callback handed before. 0;
-  may_fault = λ callback handed before. ⊥;
-}
 
 -- one that changes a builder
 abbrev pub trying_building : {H K N V F : Type 0} → (F → SeenBuilding H K N V F → Result (Unit {0}) (Unit {0}) → F → SeenBuilding H K N V F → Type 0)

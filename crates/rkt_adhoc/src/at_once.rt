@@ -48,31 +48,41 @@ pub trait ChangesResponse<A: Types> {
         ensures grows { MayGrow ctx.old ctx.new };
 }
 
-/// Stands for being called as `ChangesRequest` or `ChangesResponse` says: it is done at the first poll that finds memory. At
-/// ignition, at liftoff and at a shutdown it stands for `TriesBuilding`, `SeesLiftoff` and `SeesShutdown`.
+/// Stands for being called as `ChangesRequest` or `ChangesResponse` says: it is done at its first poll, or found no memory then,
+/// and finds none later. At ignition, at liftoff and at a shutdown it stands for `TriesBuilding`, `SeesLiftoff` and
+/// `SeesShutdown`.
 #[derive(Clone, Copy, Debug, PartialEq, Eq, Drop)]
 pub struct AtOnce;
 
+// The task of a call for a request or for a response says whether it found no memory.
 impl<A: Types, F: ChangesRequest<A>> RequestCallback<A, F> for AtOnce {
     ghost use Rattle.rkt_adhoc.specs.Changes.{changing_request, changing_request_keeps};
 
-    type Task = ();
+    type Task = bool;
 
     ghost calling = { changing_request F.may };
 
-    fn start(_fairing: &F) {}
+    fn start(_fairing: &F) -> bool {
+        false
+    }
 
     fn poll(
         fairing: &F,
         alloc: Global,
-        _task: &mut (),
+        starved: &mut bool,
         request: &mut Request<'_, A>,
         body: &mut Body0<A>,
         ctx: &mut Ctx<A>,
     ) -> Step<()> {
+        if *starved {
+            return Step::Starved;
+        }
         match fairing.on_request(alloc, request, body, ctx) {
             Ok(()) => Step::Done(()),
-            Err(_) => Step::Starved,
+            Err(_) => {
+                *starved = true;
+                Step::Starved
+            }
         }
     }
 
@@ -82,23 +92,31 @@ impl<A: Types, F: ChangesRequest<A>> RequestCallback<A, F> for AtOnce {
 impl<A: Types, F: ChangesResponse<A>> ResponseCallback<A, F> for AtOnce {
     ghost use Rattle.rkt_adhoc.specs.Changes.{changing_response, changing_response_keeps};
 
-    type Task = ();
+    type Task = bool;
 
     ghost calling = { changing_response F.may };
 
-    fn start(_fairing: &F, _request: &Request<'_, A>) {}
+    fn start(_fairing: &F, _request: &Request<'_, A>) -> bool {
+        false
+    }
 
     fn poll(
         fairing: &F,
         alloc: Global,
-        _task: &mut (),
+        starved: &mut bool,
         request: &Request<'_, A>,
         response: &mut Response<A::Stream>,
         ctx: &mut Ctx<A>,
     ) -> Step<()> {
+        if *starved {
+            return Step::Starved;
+        }
         match fairing.on_response(alloc, request, response, ctx) {
             Ok(()) => Step::Done(()),
-            Err(_) => Step::Starved,
+            Err(_) => {
+                *starved = true;
+                Step::Starved
+            }
         }
     }
 

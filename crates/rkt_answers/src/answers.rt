@@ -1,5 +1,5 @@
 //! Handlers and catchers that an author writes as one answer, and proves nothing of.
-ghost use Rattle.std.specs.Prelude.{◌≡◌, IfOk, IsSome, Some, ⊤};
+ghost use Rattle.std.specs.Prelude.{◌≡◌, IfOk, ⊤};
 ghost use Rattle.rkt_http.specs.declared.outcome.Outcome.{Outcome};
 ghost use Rattle.rkt_http.specs.declared.status.Status.{Status};
 ghost use Rattle.rkt_request.specs.Lent.{Lent, MayGrow};
@@ -128,20 +128,26 @@ impl<T: Types, A: Answers<T>> Handler<T> for Answering<A> {
     ghost use Rattle.std.specs.Prelude.{◌≡◌};
     ghost use Rattle.rkt_answers.specs.Answers.{answering, answering_keeps};
 
-    type Task = ();
+    /// None once it was polled.
+    type Task = Option<()>;
 
     // Its value leaves the context as it was.
     ghost calling = { answering (λ handler request before value after. A.may handler.0 request value × (after ≡ before)) A.Value.may };
 
-    fn start(&self, _request: &Request<'_, T>, _body: Body0<T>) {}
+    fn start(&self, _request: &Request<'_, T>, _body: Body0<T>) -> Option<()> {
+        Some(())
+    }
 
     fn poll(
         &self,
         alloc: Global,
-        _task: &mut (),
+        task: &mut Option<()>,
         request: &Request<'_, T>,
         ctx: &mut Ctx<T>,
     ) -> Step<RouteOutcome<T>> {
+        let Some(()) = task.take() else {
+            return Step::Starved;
+        };
         let Ok(value) = self.0.answer(alloc, request) else {
             return Step::Starved;
         };
@@ -157,19 +163,25 @@ impl<T: Types, A: Answers<T>> Handler<T> for Answering<A> {
 impl<T: Types, A: AnswersWith<T>> Handler<T> for AnsweringWith<A> {
     ghost use Rattle.rkt_answers.specs.Answers.{answering, answering_keeps};
 
-    type Task = ();
+    /// None once it was polled.
+    type Task = Option<()>;
 
     ghost calling = { answering (λ handler. A.may handler.0) A.Value.may };
 
-    fn start(&self, _request: &Request<'_, T>, _body: Body0<T>) {}
+    fn start(&self, _request: &Request<'_, T>, _body: Body0<T>) -> Option<()> {
+        Some(())
+    }
 
     fn poll(
         &self,
         alloc: Global,
-        _task: &mut (),
+        task: &mut Option<()>,
         request: &Request<'_, T>,
         ctx: &mut Ctx<T>,
     ) -> Step<RouteOutcome<T>> {
+        let Some(()) = task.take() else {
+            return Step::Starved;
+        };
         let Ok(value) = self.0.answer(alloc, request, ctx) else {
             return Step::Starved;
         };
@@ -188,11 +200,9 @@ fn outcome_step<T: Types, R: Responder<T>>(
     request: &Request<'_, T>,
     ctx: &mut Ctx<T>,
     outcome: Outcome<R, Status, Status>,
-    task: &mut Option<Body0<T>>,
+    body: Body0<T>,
 ) -> Step<RouteOutcome<T>>
-    requires held { IsSome task.old }
-    ensures steps { (body : _) → task.old ≡ Some body
-        → StepsTo result (λ reply. RepliesAs (λ value. R.may value request.now) body outcome ctx.old reply ctx.new) (task.new ≡ task.old) }
+    ensures steps { StepsTo result (λ reply. RepliesAs (λ value. R.may value request.now) body outcome ctx.old reply ctx.new) ⊤ }
     ensures grows { MayGrow ctx.old ctx.new }
 {
     match outcome {
@@ -201,16 +211,14 @@ fn outcome_step<T: Types, R: Responder<T>>(
             Err(_) => Step::Starved,
         },
         Outcome::Error(status) => Step::Done(Outcome::Error(status)),
-        Outcome::Forward(status) => match task.take() {
-            Some(body) => Step::Done(Outcome::Forward((body, status))),
-            None => unreachable!(),
-        },
+        Outcome::Forward(status) => Step::Done(Outcome::Forward((body, status))),
     }
 }
 
 impl<T: Types, A: AnswersIf<T>> Handler<T> for AnsweringIf<A> {
     ghost use Rattle.rkt_answers.specs.Answers.{attempting, attempting_keeps};
 
+    /// None once it was polled.
     type Task = Option<Body0<T>>;
 
     ghost calling = { attempting (λ handler. A.may handler.0) A.Value.may };
@@ -226,8 +234,11 @@ impl<T: Types, A: AnswersIf<T>> Handler<T> for AnsweringIf<A> {
         request: &Request<'_, T>,
         ctx: &mut Ctx<T>,
     ) -> Step<RouteOutcome<T>> {
+        let Some(body) = task.take() else {
+            return Step::Starved;
+        };
         match self.0.answer(alloc, request, ctx) {
-            Ok(outcome) => outcome_step(alloc, request, ctx, outcome, task),
+            Ok(outcome) => outcome_step(alloc, request, ctx, outcome, body),
             Err(_) => Step::Starved,
         }
     }
@@ -239,23 +250,27 @@ impl<T: Types, A: Catches<T>> CatchHandler<T> for Answering<A> {
     ghost use Rattle.std.specs.Prelude.{◌≡◌};
     ghost use Rattle.rkt_answers.specs.Answers.{catching, catching_keeps};
 
-    type Task = Status;
+    /// None once it was polled.
+    type Task = Option<Status>;
 
     // Its value leaves the context as it was.
     ghost calling = { catching (λ catcher refused before value after. A.may catcher.0 refused value × (after ≡ before)) A.Value.may };
 
-    fn start(&self, status: Status, _request: &Request<'_, T>) -> Status {
-        status
+    fn start(&self, status: Status, _request: &Request<'_, T>) -> Option<Status> {
+        Some(status)
     }
 
     fn poll(
         &self,
         alloc: Global,
-        task: &mut Status,
+        task: &mut Option<Status>,
         request: &Request<'_, T>,
         ctx: &mut Ctx<T>,
     ) -> Step<Result<Response<T::Stream>, Status>> {
-        let Ok(value) = self.0.catch(alloc, *task, request) else {
+        let Some(status) = task.take() else {
+            return Step::Starved;
+        };
+        let Ok(value) = self.0.catch(alloc, status, request) else {
             return Step::Starved;
         };
         answer_step(value.respond_to(alloc, request, ctx))
@@ -267,22 +282,26 @@ impl<T: Types, A: Catches<T>> CatchHandler<T> for Answering<A> {
 impl<T: Types, A: CatchesWith<T>> CatchHandler<T> for AnsweringWith<A> {
     ghost use Rattle.rkt_answers.specs.Answers.{catching, catching_keeps};
 
-    type Task = Status;
+    /// None once it was polled.
+    type Task = Option<Status>;
 
     ghost calling = { catching (λ catcher. A.may catcher.0) A.Value.may };
 
-    fn start(&self, status: Status, _request: &Request<'_, T>) -> Status {
-        status
+    fn start(&self, status: Status, _request: &Request<'_, T>) -> Option<Status> {
+        Some(status)
     }
 
     fn poll(
         &self,
         alloc: Global,
-        task: &mut Status,
+        task: &mut Option<Status>,
         request: &Request<'_, T>,
         ctx: &mut Ctx<T>,
     ) -> Step<Result<Response<T::Stream>, Status>> {
-        let Ok(value) = self.0.catch(alloc, *task, request, ctx) else {
+        let Some(status) = task.take() else {
+            return Step::Starved;
+        };
+        let Ok(value) = self.0.catch(alloc, status, request, ctx) else {
             return Step::Starved;
         };
         answer_step(value.respond_to(alloc, request, ctx))

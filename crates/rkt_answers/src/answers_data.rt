@@ -4,7 +4,8 @@ ghost use Rattle.rkt_request.specs.Lent.{Lent, MayGrow};
 ghost use Rattle.rkt_request.specs.Seen.{Seen};
 ghost use Rattle.rkt_router.specs.Steps.{StepsTo};
 ghost use Rattle.rkt_answers.specs.Replies.{MadeBy};
-ghost use Rattle.rkt_answers.specs.AnswersData.{IsAnsweredAs, IsWaiting, Makes};
+ghost use Rattle.rkt_answers.specs.Answers.{Responds};
+ghost use Rattle.rkt_answers.specs.AnswersData.{IsAnsweredAs, IsWaiting};
 
 use crate::from;
 use rkt_base::{NoMemory, Poll};
@@ -76,7 +77,8 @@ fn value_step<T: Types, A: AnswersData<T>>(
     ctx: &mut Ctx<T>,
     taken: A::Data,
 ) -> Step<RouteOutcome<T>>
-    ensures steps { StepsTo result (λ reply. MadeBy (λ answer. Makes (A.may handler.now request.now) (λ value. A.Value.may value request.now) taken ctx.old answer ctx.new) reply) ⊤ }
+    ensures steps { StepsTo result (λ reply. MadeBy (λ answer.
+        Responds (A.may handler.now request.now taken) (λ value. A.Value.may value request.now) ctx.old answer ctx.new) reply) ⊤ }
     ensures grows { MayGrow ctx.old ctx.new }
 {
     let Ok(value) = handler.answer(alloc, request, taken, ctx) else {

@@ -156,13 +156,13 @@ module _ {C S K : Type 0} where
           asks = λ given is. get_map given k (links s.entry.link.io).asked (ap (λ l. slice_get l k) (told_fresh old new (carries links ms) given told fresh is) ∙ at);
         }
 
-module _ {C S K P L Q : Type 0} (links : K → LinkMeaning) (listeners : L → ListenerMeaning) (clocks : Q → ClockMeaning) where
+module _ {A C S K P L Q : Type 0} (links : K → LinkMeaning) (listeners : L → ListenerMeaning) (clocks : Q → ClockMeaning) where
   -- the handle has seen the word of the Trip
-  pub trip_seen : (name : Name P L Q Handle) (near : Near L Q Handle) (ms : List (MarkOf C S K)) (trip : ℕ × ℕ) → Holds links listeners clocks name near ms → trip_of (events ms) ≡ Some trip → near.handle.seen ≡ trip.0
+  pub trip_seen : (name : Name A P L Q Handle) (near : Near L Q Handle) (ms : List (MarkOf C S K)) (trip : ℕ × ℕ) → Holds links listeners clocks name near ms → trip_of (events ms) ≡ Some trip → near.handle.seen ≡ trip.0
   trip_seen name near ms trip h is = h.word (found_trip (events ms) trip is) ∙ ap word_of is
 
   -- the handle comes back
-  pub handed_back : (name : Name P L Q Handle) (near : Near L Q Handle) (ms : List (MarkOf C S K)) → Holds links listeners clocks name near ms → HandsBack name.handle.value near.handle
+  pub handed_back : (name : Name A P L Q Handle) (near : Near L Q Handle) (ms : List (MarkOf C S K)) → Holds links listeners clocks name near ms → HandsBack name.handle.value near.handle
   handed_back name near ms h = record {
     wire = h.wire;
     looked = let x : ℕ = name.handle.value.looked in let a : ℕ = admitted (events ms) in let l : x + a ≤ near.handle.looked = h.looked in omega (arith, l);

@@ -111,9 +111,9 @@ module _ {C S K : Type 0} where
       asks = after_push (AsksAt links) [] ms m l.asks asks;
     }
 
-module _ {C S K P L Q : Type 0} (links : K → LinkMeaning) (listeners : L → ListenerMeaning) (clocks : Q → ClockMeaning) where
+module _ {A C S K P L Q : Type 0} (links : K → LinkMeaning) (listeners : L → ListenerMeaning) (clocks : Q → ClockMeaning) where
   -- one event more, which is no Admit
-  pub holds_push : (name : Name P L Q Handle) (near : Near L Q Handle) (ms : List (MarkOf C S K)) (m : MarkOf C S K) → Holds links listeners clocks name near ms
+  pub holds_push : (name : Name A P L Q Handle) (near : Near L Q Handle) (ms : List (MarkOf C S K)) (m : MarkOf C S K) → Holds links listeners clocks name near ms
       → is_admit m.event ≡ false → TimedIn (clocks name.clock.value).window m.event → moment_of m.event ≤ (clocks near.clock).last
       → (list_any is_trip (events ms ++ m.event ∷ []) ≡ true → near.handle.seen ≡ trip_word (events ms ++ m.event ∷ []))
       → Holds links listeners clocks name near (ms ++ m ∷ [])
@@ -139,20 +139,20 @@ module _ {C S K P L Q : Type 0} (links : K → LinkMeaning) (listeners : L → L
       }
 
   -- where a Trip stands before, the handle has seen its word
-  pub seen_before : (name : Name P L Q Handle) (near : Near L Q Handle) (ms : List (MarkOf C S K)) (e : EventOf C S K) → Holds links listeners clocks name near ms → is_trip e ≡ false
+  pub seen_before : (name : Name A P L Q Handle) (near : Near L Q Handle) (ms : List (MarkOf C S K)) (e : EventOf C S K) → Holds links listeners clocks name near ms → is_trip e ≡ false
       → list_any is_trip (events ms ++ e ∷ []) ≡ true → near.handle.seen ≡ trip_word (events ms ++ e ∷ [])
   seen_before name near ms e h other t =
       let u : list_any is_trip (events ms) ≡ true = grind (arith, common_steps, any_push is_trip (events ms) e, other, t) in
       h.word u ∙ sym (word_old (events ms) e u)
 
   -- a handle that has seen no word has entered no Trip
-  pub untripped : (name : Name P L Q Handle) (near : Near L Q Handle) (ms : List (MarkOf C S K)) → Holds links listeners clocks name near ms → Ordered (events ms)
+  pub untripped : (name : Name A P L Q Handle) (near : Near L Q Handle) (ms : List (MarkOf C S K)) → Holds links listeners clocks name near ms → Ordered (events ms)
       → near.handle.seen ≡ 0 → list_any is_trip (events ms) ≡ false
   untripped name near ms h ordered unseen =
       is_not (list_any is_trip (events ms)) refl (λ t. let x : ℕ = trip_word (events ms) in let p : 0 < x = worded (events ms) ordered t in let q : near.handle.seen ≡ x = h.word t in absurd (omega (arith, p, q, unseen)))
 
   -- an Admit of a link that the listener gave
-  pub holds_admit : (name : Name P L Q Handle) (near : Near L Q Handle) (listener : L) (ms : List (MarkOf C S K)) (by number moment : ℕ) (copy : Snapshot K) → Holds links listeners clocks name near ms → Ordered (events ms)
+  pub holds_admit : (name : Name A P L Q Handle) (near : Near L Q Handle) (listener : L) (ms : List (MarkOf C S K)) (by number moment : ℕ) (copy : Snapshot K) → Holds links listeners clocks name near ms → Ordered (events ms)
       → near.handle.seen ≡ 0 → name.handle.value.looked + admitted (events ms) < near.handle.looked → near.over ≡ false
       → moment ≤ (clocks near.clock).last → IsWithin (clocks name.clock.value).window moment
       → GivesMore (listeners near.listener).given (links copy.value).asked (listeners listener).given → Settled (listeners near.listener) (listeners listener) → (listeners listener).faults ≡ (listeners near.listener).faults
@@ -183,7 +183,7 @@ module _ {C S K P L Q : Type 0} (links : K → LinkMeaning) (listeners : L → L
       }
 
   -- the clock is read
-  pub holds_clock : (name : Name P L Q Handle) (near : Near L Q Handle) (clock : Q) (ms : List (MarkOf C S K)) → Holds links listeners clocks name near ms → TellsOn (clocks near.clock) (clocks clock)
+  pub holds_clock : (name : Name A P L Q Handle) (near : Near L Q Handle) (clock : Q) (ms : List (MarkOf C S K)) → Holds links listeners clocks name near ms → TellsOn (clocks near.clock) (clocks clock)
       → Holds links listeners clocks name (record { listener = near.listener; clock = clock; handle = near.handle; over = near.over; faulted = near.faulted }) ms
   holds_clock name near clock ms h on = record {
     wire = h.wire;
@@ -202,7 +202,7 @@ module _ {C S K P L Q : Type 0} (links : K → LinkMeaning) (listeners : L → L
   }
 
   -- the listener is polled, and gives nothing
-  pub holds_listener : (name : Name P L Q Handle) (near : Near L Q Handle) (listener : L) (over faulted : Bool) (ms : List (MarkOf C S K)) → Holds links listeners clocks name near ms
+  pub holds_listener : (name : Name A P L Q Handle) (near : Near L Q Handle) (listener : L) (over faulted : Bool) (ms : List (MarkOf C S K)) → Holds links listeners clocks name near ms
       → (listeners listener).given ≡ (listeners near.listener).given → Settled (listeners near.listener) (listeners listener) → SoundAs faulted (listeners name.listener.value) (listeners listener)
       → (over ≡ true → ((listeners listener).ended ≡ true) × ForSome (listeners near.listener).offers (λ all. (listeners near.listener).given ≡ Some all))
       → (over ≡ false → (listeners listener).ended ≡ (listeners name.listener.value).ended)
@@ -224,7 +224,7 @@ module _ {C S K P L Q : Type 0} (links : K → LinkMeaning) (listeners : L → L
   }
 
   -- the handle is another one, of the same wire, that has looked no less; a word that was seen stays
-  pub holds_handle : (name : Name P L Q Handle) (near : Near L Q Handle) (handle : Handle) (ms : List (MarkOf C S K)) → Holds links listeners clocks name near ms → Ordered (events ms)
+  pub holds_handle : (name : Name A P L Q Handle) (near : Near L Q Handle) (handle : Handle) (ms : List (MarkOf C S K)) → Holds links listeners clocks name near ms → Ordered (events ms)
       → handle.wire ≡ near.handle.wire → near.handle.looked ≤ handle.looked → (0 < near.handle.seen → handle.seen ≡ near.handle.seen)
       → Holds links listeners clocks name (record { listener = near.listener; clock = near.clock; handle = handle; over = near.over; faulted = near.faulted }) ms
   holds_handle name near handle ms h ordered wire looked again = record {

@@ -29,15 +29,15 @@ abbrev pub with_marks : {C S K : Type 0} → BookOf C S K → Vec (MarkOf C S K)
 with_marks b v opens tripped down closed = record { marks = v; history = b.history; admitted = b.admitted; opens = opens; tripped = tripped; down = down; closed = closed }
 
 -- the board with another book
-abbrev pub with_book : {C S K P L Q : Type 0} → BoardAs C S K P L Q → BookOf C S K → BoardAs C S K P L Q
+abbrev pub with_book : {A C S K P L Q : Type 0} → BoardAs A C S K P L Q → BookOf C S K → BoardAs A C S K P L Q
 with_book s book = record { name = s.name; book = book; near = s.near }
 
 -- the board at a later moment
-abbrev pub with_clock : {C S K P L Q : Type 0} → BoardAs C S K P L Q → Q → BoardAs C S K P L Q
+abbrev pub with_clock : {A C S K P L Q : Type 0} → BoardAs A C S K P L Q → Q → BoardAs A C S K P L Q
 with_clock s clock = record { name = s.name; book = s.book; near = record { listener = s.near.listener; clock = clock; handle = s.near.handle; over = s.near.over; faulted = s.near.faulted } }
 
 -- the board with another handle
-abbrev pub with_handle : {C S K P L Q : Type 0} → BoardAs C S K P L Q → Handle → BoardAs C S K P L Q
+abbrev pub with_handle : {A C S K P L Q : Type 0} → BoardAs A C S K P L Q → Handle → BoardAs A C S K P L Q
 with_handle s handle = record { name = s.name; book = s.book; near = record { listener = s.near.listener; clock = s.near.clock; handle = handle; over = s.near.over; faulted = s.near.faulted } }
 
 pub no_less : (seen old new : ℕ) → (0 < seen → new ≡ old) → (seen ≡ 0 → new ≡ old + 1) → old ≤ new
@@ -66,10 +66,14 @@ module _ {C S K : Type 0} where
         history_room = subst (λ (n : ℕ). n + l ≤ vec_capacity b.history) (sym more) (room_for_one (length b.marks.items) l l0 (vec_capacity b.history) (vec_capacity b.history) k.history_room (omega arith) less);
       }
 
-module _ {C S K P L Q : Type 0} (links : K → LinkMeaning) (listeners : L → ListenerMeaning) (clocks : Q → ClockMeaning)
+at_most : (t : Bool) → cond t 0 1 ≤ 1
+at_most true = omega arith
+at_most false = omega arith
+
+module _ {A C S K P L Q : Type 0} (links : K → LinkMeaning) (listeners : L → ListenerMeaning) (clocks : Q → ClockMeaning)
     (cause : P → Option (ℕ × ℕ) → List (EventOf C S K) → EventOf C S K → Type 0) where
   -- the first event
-  pub keeps_lift : (s : BoardAs C S K P L Q) (b : BookOf C S K) (by : ℕ) (calls : _) → IsBlank b → s.book.history ≡ b.history → s.book.admitted ≡ b.admitted → s.book.opens ≡ b.opens
+  pub keeps_lift : (s : BoardAs A C S K P L Q) (b : BookOf C S K) (by : ℕ) (calls : _) → IsBlank b → s.book.history ≡ b.history → s.book.admitted ≡ b.admitted → s.book.opens ≡ b.opens
       → s.book.tripped ≡ b.tripped → s.book.down ≡ b.down → s.book.closed ≡ b.closed → s.book.marks.items ≡ mark by (Lift calls) ∷ [] → vec_capacity b.marks ≤ vec_capacity s.book.marks
       → s.near.listener ≡ s.name.listener.value → s.near.clock ≡ s.name.clock.value → s.near.handle ≡ s.name.handle.value → s.near.over ≡ false → s.near.faulted ≡ false → s.name.calls.value ≡ calls
       → cause s.name.served (clocks s.name.clock.value).window [] (Lift calls) → Keeps links listeners clocks cause s
@@ -114,16 +118,16 @@ module _ {C S K P L Q : Type 0} (links : K → LinkMeaning) (listeners : L → L
         legal = rw items record { ordered = ((refl, refl), tt); caused = (caused, tt); own = (tt, tt); asks = (tt, tt) };
       }
 
-  pub begun_events : (s : BoardAs C S K P L Q) → Keeps links listeners clocks cause s → 0 < length (events s.book.marks.items)
+  pub begun_events : (s : BoardAs A C S K P L Q) → Keeps links listeners clocks cause s → 0 < length (events s.book.marks.items)
   begun_events s k = subst (λ (n : ℕ). 0 < n) (sym (length_events s.book.marks.items)) k.begun
 
   -- the Lift still stands first
-  lifted_push : (s : BoardAs C S K P L Q) (v : Vec (MarkOf C S K) Global) (m : MarkOf C S K) → Keeps links listeners clocks cause s
+  lifted_push : (s : BoardAs A C S K P L Q) (v : Vec (MarkOf C S K) Global) (m : MarkOf C S K) → Keeps links listeners clocks cause s
       → v.items ≡ s.book.marks.items ++ m ∷ [] → lift_calls (events v.items) ≡ s.name.calls.value
   lifted_push s v m k items = ap (λ ms. lift_calls (events ms)) items ∙ (ap lift_calls (map_push (λ m. m.event) s.book.marks.items m) ∙ (lift_push (events s.book.marks.items) m.event (begun_events s k) ∙ k.lifted))
 
   -- one event more, which opens and ends nothing
-  pub keeps_push : (s : BoardAs C S K P L Q) (v : Vec (MarkOf C S K) Global) (m : MarkOf C S K) (tripped down closed : Bool) → Keeps links listeners clocks cause s
+  pub keeps_push : (s : BoardAs A C S K P L Q) (v : Vec (MarkOf C S K) Global) (m : MarkOf C S K) (tripped down closed : Bool) → Keeps links listeners clocks cause s
       → v.items ≡ s.book.marks.items ++ m ∷ [] → vec_capacity s.book.marks ≤ vec_capacity v → is_admit m.event ≡ false → ((k : ℕ) → ends k m.event ≡ false)
       → tripped ≡ (s.book.tripped || is_trip m.event) → down ≡ (s.book.down || is_down m.event) → closed ≡ (s.book.closed || is_close m.event)
       → 1 + left s.book.opens tripped down closed ≤ left s.book.opens s.book.tripped s.book.down s.book.closed
@@ -140,7 +144,7 @@ module _ {C S K P L Q : Type 0} (links : K → LinkMeaning) (listeners : L → L
     legal = subst (Legal links (cause s.name.served (clocks s.name.clock.value).window)) (sym items) (legal_push links (cause s.name.served (clocks s.name.clock.value).window) s.book.marks.items m k.legal order caused own asks);
   }
 
-  pub keeps_trip : (s : BoardAs C S K P L Q) (v : Vec (MarkOf C S K) Global) (by word moment : ℕ) → Keeps links listeners clocks cause s
+  pub keeps_trip : (s : BoardAs A C S K P L Q) (v : Vec (MarkOf C S K) Global) (by word moment : ℕ) → Keeps links listeners clocks cause s
       → v.items ≡ s.book.marks.items ++ mark by (Trip word moment) ∷ [] → vec_capacity s.book.marks ≤ vec_capacity v → s.book.tripped ≡ false → s.book.closed ≡ false
       → 0 < word → s.near.handle.seen ≡ word → cause s.name.served (clocks s.name.clock.value).window (events s.book.marks.items) (Trip word moment)
       → moment ≡ (clocks s.near.clock).last → IsWithin (clocks s.name.clock.value).window moment
@@ -158,7 +162,7 @@ module _ {C S K P L Q : Type 0} (links : K → LinkMeaning) (listeners : L → L
       (ongoing, (begun_events s k, none, some, let b : ℕ = latest es in let p : b ≤ a = k.holds.latest_by in let g : b ≤ moment = omega (arith, now, p) in g))
       caused tt tt
 
-  pub keeps_down : (s : BoardAs C S K P L Q) (v : Vec (MarkOf C S K) Global) (by : ℕ) (calls : _) → Keeps links listeners clocks cause s
+  pub keeps_down : (s : BoardAs A C S K P L Q) (v : Vec (MarkOf C S K) Global) (by : ℕ) (calls : _) → Keeps links listeners clocks cause s
       → v.items ≡ s.book.marks.items ++ mark by (Down calls) ∷ [] → vec_capacity s.book.marks ≤ vec_capacity v → s.book.tripped ≡ true → s.book.down ≡ false → s.book.closed ≡ false
       → cause s.name.served (clocks s.name.clock.value).window (events s.book.marks.items) (Down calls)
       → Keeps links listeners clocks cause (with_book s (with_marks s.book v s.book.opens s.book.tripped true s.book.closed))
@@ -170,7 +174,7 @@ module _ {C S K P L Q : Type 0} (links : K → LinkMeaning) (listeners : L → L
       tt (omega arith) (λ _. k.holds.word trip ∙ sym (word_old es (Down calls) trip))
       (sym k.counted.counts.closed_is ∙ unclosed, (trip, sym k.counted.counts.down_is ∙ was)) caused tt tt
 
-  pub keeps_close : (s : BoardAs C S K P L Q) (v : Vec (MarkOf C S K) Global) (by moment : ℕ) → Keeps links listeners clocks cause s
+  pub keeps_close : (s : BoardAs A C S K P L Q) (v : Vec (MarkOf C S K) Global) (by moment : ℕ) → Keeps links listeners clocks cause s
       → v.items ≡ s.book.marks.items ++ mark by (Close moment) ∷ [] → vec_capacity s.book.marks ≤ vec_capacity v → s.book.opens ≡ 0 → s.book.down ≡ s.book.tripped → s.book.closed ≡ false
       → cause s.name.served (clocks s.name.clock.value).window (events s.book.marks.items) (Close moment)
       → moment ≡ (clocks s.near.clock).last → IsWithin (clocks s.name.clock.value).window moment
@@ -193,14 +197,14 @@ module _ {C S K P L Q : Type 0} (links : K → LinkMeaning) (listeners : L → L
       caused tt tt
 
   -- where a number is open, the board counts one
-  pub opens_one : (s : BoardAs C S K P L Q) (by number : ℕ) (ask : _) → Keeps links listeners clocks cause s → IsOpen links s.book.marks.items by number ask → 0 < s.book.opens
+  pub opens_one : (s : BoardAs A C S K P L Q) (by number : ℕ) (ask : _) → Keeps links listeners clocks cause s → IsOpen links s.book.marks.items by number ask → 0 < s.book.opens
   opens_one s by number ask k open_at = opens_some s.book.marks.items s.book.admitted s.book.opens s.book.tripped s.book.down s.book.closed by number k.counted.counts k.legal.ordered open_at.admitted open_at.unended
 
   -- and has room for its End
-  pub room_some : (s : BoardAs C S K P L Q) → Keeps links listeners clocks cause s → 0 < s.book.opens → length s.book.marks.items < vec_capacity s.book.marks
+  pub room_some : (s : BoardAs A C S K P L Q) → Keeps links listeners clocks cause s → 0 < s.book.opens → length s.book.marks.items < vec_capacity s.book.marks
   room_some s k some = let f : ℕ = cond s.book.tripped 0 1 + (cond s.book.down 0 1 + cond s.book.closed 0 1) in let h : length s.book.marks.items + (s.book.opens + f) ≤ vec_capacity s.book.marks = k.counted.room in omega (arith, h, some)
 
-  pub keeps_end : (s : BoardAs C S K P L Q) (v : Vec (MarkOf C S K) Global) (by number moment : ℕ) (entry : EntryOf C S K) → Keeps links listeners clocks cause s
+  pub keeps_end : (s : BoardAs A C S K P L Q) (v : Vec (MarkOf C S K) Global) (by number moment : ℕ) (entry : EntryOf C S K) → Keeps links listeners clocks cause s
       → v.items ≡ s.book.marks.items ++ mark by (End number entry moment by) ∷ [] → vec_capacity s.book.marks ≤ vec_capacity v
       → IsOpen links s.book.marks.items by number (links entry.link.io).asked
       → IsRunOf (clocks s.name.clock.value).window (events s.book.marks.items) number entry moment → IsCutWithin (clocks s.name.clock.value).window entry.end
@@ -230,26 +234,22 @@ module _ {C S K P L Q : Type 0} (links : K → LinkMeaning) (listeners : L → L
       }
 
   -- the board with one Admit more
-  abbrev pub with_admit : BoardAs C S K P L Q → Vec (MarkOf C S K) Global → L → ℕ → BoardAs C S K P L Q
+  abbrev pub with_admit : BoardAs A C S K P L Q → Vec (MarkOf C S K) Global → L → ℕ → BoardAs A C S K P L Q
   with_admit s v listener next = record {
     name = s.name;
     book = record { marks = v; history = s.book.history; admitted = next; opens = s.book.opens + 1; tripped = s.book.tripped; down = s.book.down; closed = s.book.closed };
     near = record { listener = listener; clock = s.near.clock; handle = s.near.handle; over = s.near.over; faulted = s.near.faulted };
   }
 
-  at_most : (t : Bool) → cond t 0 1 ≤ 1
-  at_most true = omega arith
-  at_most false = omega arith
-
   -- room for an Admit, an End and what can come anyway
-  enough : (s : BoardAs C S K P L Q) (n capacity : ℕ) → n ≡ length s.book.marks.items + 1 → length s.book.marks.items + (s.book.opens + 5) ≤ capacity
+  enough : (s : BoardAs A C S K P L Q) (n capacity : ℕ) → n ≡ length s.book.marks.items + 1 → length s.book.marks.items + (s.book.opens + 5) ≤ capacity
       → n + left (s.book.opens + 1) s.book.tripped s.book.down s.book.closed ≤ capacity
   enough s n capacity one room =
       let b1 : ℕ = cond s.book.tripped 0 1 in let b2 : ℕ = cond s.book.down 0 1 in let b3 : ℕ = cond s.book.closed 0 1 in
       let l1 : b1 ≤ 1 = at_most s.book.tripped in let l2 : b2 ≤ 1 = at_most s.book.down in let l3 : b3 ≤ 1 = at_most s.book.closed in
       let o : ℕ = s.book.opens in let g : n + ((o + 1) + (b1 + (b2 + b3))) ≤ capacity = omega (arith, one, room, l1, l2, l3) in g
 
-  pub keeps_admit : (s : BoardAs C S K P L Q) (v : Vec (MarkOf C S K) Global) (listener : L) (next by moment : ℕ) (copy : Snapshot K) → Keeps links listeners clocks cause s
+  pub keeps_admit : (s : BoardAs A C S K P L Q) (v : Vec (MarkOf C S K) Global) (listener : L) (next by moment : ℕ) (copy : Snapshot K) → Keeps links listeners clocks cause s
       → v.items ≡ s.book.marks.items ++ admit_mark by s.book.admitted moment copy ∷ [] → length s.book.marks.items + (s.book.opens + 5) ≤ vec_capacity v
       → length s.book.marks.items + (s.book.opens + 5) ≤ vec_capacity s.book.history → next ≡ s.book.admitted + 1
       → s.near.handle.seen ≡ 0 → s.name.handle.value.looked + admitted (events s.book.marks.items) < s.near.handle.looked → s.book.closed ≡ false → s.near.over ≡ false
@@ -285,17 +285,17 @@ module _ {C S K P L Q : Type 0} (links : K → LinkMeaning) (listeners : L → L
       }
 
   -- the clock is read
-  pub keeps_clock : (s : BoardAs C S K P L Q) (clock : Q) → Keeps links listeners clocks cause s → TellsOn (clocks s.near.clock) (clocks clock) → Keeps links listeners clocks cause (with_clock s clock)
+  pub keeps_clock : (s : BoardAs A C S K P L Q) (clock : Q) → Keeps links listeners clocks cause s → TellsOn (clocks s.near.clock) (clocks clock) → Keeps links listeners clocks cause (with_clock s clock)
   keeps_clock s clock k on = record { begun = k.begun; lifted = k.lifted; holds = holds_clock links listeners clocks s.name s.near clock s.book.marks.items k.holds on; counted = k.counted; legal = k.legal }
 
   -- the handle has looked, or another one was taken in
-  pub keeps_handle : (s : BoardAs C S K P L Q) (handle : Handle) → Keeps links listeners clocks cause s
+  pub keeps_handle : (s : BoardAs A C S K P L Q) (handle : Handle) → Keeps links listeners clocks cause s
       → handle.wire ≡ s.near.handle.wire → s.near.handle.looked ≤ handle.looked → (0 < s.near.handle.seen → handle.seen ≡ s.near.handle.seen)
       → Keeps links listeners clocks cause (with_handle s handle)
   keeps_handle s handle k wire looked again = record { begun = k.begun; lifted = k.lifted; holds = holds_handle links listeners clocks s.name s.near handle s.book.marks.items k.holds k.legal.ordered wire looked again; counted = k.counted; legal = k.legal }
 
   -- the same book, with more room
-  pub keeps_room : (s : BoardAs C S K P L Q) (b : BookOf C S K) → Keeps links listeners clocks cause s → SameBook s.book b → Keeps links listeners clocks cause (with_book s b)
+  pub keeps_room : (s : BoardAs A C S K P L Q) (b : BookOf C S K) → Keeps links listeners clocks cause s → SameBook s.book b → Keeps links listeners clocks cause (with_book s b)
   keeps_room s b k same =
       let l : left b.opens b.tripped b.down b.closed ≡ left s.book.opens s.book.tripped s.book.down s.book.closed = rw (same.opens, same.tripped, same.down, same.closed) refl in
       let n : length b.marks.items ≡ length s.book.marks.items = ap length same.marks in
@@ -313,7 +313,7 @@ module _ {C S K P L Q : Type 0} (links : K → LinkMeaning) (listeners : L → L
       }
 
   -- the listener was polled, and gave nothing
-  pub keeps_listener : (s : BoardAs C S K P L Q) (listener : L) (over faulted : Bool) → Keeps links listeners clocks cause s → (listeners listener).given ≡ (listeners s.near.listener).given
+  pub keeps_listener : (s : BoardAs A C S K P L Q) (listener : L) (over faulted : Bool) → Keeps links listeners clocks cause s → (listeners listener).given ≡ (listeners s.near.listener).given
       → Settled (listeners s.near.listener) (listeners listener) → SoundAs faulted (listeners s.name.listener.value) (listeners listener)
       → (over ≡ true → ((listeners listener).ended ≡ true) × ForSome (listeners s.near.listener).offers (λ all. (listeners s.near.listener).given ≡ Some all))
       → (over ≡ false → (listeners listener).ended ≡ (listeners s.name.listener.value).ended)
@@ -321,14 +321,14 @@ module _ {C S K P L Q : Type 0} (links : K → LinkMeaning) (listeners : L → L
   keeps_listener s listener over faulted k same settled sound ends goes_on = record { begun = k.begun; lifted = k.lifted; holds = holds_listener links listeners clocks s.name s.near listener over faulted s.book.marks.items k.holds same settled sound ends goes_on; counted = k.counted; legal = k.legal }
 
   -- a clock and a wire are looked at
-  pub keeps_look : (s : BoardAs C S K P L Q) (clock : Q) (handle : Handle) → Keeps links listeners clocks cause s → TellsOn (clocks s.near.clock) (clocks clock) → handle.wire ≡ s.near.handle.wire
+  pub keeps_look : (s : BoardAs A C S K P L Q) (clock : Q) (handle : Handle) → Keeps links listeners clocks cause s → TellsOn (clocks s.near.clock) (clocks clock) → handle.wire ≡ s.near.handle.wire
       → (0 < s.near.handle.seen → handle ≡ s.near.handle) → (s.near.handle.seen ≡ 0 → handle.looked ≡ s.near.handle.looked + 1)
       → Keeps links listeners clocks cause (with_handle (with_clock s clock) handle)
   keeps_look s clock handle k on wire again load =
       keeps_handle (with_clock s clock) handle (keeps_clock s clock k on) wire (no_less s.near.handle.seen s.near.handle.looked handle.looked (λ some. ap (λ h. h.looked) (again some)) load) (λ some. ap (λ h. h.seen) (again some))
 
   -- a link that was given now
-  pub given_now : (s : BoardAs C S K P L Q) (v : Vec (MarkOf C S K) Global) (by moment last : ℕ) (copy : Snapshot K) (link : K) → Keeps links listeners clocks cause s
+  pub given_now : (s : BoardAs A C S K P L Q) (v : Vec (MarkOf C S K) Global) (by moment last : ℕ) (copy : Snapshot K) (link : K) → Keeps links listeners clocks cause s
       → v.items ≡ s.book.marks.items ++ admit_mark by s.book.admitted moment copy ∷ [] → copy.value ≡ link → s.near.handle.seen ≡ 0 → moment ≤ last → IsFreshLink (links link)
       → IsGiven links v.items by s.book.admitted last link
   given_now s v by moment last copy link k items same unseen late fresh =
@@ -354,14 +354,14 @@ module _ {C S K P L Q : Type 0} (links : K → LinkMeaning) (listeners : L → L
       }
 
   -- what a board counts says whether it may be closed
-  pub may_close : (s : BoardAs C S K P L Q) → Keeps links listeners clocks cause s → MayClose s.book.marks.items → (s.book.closed ≡ false) × (s.book.opens ≡ 0) × (s.book.down ≡ s.book.tripped)
+  pub may_close : (s : BoardAs A C S K P L Q) → Keeps links listeners clocks cause s → MayClose s.book.marks.items → (s.book.closed ≡ false) × (s.book.opens ≡ 0) × (s.book.down ≡ s.book.tripped)
   may_close s k may = (
     k.counted.counts.closed_is ∙ may.unclosed,
     open_none s.book.marks.items s.book.admitted s.book.opens s.book.tripped s.book.down s.book.closed k.counted.counts k.legal.ordered may.none_open,
     k.counted.counts.down_is ∙ (may.down ∙ sym k.counted.counts.tripped_is),
   )
 
-  pub can_close : (s : BoardAs C S K P L Q) → Keeps links listeners clocks cause s → s.book.closed ≡ false → s.book.opens ≡ 0 → s.book.down ≡ s.book.tripped → MayClose s.book.marks.items
+  pub can_close : (s : BoardAs A C S K P L Q) → Keeps links listeners clocks cause s → s.book.closed ≡ false → s.book.opens ≡ 0 → s.book.down ≡ s.book.tripped → MayClose s.book.marks.items
   can_close s k unclosed none downs = record {
     unclosed = sym k.counted.counts.closed_is ∙ unclosed;
     none_open = none_open s.book.marks.items s.book.admitted s.book.tripped s.book.down s.book.closed (subst (λ n. Counts s.book.marks.items s.book.admitted n s.book.tripped s.book.down s.book.closed) none k.counted.counts) k.legal.ordered;
@@ -369,6 +369,6 @@ module _ {C S K P L Q : Type 0} (links : K → LinkMeaning) (listeners : L → L
   }
 
   -- the handle has taken another one in
-  pub keeps_join : (s : BoardAs C S K P L Q) (other handle : Handle) → Keeps links listeners clocks cause s → handle.wire ≡ s.near.handle.wire → handle.looked ≡ max s.near.handle.looked other.looked
+  pub keeps_join : (s : BoardAs A C S K P L Q) (other handle : Handle) → Keeps links listeners clocks cause s → handle.wire ≡ s.near.handle.wire → handle.looked ≡ max s.near.handle.looked other.looked
       → (0 < s.near.handle.seen → handle.seen ≡ s.near.handle.seen) → Keeps links listeners clocks cause (with_handle s handle)
   keeps_join s other handle k wire looked again = keeps_handle s handle k wire (omega (arith, looked)) again

@@ -94,13 +94,17 @@ pub record SameBook {M E : Type 0} (old new : Book M E) : Type 0 where
   pub room : vec_capacity old.marks ≤ vec_capacity new.marks
   pub history_room : vec_capacity old.history ≤ vec_capacity new.history
 
--- the state of a launch, as contracts see it: P is what is served, L the listener, and Q the clock
-abbrev pub BoardAs : Type 0 → Type 0 → Type 0 → Type 0 → Type 0 → Type 0 → Type 0
-BoardAs C S K P L Q = Board (Name P L Q Handle) (BookOf C S K) (Near L Q Handle)
+-- the state of a launch, as contracts see it: A is the application, P what is served of it, L the listener, and Q the clock
+abbrev pub BoardAs : Type 0 → Type 0 → Type 0 → Type 0 → Type 0 → Type 0 → Type 0 → Type 0
+BoardAs A C S K P L Q = Board (Name A P L Q Handle) (BookOf C S K) (Near L Q Handle)
 
-module _ {C S K P L Q : Type 0} (links : K → LinkMeaning) (listeners : L → ListenerMeaning) (clocks : Q → ClockMeaning) where
+-- the events of a board, in order
+abbrev pub list_of : {A C S K P L Q : Type 0} → BoardAs A C S K P L Q → List (EventOf C S K)
+list_of board = events board.book.marks.items
+
+module _ {A C S K P L Q : Type 0} (links : K → LinkMeaning) (listeners : L → ListenerMeaning) (clocks : Q → ClockMeaning) where
   -- the listener, the clock and the handle against what was handed in, with what was entered meanwhile
-  pub record Holds (name : Name P L Q Handle) (near : Near L Q Handle) (marks : List (MarkOf C S K)) : Type 0 where
+  pub record Holds (name : Name A P L Q Handle) (near : Near L Q Handle) (marks : List (MarkOf C S K)) : Type 0 where
     pub wire : near.handle.wire ≡ name.handle.value.wire
     pub word : list_any is_trip (events marks) ≡ true → near.handle.seen ≡ trip_word (events marks)
     -- it was looked at the wire before each Admit
@@ -118,10 +122,10 @@ module _ {C S K P L Q : Type 0} (links : K → LinkMeaning) (listeners : L → L
     pub latest_by : latest (events marks) ≤ (clocks near.clock).last
 
   -- what stands behind each event is what is served says under the window of the clock
-  pub record Keeps (cause : P → Option (ℕ × ℕ) → List (EventOf C S K) → EventOf C S K → Type 0) (board : BoardAs C S K P L Q) : Type 0 where
+  pub record Keeps (cause : P → Option (ℕ × ℕ) → List (EventOf C S K) → EventOf C S K → Type 0) (board : BoardAs A C S K P L Q) : Type 0 where
     pub begun : 0 < length board.book.marks.items
     -- the Lift stands first, with the calls at liftoff
-    pub lifted : lift_calls (events board.book.marks.items) ≡ board.name.calls.value
+    pub lifted : lift_calls (list_of board) ≡ board.name.calls.value
     pub holds : Holds board.name board.near board.book.marks.items
     pub counted : Counted board.book
     pub legal : Legal links (cause board.name.served (clocks board.name.clock.value).window) board.book.marks.items

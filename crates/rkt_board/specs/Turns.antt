@@ -21,6 +21,13 @@ use Rattle.rkt_source.specs.declared.source.Gate.{Gate}
 abbrev pub gate_with : ℕ → Option ℕ → ℕ → ℕ → Gate
 gate_with moment tripped grace mercy = record { moment = moment; tripped = tripped; grace = grace; mercy = mercy }
 
+-- a link is admitted only where the listener had neither ended nor failed before
+abbrev pub AdmitsAs : {K : Type 0} → Bool → Bool → Turned K → Type 0
+AdmitsAs over faulted (Given number moment link) = (over ≡ false) × (faulted ≡ false)
+AdmitsAs over faulted Tripped = Unit {0}
+AdmitsAs over faulted Again = Unit {0}
+AdmitsAs over faulted Stop = Unit {0}
+
 module _ {C S K : Type 0} where
   abbrev pub mark : ℕ → EventOf C S K → MarkOf C S K
   mark by event = record { by = by; event = event; link = None }

@@ -5,11 +5,13 @@ use rkt_link::Listener;
 use rkt_orbit::Called;
 use rkt_request::Types;
 use rkt_turn::Shutdown;
+use std::marker::PhantomData;
 use std::snapshot::Snapshot;
 
-/// What a board stands for: what is served, the calls at liftoff, and the rest as it was handed in.
+/// What a board stands for: what is served of an application, the calls at liftoff, and the rest as it was handed in.
 #[derive(Drop)]
-pub struct Name<P, L, C, H> {
+pub struct Name<A, P, L, C, H> {
+    pub app: PhantomData<A>,
     pub served: P,
     pub listener: Snapshot<L>,
     pub clock: Snapshot<C>,
@@ -51,9 +53,12 @@ pub struct Board<N, B, X> {
     pub near: X,
 }
 
+/// The name of the board of an application's launch.
+pub type NameOf<A, P, L, C> = Name<A, P, L, C, Shutdown<<A as Types>::Reason>>;
+
 /// The state of an application's launch.
 pub type BoardOf<A, P, L, C> = Board<
-    Name<P, L, C, Shutdown<<A as Types>::Reason>>,
+    NameOf<A, P, L, C>,
     Book<Mark<A, <L as Listener>::Link>, Event<A, <L as Listener>::Link>>,
     Near<L, C, Shutdown<<A as Types>::Reason>>,
 >;

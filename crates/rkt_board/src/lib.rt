@@ -2,6 +2,7 @@
 #![tactic(auto)]
 
 mod board;
+mod booked;
 mod closing;
 mod history;
 mod mark;
@@ -9,7 +10,7 @@ mod opening;
 mod served;
 mod turns;
 
-pub use board::{Board, BoardOf, Book, Name, Near, Turned};
+pub use board::{Board, BoardOf, Book, Name, NameOf, Near, Turned};
 pub use closing::{Closed, ClosedOf, finish};
 pub use history::{End, Entry, EntryOf, Event, EventOf, Failure, History, HistoryOf, Kept, kept};
 pub use mark::{Mark, MarkOf, marked_trip};

@@ -11,6 +11,7 @@ use rkt_orbit::Called;
 use rkt_request::Types;
 use rkt_turn::Shutdown;
 use std::alloc::Global;
+use std::marker::PhantomData;
 use std::snapshot::Snapshot;
 
 // How many events a launch without a link has at most: a Lift, a Trip, a Down and a Close.
@@ -48,10 +49,12 @@ pub fn lift<A: Types, P: Served<A, L::Link>, L: Listener, C: Clock>(
     requires blank { IsBlank book }
     requires caused { P.cause served (C.meaning clock).window [] (Lift calls) }
     ensures name { (result.name.served ≡ served) × (result.name.listener.value ≡ listener) × (result.name.clock.value ≡ clock) × (result.name.handle.value ≡ handle) × (result.name.calls.value ≡ calls) }
+    ensures handle { result.near.handle ≡ handle }
     ensures adds { result.book.marks.items ≡ mark by (Lift calls) ∷ [] }
     ensures keeps { Keeps L.Link.meaning L.meaning C.meaning P.cause result }
 {
     let name = Name {
+        app: PhantomData,
         served,
         listener: Snapshot::of(&listener),
         clock: Snapshot::of(&clock),

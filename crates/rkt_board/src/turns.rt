@@ -6,7 +6,7 @@ ghost use Rattle.rkt_link.specs.Clock.{IsAmid, IsWithin, TellsOn};
 ghost use Rattle.rkt_board.specs.Board.{IsCutWithin, Keeps, SameBook};
 ghost use Rattle.rkt_board.specs.Events.{is_close, admitted};
 ghost use Rattle.rkt_board.specs.Marks.{events};
-ghost use Rattle.rkt_board.specs.Turns.{mark, AddsOne, TurnedAs, StopsAs, GivesAs, DownsAs, ClosesAs, TripsAs, ShowsTrip, gate_with, StaysOpen, MayDown, MayClose, IsOpen, IsRunOf};
+ghost use Rattle.rkt_board.specs.Turns.{mark, AddsOne, AdmitsAs, TurnedAs, StopsAs, GivesAs, DownsAs, ClosesAs, TripsAs, ShowsTrip, gate_with, StaysOpen, MayDown, MayClose, IsOpen, IsRunOf};
 ghost use Rattle.rkt_board.specs.declared.history.EventOf.TheVariants as event;
 
 use crate::{BoardOf, Book, Entry, EventOf, MarkOf, Served, Turned};
@@ -28,8 +28,11 @@ pub fn turn<A: Types, P: Served<A, L::Link>, L: Listener, C: Clock>(
     ensures name { board.new.name ≡ board.old.name }
     ensures turned { TurnedAs by board.old.book.marks.items board.new.book.marks.items result }
     ensures given { GivesAs L.Link.meaning board.new.book.marks.items by (C.meaning board.new.near.clock).last result }
+    // A link is given only where the listener had neither ended nor failed.
+    ensures admits { AdmitsAs board.old.near.over board.old.near.faulted result }
     // It looks at the wire with one load, unless a word was seen before.
     ensures looked { board.old.near.handle.seen ≡ 0 → board.new.near.handle.looked ≡ board.old.near.handle.looked + 1 }
+    ensures handle { HandsBack board.old.near.handle board.new.near.handle }
     ensures stops { StopsAs board.new.near.handle.seen board.new.book.marks.items result }
     ensures clock { TellsOn (C.meaning board.old.near.clock) (C.meaning board.new.near.clock) }
     ensures keeps { Keeps L.Link.meaning L.meaning C.meaning P.cause board.new }
@@ -54,6 +57,7 @@ fn trip<A: Types, P: Served<A, L::Link>, L: Listener, C: Clock>(
     ensures name { board.new.name ≡ board.old.name }
     ensures turned { TurnedAs by board.old.book.marks.items board.new.book.marks.items result }
     ensures given { GivesAs L.Link.meaning board.new.book.marks.items by (C.meaning board.new.near.clock).last result }
+    ensures admits { AdmitsAs board.old.near.over board.old.near.faulted result }
     ensures stops { StopsAs board.new.near.handle.seen board.new.book.marks.items result }
     ensures same { (board.new.near.clock ≡ board.old.near.clock) × (board.new.near.handle ≡ board.old.near.handle) }
     ensures keeps { Keeps L.Link.meaning L.meaning C.meaning P.cause board.new }
@@ -98,6 +102,7 @@ fn admit<A: Types, P: Served<A, L::Link>, L: Listener, C: Clock>(
     ensures name { board.new.name ≡ board.old.name }
     ensures turned { TurnedAs by board.old.book.marks.items board.new.book.marks.items result }
     ensures given { GivesAs L.Link.meaning board.new.book.marks.items by (C.meaning board.new.near.clock).last result }
+    ensures admits { AdmitsAs board.old.near.over board.old.near.faulted result }
     ensures stops { StopsAs board.new.near.handle.seen board.new.book.marks.items result }
     ensures same { (board.new.near.clock ≡ board.old.near.clock) × (board.new.near.handle ≡ board.old.near.handle) }
     ensures keeps { Keeps L.Link.meaning L.meaning C.meaning P.cause board.new }
@@ -238,6 +243,7 @@ pub fn end<A: Types, P: Served<A, L::Link>, L: Listener, C: Clock>(
     requires caused { (moment : ℕ) → (C.meaning board.old.near.clock).last ≤ moment → P.cause board.old.name.served (C.meaning board.old.name.clock.value).window (events board.old.book.marks.items) (event.End number entry moment by) }
     ensures name { board.new.name ≡ board.old.name }
     ensures adds { (moment : ℕ) × AddsOne board.old.book.marks.items board.new.book.marks.items (mark by (event.End number entry moment by)) }
+    ensures handle { board.new.near.handle ≡ board.old.near.handle }
     ensures clock { TellsOn (C.meaning board.old.near.clock) (C.meaning board.new.near.clock) }
     ensures keeps { Keeps L.Link.meaning L.meaning C.meaning P.cause board.new }
 {
@@ -290,6 +296,8 @@ pub fn close<A: Types, P: Served<A, L::Link>, L: Listener, C: Clock>(
     ensures name { board.new.name ≡ board.old.name }
     ensures adds { ClosesAs by board.old.book.marks.items board.new.book.marks.items result }
     ensures due { IsTrue result ↔ MayClose board.old.book.marks.items }
+    // It does not look at the wire.
+    ensures handle { board.new.near.handle ≡ board.old.near.handle }
     ensures clock { TellsOn (C.meaning board.old.near.clock) (C.meaning board.new.near.clock) }
     ensures keeps { Keeps L.Link.meaning L.meaning C.meaning P.cause board.new }
 {

@@ -1,5 +1,5 @@
 -- The machine of an object that a trip cuts off: Active, Grace since a moment, Mercy since a later one, Gone.
-use Rattle.rkt_source.specs.Source.{Meaning}
+use Rattle.rkt_source.specs.Source.{Meaning, Polled}
 use Rattle.std.specs.Prelude.{List, [], ◌∷◌, ◌⊎◌, ◌||◌, ◌≡◌, ℕ, ◌-◌, ◌≤◌, nat_le, Bool, true, false, if◌then◌else◌, Option, None, Some, Result, Ok, Err}
 use Rattle.rkt_base.specs.declared.poll.Poll.{Poll}
 use Rattle.rkt_base.specs.declared.poll.Poll.TheVariants.{Ready, Pending}
@@ -139,8 +139,14 @@ module _ {I : Type 0} (shuts : I → Poll (Unit {0}) → I → Type 0) where
       ((is_open (advanced gate before.stage) ≡ true) × (after.stage ≡ advanced gate before.stage) × ((r : Poll T) × call before.io r after.io × (answer ≡ granted r)))
       ⊎ ((refusal : Poll Refused) × Closed gate before after refusal × (answer ≡ withheld refusal))
 
-  -- one read is one call of the machine, which reads the object once under this Gate
-  abbrev pub ReadsCut : (I → Gate → Poll (Result ℕ SourceError) → I → Type 0) → Cancellable I → Gate → Poll (Result ℕ SourceError) → Cancellable I → Type 0
-  ReadsCut polled before gate answer after =
-      ((is_open (advanced gate before.stage) ≡ true) × (after.stage ≡ advanced gate before.stage) × polled before.io gate answer after.io)
+  -- one read is one call of the machine, which reads the object once under this Gate, with this room
+  abbrev pub ReadsCut : Polled I → Polled (Cancellable I)
+  ReadsCut polled before gate room answer after =
+      ((is_open (advanced gate before.stage) ≡ true) × (after.stage ≡ advanced gate before.stage)
+      × polled before.io gate room answer after.io)
       ⊎ ((refusal : Poll Refused) × Closed gate before after refusal × (answer ≡ refused_read refusal))
+
+  -- a shutdown asks the object, whose stage stays; one that is gone is not asked any more, and is shut down
+  abbrev pub ShutsCut : Bool → Cancellable I → Poll (Unit {0}) → Cancellable I → Type 0
+  ShutsCut true before answer after = (after ≡ before) × (answer ≡ Ready tt)
+  ShutsCut false before answer after = (after.stage ≡ before.stage) × shuts before.io answer after.io

@@ -123,10 +123,15 @@ impl<I: Shut> CancellableIo<I> {
 }
 
 impl<I: Shut> Shut for CancellableIo<I> {
-    ghost shuts = { λ c answer d. (d.stage ≡ c.stage) × I.shuts c.io answer d.io };
+    ghost use Rattle.rkt_cancel.specs.Cancel.{ShutsCut};
+
+    ghost shuts = { λ c answer d. ShutsCut I.shuts (is_gone c.stage) c answer d };
 
     fn poll_shutdown(&mut self) -> Poll<()> {
-        self.io.poll_shutdown()
+        match self.stage {
+            Stage::Gone(_, _) => Poll::Ready(()),
+            _ => self.io.poll_shutdown(),
+        }
     }
 }
 
@@ -136,7 +141,7 @@ impl<I: Source> Source for CancellableIo<I> {
 
     ghost meaning = { λ c. cut_meaning c.stage (I.meaning c.io) };
 
-    ghost polled = { λ c gate answer d. ReadsCut I.shuts I.polled c gate answer d };
+    ghost polled = { ReadsCut I.shuts I.polled };
 
     // A closure tells nothing of the buffer that it fills, so this does not go through `poll_with`.
     fn poll_read(&mut self, gate: Gate, buf: &mut [u8]) -> Poll<Result<usize, SourceError>> {
@@ -153,7 +158,7 @@ impl<I: Source> Source for CancellableIo<I> {
 
     ghost shut_is_warned = { λ c. cut_shut_is_warned c.stage (I.meaning c.io) (I.shut_is_warned c.io) };
 
-    ghost shutdown_keeps = { λ c d answer e. Prim.rw e.0 (cut_shuts c.stage (I.meaning c.io) (I.meaning d.io) answer (I.shutdown_keeps c.io d.io answer e.1)) };
+    ghost shutdown_keeps = { cut_shuts I.shuts I.meaning I.shutdown_keeps };
 
     ghost waits_within = { λ c. I.waits_within c.io };
 }

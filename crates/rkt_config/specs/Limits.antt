@@ -23,6 +23,12 @@ abbrev pub IsLimitOf : List (List ℕ × ByteUnit) → List ℕ → Option ByteU
 IsLimitOf limits name None = All (λ entry. ¬ IsFront entry.0 name) limits
 IsLimitOf limits name (Some limit) = IsOfLongest limits name limit
 
+-- a name has one answer
+abbrev pub HasOneLimit : Type 0
+HasOneLimit =
+    (limits : List (List ℕ × ByteUnit)) (name : List ℕ) (a b : Option ByteUnit) → IsLimitOf limits name a → IsLimitOf limits name b
+    → a ≡ b
+
 -- the limits where none is set
 abbrev pub default_limits : List (List ℕ × ByteUnit)
 default_limits =

@@ -4,6 +4,7 @@
 mod config;
 mod config_table;
 mod joined;
+mod limit_law;
 mod limits;
 mod managed;
 mod numbers;
@@ -12,6 +13,7 @@ mod state;
 
 pub use config::{BadConfig, Config};
 pub use config_table::ConfigTable;
+pub use limit_law::has_one_limit;
 pub use limits::Limits;
 pub use managed::{DuplicateState, Managed};
 pub use state::State;

@@ -1,4 +1,4 @@
-ghost use Rattle.std.specs.Prelude.{◌≡◌, ◌++◌, ◌∷◌, [], if◌then◌else◌, List, ℕ, Some, IfOk, OnOk, OnErr, length, option_to_list};
+ghost use Rattle.std.specs.Prelude.{◌≡◌, ◌≤◌, ◌++◌, ◌∷◌, [], if◌then◌else◌, List, ℕ, Some, IfOk, OnOk, OnErr, length, option_to_list, take};
 ghost use Rattle.std.specs.Option.{option_copied};
 ghost use Rattle.std.specs.Iterator.{YieldsFirstRef, item_count};
 ghost use Rattle.rkt_cookie.specs.JarEntries.{IsByName, cookies_in};
@@ -242,6 +242,22 @@ impl CookieJar {
         ensures { result.now ≡ self.now.log }
     {
         self.log.as_slice()
+    }
+
+    /// How many changes there are, also below the floor.
+    pub fn changes(&self) -> usize
+        ensures count { result ≡ length self.now.log }
+        ensures floor { self.now.floor ≤ result }
+    {
+        self.log.len()
+    }
+
+    /// Takes back the changes behind the first so many.
+    pub fn take_back(&mut self, changes: usize)
+        requires { self.old.floor ≤ changes }
+        ensures { self.new ≡ record self.old { log = take changes self.old.log } }
+    {
+        self.log.truncate(changes);
     }
 
     /// What is sent of a change: a removal only where there is an original to remove.

@@ -7,14 +7,14 @@ use Rattle.rkt_base.specs.declared.poll.Poll.TheVariants.{Ready}
 use Rattle.std.proofs.lemmas.Bool.{leb-true, leb-false}
 use Rattle.std.proofs.lemmas.List.{drop-take}
 use Rattle.rkt_data.specs.Gathering.{Gained, Gathered, Draws, IsUsedUp, Completes}
-use Rattle.rkt_source.specs.Source.{Meaning}
-use Rattle.rkt_data.specs.Stream.{Opened, Piped, Follows, TakesAtMost, IsComplete, whole_of}
-use Rattle.rkt_data.specs.Tap.{AsksOnce, Ending, ending_of}
+use Rattle.rkt_source.specs.Source.{Meaning, Polled}
+use Rattle.rkt_data.specs.Stream.{AsksOnce, Opened, Piped, room_for, Follows, TakesAtMost, IsComplete, whole_of}
+use Rattle.rkt_data.specs.Tap.{ByGate, Ending, ended, ending_of, gave}
 use Rattle.rkt_data.specs.declared.capped.N.{N}
 use Rattle.rkt_source.specs.declared.source.Gate.{Gate}
 use Rattle.rkt_source.specs.declared.source.SourceError.{SourceError}
 use Rattle.rkt_data.proofs.Pulls.{front_of, same_front}
-use Rattle.rkt_data.proofs.Taps.{ByGate-refl, ByGate-trans, ByGate-once, SameTap-refl, SameTap-trans, body_same}
+use Rattle.rkt_data.proofs.Taps.{ByGate-refl, ByGate-trans, ByGate-over, ByGate-once, ByGate-gave, ByGate-unmet, SameTap-refl, SameTap-trans, body_same}
 
 pub Follows-refl : {S : Type 0} (meaning : S → Meaning) (trip : Option ℕ) (a : Opened S) → Follows meaning trip a a
 Follows-refl meaning trip a = record { front = refl; limit = refl; tap = SameTap-refl meaning trip a.tap }
@@ -43,52 +43,80 @@ Gained-read {o = o} n buf h e y = record {
   bytes = λ b t. y b t ∙ ap (λ i. take i (drop o.given b)) (sym (length-take-le n buf h));
 }
 
-pub Draws-start : {S : Type 0} (meaning : S → Meaning) (polled : S → Gate → Poll (Result ℕ SourceError) → S → Type 0) (gate : Gate) (o : Piped S) (old : List ℕ) → o.probed ≡ false → TakesAtMost meaning o.opened o.opened.limit → Draws meaning polled gate (Ready (Ok tt)) o o old old
+pub Draws-start : {S : Type 0} (meaning : S → Meaning) (polled : Polled S) (gate : Gate) (o : Piped S) (old : List ℕ) → o.probed ≡ false → TakesAtMost meaning o.opened o.opened.limit → Draws meaning polled gate gave o o old old
 Draws-start meaning polled gate o old h bound = record {
   follows = Follows-refl meaning gate.tripped o.opened;
   by_gate = ByGate-refl polled gate o.opened.tap;
   bound = bound;
   not_probed = h;
   gained = ([], sym (append-nil old), Gained-none refl);
+  unmet = λ full over. ByGate-refl polled gate o.opened.tap;
 }
 
-pub Draws-trans : {S : Type 0} {meaning : S → Meaning} {polled : S → Gate → Poll (Result ℕ SourceError) → S → Type 0} {gate : Gate} {how : Ending} {o p q : Piped S} {old mid new : List ℕ} → Draws meaning polled gate (Ready (Ok tt)) o p old mid → Draws meaning polled gate how p q mid new → Draws meaning polled gate how o q old new
+pub Draws-trans : {S : Type 0} {meaning : S → Meaning} {polled : Polled S} {gate : Gate} {how : Ending} {o p q : Piped S} {old mid new : List ℕ} → Draws meaning polled gate gave o p old mid → Draws meaning polled gate how p q mid new → Draws meaning polled gate how o q old new
 Draws-trans {polled = polled} {gate = gate} {how = how} {o = o} {p = p} {q = q} {old = old} d e = record {
   follows = Follows-trans d.follows e.follows;
   by_gate = ByGate-trans polled gate how o.opened.tap p.opened.tap q.opened.tap d.by_gate e.by_gate;
   bound = e.bound;
   not_probed = e.not_probed;
   gained = (d.gained.0 ++ e.gained.0, e.gained.1 ∙ ap (λ z. z ++ e.gained.0) d.gained.1 ∙ append_assoc old d.gained.0 e.gained.0, Gained-trans d.follows d.gained.2 e.gained.2);
+  unmet = λ full over. ByGate-trans polled gate gave o.opened.tap p.opened.tap q.opened.tap d.by_gate (e.unmet full over);
 }
 
+-- reads that gave bytes, behind which there may be no more
+pub Draws-over : {S : Type 0} {meaning : S → Meaning} {polled : Polled S} {gate : Gate} {o p : Piped S} {old new : List ℕ} → Draws meaning polled gate gave o p old new → Draws meaning polled gate ended o p old new
+Draws-over {polled = polled} {gate = gate} {o = o} {p = p} d = record {
+  follows = d.follows;
+  by_gate = ByGate-over polled gate true o.opened.tap p.opened.tap d.by_gate;
+  bound = d.bound;
+  not_probed = d.not_probed;
+  gained = d.gained;
+  unmet = λ full over. d.by_gate;
+}
+
+closed_by : {S : Type 0} (t : Bool) {meaning : S → Meaning} {polled : Polled S} {gate : Gate} {o p q : Piped S} {old new : List ℕ} (answer : Poll (Result Bool SourceError)) → Draws meaning polled gate ended o p old new
+    → (p.opened.given < p.opened.limit → (q ≡ p) × (answer ≡ Ready (Ok true))) → ByGate polled gate (ending_of answer) p.opened.tap q.opened.tap → nat_le p.opened.limit p.opened.given ≡ t → ByGate polled gate (ending_of answer) o.opened.tap q.opened.tap
+closed_by true {polled = polled} {gate = gate} {o = o} {p = p} {q = q} answer d below asks e =
+    ByGate-trans polled gate (ending_of answer) o.opened.tap p.opened.tap q.opened.tap (d.unmet (leb-true p.opened.limit p.opened.given e) refl) asks
+closed_by false {p = p} answer d below asks e = let same = below (leb-false p.opened.limit p.opened.given e) in rw (same.1, same.0) d.by_gate
+
+-- behind all reads up to the limit it is learnt whether there is more; where the end may have been met nothing is read for that
+pub Draws-closed : {S : Type 0} {meaning : S → Meaning} {polled : Polled S} {gate : Gate} {o p q : Piped S} {old new : List ℕ} (answer : Poll (Result Bool SourceError)) → Draws meaning polled gate ended o p old new
+    → (p.opened.given < p.opened.limit → (q ≡ p) × (answer ≡ Ready (Ok true))) → ByGate polled gate (ending_of answer) p.opened.tap q.opened.tap → ByGate polled gate (ending_of answer) o.opened.tap q.opened.tap
+Draws-closed {p = p} answer d below asks = closed_by (nat_le p.opened.limit p.opened.given) answer d below asks refl
+
 -- a read into a buffer that was lent and has grown behind what it held
-pub Draws-into : {S : Type 0} {meaning : S → Meaning} {polled : S → Gate → Poll (Result ℕ SourceError) → S → Type 0} {gate : Gate} {how : Ending} {o p q : Piped S} {old front lent new got : List ℕ} (n now : ℕ) (grown : List ℕ)
-    → lent ≡ grown → take n grown ≡ front → got ≡ new → Draws meaning polled gate (Ready (Ok tt)) o p old front → Draws meaning polled gate how p q (take n lent) (take now new) → Draws meaning polled gate how o q old (take now got)
+pub Draws-into : {S : Type 0} {meaning : S → Meaning} {polled : Polled S} {gate : Gate} {how : Ending} {o p q : Piped S} {old front lent new got : List ℕ} (n now : ℕ) (grown : List ℕ)
+    → lent ≡ grown → take n grown ≡ front → got ≡ new → Draws meaning polled gate gave o p old front → Draws meaning polled gate how p q (take n lent) (take now new) → Draws meaning polled gate how o q old (take now got)
 Draws-into n now grown e f h a b = rw h (Draws-trans a (rw (e, f) at b))
 
 -- one read, into a buffer behind its first n bytes
-pub Draws-read : {S : Type 0} {meaning : S → Meaning} {polled : S → Gate → Poll (Result ℕ SourceError) → S → Type 0} {gate : Gate} {o p q : Piped S} {old : List ℕ} (n k : ℕ) (room buf post : List ℕ) → Draws meaning polled gate (Ready (Ok tt)) o p old (take n room) → n ≤ length room → k ≤ length buf
-    → Follows meaning gate.tripped p.opened q.opened → AsksOnce polled gate (Ready (Ok k)) p.opened.tap q.opened.tap → TakesAtMost meaning q.opened q.opened.limit → q.probed ≡ false
+pub Draws-read : {S : Type 0} {meaning : S → Meaning} {polled : Polled S} {gate : Gate} {o p q : Piped S} {old : List ℕ} (asked n k : ℕ) (room buf post : List ℕ) → Draws meaning polled gate gave o p old (take n room) → n ≤ length room → k ≤ length buf → 0 < k
+    → Follows meaning gate.tripped p.opened q.opened → AsksOnce polled gate asked (Ready (Ok k)) p.opened q.opened → TakesAtMost meaning q.opened q.opened.limit → q.probed ≡ false
     → q.opened.given ≡ p.opened.given + k → ForSome (whole_of meaning p.opened) (λ b. take k buf ≡ take k (drop p.opened.given b))
-    → Draws meaning polled gate (Ready (Ok tt)) o q old (take (n + k) (take n room ++ (buf ++ post)))
-Draws-read {polled = polled} {gate = gate} {p = p} {q = q} n k room buf post d h l f g bound off e y = Draws-trans d record {
-  follows = f;
-  by_gate = ByGate-once polled gate (Ready (Ok k)) p.opened.tap q.opened.tap g;
-  bound = bound;
-  not_probed = off;
-  gained = (take k buf, front_of n k (take n room) buf post (length-take-le n room h) l, Gained-read k buf l e y);
-}
+    → Draws meaning polled gate gave o q old (take (n + k) (take n room ++ (buf ++ post)))
+Draws-read {polled = polled} {gate = gate} {p = p} {q = q} asked n k room buf post d h l some f g bound off e y =
+    let reads = ByGate-gave polled gate asked k p.opened q.opened some g in
+    Draws-trans d record {
+      follows = f;
+      by_gate = reads;
+      bound = bound;
+      not_probed = off;
+      gained = (take k buf, front_of n k (take n room) buf post (length-take-le n room h) l, Gained-read k buf l e y);
+      unmet = λ full over. reads;
+    }
 
 -- one read that gave nothing
-pub Draws-nothing : {S : Type 0} {meaning : S → Meaning} {polled : S → Gate → Poll (Result ℕ SourceError) → S → Type 0} {gate : Gate} {o p q : Piped S} {old : List ℕ} (answer : Poll (Result ℕ SourceError)) (n : ℕ) (room buf post : List ℕ) → Draws meaning polled gate (Ready (Ok tt)) o p old (take n room) → n ≤ length room
-    → Follows meaning gate.tripped p.opened q.opened → AsksOnce polled gate answer p.opened.tap q.opened.tap → TakesAtMost meaning q.opened q.opened.limit → q.probed ≡ false
+pub Draws-nothing : {S : Type 0} {meaning : S → Meaning} {polled : Polled S} {gate : Gate} {o p q : Piped S} {old : List ℕ} (answer : Poll (Result ℕ SourceError)) (size n : ℕ) (room buf post : List ℕ) → Draws meaning polled gate gave o p old (take n room) → n ≤ length room
+    → Follows meaning gate.tripped p.opened q.opened → AsksOnce polled gate (room_for p.opened size) answer p.opened q.opened → TakesAtMost meaning q.opened q.opened.limit → q.probed ≡ false
     → q.opened.given ≡ p.opened.given → Draws meaning polled gate (ending_of answer) o q old (take n (take n room ++ (buf ++ post)))
-Draws-nothing {polled = polled} {gate = gate} {p = p} {q = q} answer n room buf post d h f g bound off e = Draws-trans d record {
+Draws-nothing {polled = polled} {gate = gate} {p = p} {q = q} answer size n room buf post d h f g bound off e = Draws-trans d record {
   follows = f;
-  by_gate = ByGate-once polled gate answer p.opened.tap q.opened.tap g;
+  by_gate = ByGate-once polled gate (room_for p.opened size) answer p.opened q.opened g;
   bound = bound;
   not_probed = off;
   gained = ([], same_front n room buf post h ∙ sym (append-nil (take n room)), Gained-none e);
+  unmet = λ full over. ByGate-unmet polled gate size answer p.opened q.opened g e f.limit full;
 }
 
 -- what was gathered, and more
@@ -113,7 +141,7 @@ pub cut_by_count : (from n limit : ℕ) (b : List ℕ) → from + n ≤ limit �
 cut_by_count from n limit b h e = cut_by_test (nat_le limit (from + n)) from n limit b h e refl
 
 -- several reads more
-pub Gathered-drawn : {S : Type 0} {meaning : S → Meaning} {polled : S → Gate → Poll (Result ℕ SourceError) → S → Type 0} {gate : Gate} {how : Ending} {o p : Piped S} {from : ℕ} {old new : List ℕ} → Gathered meaning o.opened from old → Draws meaning polled gate how o p old new → Gathered meaning p.opened from new
+pub Gathered-drawn : {S : Type 0} {meaning : S → Meaning} {polled : Polled S} {gate : Gate} {how : Ending} {o p : Piped S} {from : ℕ} {old new : List ℕ} → Gathered meaning o.opened from old → Draws meaning polled gate how o p old new → Gathered meaning p.opened from new
 Gathered-drawn h d = rw d.gained.1 (Gathered-more h d.follows d.gained.2)
 
 -- what was gathered is the body up to the limit, once all of that was given

@@ -1,17 +1,18 @@
 -- Sending an opened body to a sink.
-use Rattle.std.proofs.Common.{◌≡◌, ℕ, ◌+◌, ◌-◌, ◌≤◌, ◌<◌, ◌++◌, ◌∙◌, false, inl, inr, List, [], length, take, drop, Option, None, Some, Result, Ok, Err, Vec, Global, vec_len, refl, sym, ap, ap₂, arith, le_refl, le_trans, append_assoc, append-nil, length-append, take-add, take-take, take_at, drop-drop}
+use Rattle.std.proofs.Common.{◌≡◌, ℕ, ◌+◌, ◌-◌, ◌≤◌, ◌<◌, ◌++◌, ◌∙◌, Bool, true, false, inl, inr, List, [], length, take, drop, Option, None, Some, Result, Ok, Err, Vec, Global, vec_len, refl, sym, ap, ap₂, arith, le_refl, le_trans, append_assoc, append-nil, length-append, take-add, take-take, take_at, drop-drop}
 use Rattle.std.proofs.Math.Seq.{drop-append_seam}
 use Rattle.std.proofs.lemmas.List.{drop-take}
 use Rattle.rkt_base.specs.declared.poll.Poll.{Poll}
 use Rattle.rkt_base.specs.declared.poll.Poll.TheVariants.{Ready}
-use Rattle.std.specs.Prelude.{option_map}
+use Rattle.std.specs.Prelude.{nat_le, option_map}
+use Rattle.std.proofs.lemmas.Bool.{leb-false, leb-true}
 use Rattle.rkt_data.specs.Gathering.{Gained, Gathered, IsUsedUp, data_error_of}
 use Rattle.rkt_source.specs.Buffer.{items_of}
 use Rattle.rkt_data.specs.Sending.{Fed, Calls, CallsAs, Pumps, SentOf, Sends, SendsNext, SendErr, SentAll, HasRoom, between, sink_error_of}
 use Rattle.rkt_source.specs.Sink.{SinkMeaning, SinkKeeps, SinkWaits, SinkErrs, Gains, Feeds, FeedEnding, FeedsTo}
-use Rattle.rkt_source.specs.Source.{Meaning}
+use Rattle.rkt_source.specs.Source.{Meaning, Polled}
 use Rattle.rkt_data.specs.Stream.{Opened, Piped, Follows, TakesAtMost}
-use Rattle.rkt_data.specs.Tap.{ByGate, Ending, TapErrs, Tapped}
+use Rattle.rkt_data.specs.Tap.{ByGate, Ending, TapErrs, Tapped, ending_of, gave}
 use Rattle.rkt_data.specs.declared.error.DataError.{DataError}
 use Rattle.rkt_data.specs.declared.error.DataError.TheVariants as error
 use Rattle.rkt_source.specs.declared.sink.SinkError.{SinkError}
@@ -64,20 +65,20 @@ between_parts at end n buf h =
     ∙ ap₂ (λ xs ys. xs ++ ys) (sym (take-take n (end - at) (drop at buf) (omega (arith, h)))) (ap (take (end - (at + n))) (drop-drop n at buf))
 
 -- a call that has failed for the source
-pub CallsAs-source : {S K : Type 0} (polled : S → Gate → Poll (Result ℕ SourceError) → S → Type 0) (written : K → List ℕ → Poll (Result ℕ SinkError) → K → Type 0) (gate : Gate) (e : SourceError) (d : DataError) (t u : Option (Tapped S)) (k l : K) (bytes : List ℕ) → d ≡ data_error_of e
+pub CallsAs-source : {S K : Type 0} (polled : Polled S) (written : K → List ℕ → Poll (Result ℕ SinkError) → K → Type 0) (gate : Gate) (e : SourceError) (d : DataError) (t u : Option (Tapped S)) (k l : K) (bytes : List ℕ) → d ≡ data_error_of e
     → Calls polled written gate (Ready (Err e)) (Ready (Ok tt)) t u k bytes l → CallsAs polled written gate (Ready (Err d)) t u k bytes l
 CallsAs-source polled written gate source_error.SourceFault d t u k l bytes is h = rw is h
 CallsAs-source polled written gate source_error.Gone d t u k l bytes is h = rw is h
 CallsAs-source polled written gate source_error.TimedOut d t u k l bytes is h = rw is h
 
 -- a call that has failed for the sink
-pub CallsAs-sink : {S K : Type 0} (polled : S → Gate → Poll (Result ℕ SourceError) → S → Type 0) (written : K → List ℕ → Poll (Result ℕ SinkError) → K → Type 0) (gate : Gate) (e : SinkError) (d : DataError) (t u : Option (Tapped S)) (k l : K) (bytes : List ℕ) → d ≡ sink_error_of e
-    → Calls polled written gate (Ready (Ok tt)) (Ready (Err e)) t u k bytes l → CallsAs polled written gate (Ready (Err d)) t u k bytes l
+pub CallsAs-sink : {S K : Type 0} (polled : Polled S) (written : K → List ℕ → Poll (Result ℕ SinkError) → K → Type 0) (gate : Gate) (e : SinkError) (d : DataError) (t u : Option (Tapped S)) (k l : K) (bytes : List ℕ) → d ≡ sink_error_of e
+    → Calls polled written gate gave (Ready (Err e)) t u k bytes l → CallsAs polled written gate (Ready (Err d)) t u k bytes l
 CallsAs-sink polled written gate sink_error.SinkFault d t u k l bytes is h = rw is h
 CallsAs-sink polled written gate sink_error.NoMemory d t u k l bytes is h = rw is (inr h)
 
-pub Pumps-start : {S K : Type 0} (meaning : S → Meaning) (polled : S → Gate → Poll (Result ℕ SourceError) → S → Type 0) (sinks : K → SinkMeaning) (written : K → List ℕ → Poll (Result ℕ SinkError) → K → Type 0) (gate : Gate) (o : Piped S) (k : K) (old : List ℕ) → o.probed ≡ false → TakesAtMost meaning o.opened o.opened.limit
-    → Pumps meaning polled sinks written gate (Ready (Ok tt)) o o k k old old
+pub Pumps-start : {S K : Type 0} (meaning : S → Meaning) (polled : Polled S) (sinks : K → SinkMeaning) (written : K → List ℕ → Poll (Result ℕ SinkError) → K → Type 0) (gate : Gate) (o : Piped S) (k : K) (old : List ℕ) → o.probed ≡ false → TakesAtMost meaning o.opened o.opened.limit
+    → Pumps meaning polled sinks written gate (Ready (Ok false)) o o k k old old
 Pumps-start meaning polled sinks written gate o k old h bound = record {
   follows = Follows-refl meaning gate.tripped o.opened;
   bound = bound;
@@ -89,15 +90,16 @@ Pumps-start meaning polled sinks written gate o k old h bound = record {
   moved = append-nil old;
   gains = Gains-none (sinks k) (sinks k) refl;
   calls = (ByGate-refl polled gate o.opened.tap, Feeds.none);
+  unmet = λ full over. (ByGate-refl polled gate o.opened.tap, Feeds.none);
 }
 
 -- some of what is pending was sent
-pub Pumps-sent : {S K : Type 0} {meaning : S → Meaning} {polled : S → Gate → Poll (Result ℕ SourceError) → S → Type 0} {sinks : K → SinkMeaning} {written : K → List ℕ → Poll (Result ℕ SinkError) → K → Type 0} {gate : Gate} {o p : Piped S} {k l l' : K} {old : List ℕ} (how : FeedEnding) (answer : Poll (Result (Unit {0}) DataError)) (at end n : ℕ) (buf : List ℕ)
-    → Pumps meaning polled sinks written gate (Ready (Ok tt)) o p k l old (between at end buf) → at + n ≤ end
+pub Pumps-sent : {S K : Type 0} {meaning : S → Meaning} {polled : Polled S} {sinks : K → SinkMeaning} {written : K → List ℕ → Poll (Result ℕ SinkError) → K → Type 0} {gate : Gate} {o p : Piped S} {k l l' : K} {old : List ℕ} (how : FeedEnding) (answer : Poll (Result Bool DataError)) (at end n : ℕ) (buf : List ℕ)
+    → Pumps meaning polled sinks written gate (Ready (Ok false)) o p k l old (between at end buf) → at + n ≤ end
     → SinkKeeps (sinks l) (sinks l') → Gains (sinks l) (sinks l') (take n (between at end buf)) → FeedsTo written how l (take n (between at end buf)) l'
-    → ((bytes : List ℕ) → Calls polled written gate (Ready (Ok tt)) how o.opened.tap p.opened.tap k bytes l' → CallsAs polled written gate answer o.opened.tap p.opened.tap k bytes l')
+    → ((bytes : List ℕ) → Calls polled written gate gave how o.opened.tap p.opened.tap k bytes l' → CallsAs polled written gate answer o.opened.tap p.opened.tap k bytes l') → (answer ≡ Ready (Ok true) → ⊥)
     → Pumps meaning polled sinks written gate answer o p k l' old (between (at + n) end buf)
-Pumps-sent {sinks = sinks} {written = written} {k = k} {l = l} {l' = l'} how answer at end n buf p h keeps gains feeds tells = record {
+Pumps-sent {sinks = sinks} {written = written} {k = k} {l = l} {l' = l'} how answer at end n buf p h keeps gains feeds tells goes_on = record {
   follows = p.follows;
   bound = p.bound;
   not_probed = p.not_probed;
@@ -108,15 +110,17 @@ Pumps-sent {sinks = sinks} {written = written} {k = k} {l = l} {l' = l'} how ans
   moved = p.moved ∙ ap (λ z. p.out ++ z) (between_parts at end n buf h) ∙ sym (append_assoc p.out (take n (between at end buf)) (between (at + n) end buf));
   gains = Gains-trans (sinks k) (sinks l) (sinks l') p.out (take n (between at end buf)) p.gains gains;
   calls = tells (p.out ++ take n (between at end buf)) (p.calls.0, FeedsTo-after written how k l l' p.out (take n (between at end buf)) p.calls.1 feeds);
+  unmet = λ full over. absurd (goes_on over);
 }
 
 -- what was read is pending, once nothing else is
-pub Pumps-read : {S K : Type 0} {meaning : S → Meaning} {polled : S → Gate → Poll (Result ℕ SourceError) → S → Type 0} {sinks : K → SinkMeaning} {written : K → List ℕ → Poll (Result ℕ SinkError) → K → Type 0} {gate : Gate} {o p q : Piped S} {k l : K} {old pending now : List ℕ} (how : Ending) (answer : Poll (Result (Unit {0}) DataError)) (more : List ℕ)
-    → Pumps meaning polled sinks written gate (Ready (Ok tt)) o p k l old pending → pending ≡ [] → now ≡ more
+pub Pumps-read : {S K : Type 0} {meaning : S → Meaning} {polled : Polled S} {sinks : K → SinkMeaning} {written : K → List ℕ → Poll (Result ℕ SinkError) → K → Type 0} {gate : Gate} {o p q : Piped S} {k l : K} {old pending now : List ℕ} (how : Ending) (answer : Poll (Result Bool DataError)) (more : List ℕ)
+    → Pumps meaning polled sinks written gate (Ready (Ok false)) o p k l old pending → pending ≡ [] → now ≡ more
     → Follows meaning gate.tripped p.opened q.opened → TakesAtMost meaning q.opened q.opened.limit → q.probed ≡ false → Gained meaning p.opened q.opened more → ByGate polled gate how p.opened.tap q.opened.tap
+    → (q.opened.limit ≤ q.opened.given → answer ≡ Ready (Ok true) → ByGate polled gate gave p.opened.tap q.opened.tap)
     → ((bytes : List ℕ) → Calls polled written gate how (Ready (Ok tt)) o.opened.tap q.opened.tap k bytes l → CallsAs polled written gate answer o.opened.tap q.opened.tap k bytes l)
     → Pumps meaning polled sinks written gate answer o q k l old now
-Pumps-read {polled = polled} {gate = gate} {o = o} {p = p} {q = q} {old = old} how answer more d none now f bound off gained asks tells = record {
+Pumps-read {polled = polled} {gate = gate} {o = o} {p = p} {q = q} {old = old} how answer more d none now f bound off gained asks unmet tells = record {
   follows = Follows-trans d.follows f;
   bound = bound;
   not_probed = off;
@@ -127,6 +131,7 @@ Pumps-read {polled = polled} {gate = gate} {o = o} {p = p} {q = q} {old = old} h
   moved = sym (append_assoc old d.more more) ∙ ap (λ z. z ++ more) (d.moved ∙ ap (λ z. d.out ++ z) none ∙ append-nil d.out) ∙ ap (λ z. d.out ++ z) (sym now);
   gains = d.gains;
   calls = tells d.out (ByGate-trans polled gate how o.opened.tap p.opened.tap q.opened.tap d.calls.0 asks, d.calls.1);
+  unmet = λ full over. (ByGate-trans polled gate gave o.opened.tap p.opened.tap q.opened.tap d.calls.0 (unmet full over), d.calls.1);
 }
 
 pub SendErr-source : {S K : Type 0} (meaning : S → Meaning) (sinks : K → SinkMeaning) (e : SourceError) (o p : Opened S) (k l : K) → TapErrs meaning e o.tap p.tap → SendErr meaning sinks o p k l (data_error_of e)
@@ -169,14 +174,14 @@ between-same at end v w h e =
     sym (drop-take at (end - at) v) ∙ ap (drop at) (ap (λ i. take i v) (sym size) ∙ e ∙ ap (λ i. take i w) size) ∙ drop-take at (end - at) w
 
 -- the bytes read since the sender was made
-gathered_pumped : {S K : Type 0} {meaning : S → Meaning} {polled : S → Gate → Poll (Result ℕ SourceError) → S → Type 0} {sinks : K → SinkMeaning} {written : K → List ℕ → Poll (Result ℕ SinkError) → K → Type 0} {gate : Gate} {answer : Poll (Result (Unit {0}) DataError)} {o p : Piped S} {k l : K} {old new : List ℕ} (from : ℕ) (out : List ℕ)
+gathered_pumped : {S K : Type 0} {meaning : S → Meaning} {polled : Polled S} {sinks : K → SinkMeaning} {written : K → List ℕ → Poll (Result ℕ SinkError) → K → Type 0} {gate : Gate} {answer : Poll (Result Bool DataError)} {o p : Piped S} {k l : K} {old new : List ℕ} (from : ℕ) (out : List ℕ)
     → Gathered meaning o.opened from (out ++ old) → (q : Pumps meaning polled sinks written gate answer o p k l old new) → Gathered meaning p.opened from ((out ++ q.out) ++ new)
 gathered_pumped {old = old} {new = new} from out s q =
     let same : (out ++ q.out) ++ new ≡ (out ++ old) ++ q.more = append_assoc out q.out new ∙ ap (λ z. out ++ z) (sym q.moved) ∙ sym (append_assoc out old q.more) in
     rw same (Gathered-more s q.follows q.gained)
 
 -- sending on
-pub SentOf-pumped : {S K : Type 0} (meaning : S → Meaning) (polled : S → Gate → Poll (Result ℕ SourceError) → S → Type 0) (sinks : K → SinkMeaning) (written : K → List ℕ → Poll (Result ℕ SinkError) → K → Type 0) (gate : Gate) (answer : Poll (Result (Unit {0}) DataError)) (o p : Piped S) (k l begun : K) (from : ℕ) (old new : List ℕ) → SentOf meaning sinks o.opened record { now = k; begun = begun } from old
+pub SentOf-pumped : {S K : Type 0} (meaning : S → Meaning) (polled : Polled S) (sinks : K → SinkMeaning) (written : K → List ℕ → Poll (Result ℕ SinkError) → K → Type 0) (gate : Gate) (answer : Poll (Result Bool DataError)) (o p : Piped S) (k l begun : K) (from : ℕ) (old new : List ℕ) → SentOf meaning sinks o.opened record { now = k; begun = begun } from old
     → Pumps meaning polled sinks written gate answer o p k l old new → SentOf meaning sinks p.opened record { now = l; begun = begun } from new
 SentOf-pumped meaning polled sinks written gate answer o p k l begun from old new s q =
     (s.0 ++ q.out, gathered_pumped from s.0 s.1 q, Gains-trans (sinks begun) (sinks k) (sinks l) s.0 q.out s.2 q.gains)
@@ -188,21 +193,21 @@ part_of_front xs ys zs all e =
     sym (drop-append_seam xs ys) ∙ ap (drop (length xs)) (first ∙ ap (λ i. take i all) (length-append xs ys)) ∙ drop-take (length xs) (length ys) all
 
 -- what was sent are the next bytes of the body
-pub SendsNext-pumped : {S K : Type 0} (meaning : S → Meaning) (polled : S → Gate → Poll (Result ℕ SourceError) → S → Type 0) (sinks : K → SinkMeaning) (written : K → List ℕ → Poll (Result ℕ SinkError) → K → Type 0) (gate : Gate) (answer : Poll (Result (Unit {0}) DataError)) (o p : Piped S) (k l begun : K) (from : ℕ) (old new : List ℕ) → SentOf meaning sinks o.opened record { now = k; begun = begun } from old
-    → Pumps meaning polled sinks written gate answer o p k l old new
-    → SendsNext meaning polled written gate answer o.opened p.opened k l (from + (o.opened.given - (from + length old))) (from + (p.opened.given - (from + length new)))
-SendsNext-pumped meaning polled sinks written gate answer o p k l begun from old new s q =
+pub SendsNext-pumped : {S K : Type 0} (meaning : S → Meaning) (polled : Polled S) (sinks : K → SinkMeaning) (written : K → List ℕ → Poll (Result ℕ SinkError) → K → Type 0) (gate : Gate) (answer told : Poll (Result Bool DataError)) (o p : Piped S) (k l begun : K) (from : ℕ) (old new : List ℕ) → SentOf meaning sinks o.opened record { now = k; begun = begun } from old
+    → (q : Pumps meaning polled sinks written gate answer o p k l old new) → CallsAs polled written gate told o.opened.tap p.opened.tap k q.out l
+    → SendsNext meaning polled written gate told o.opened p.opened k l (from + (o.opened.given - (from + length old))) (from + (p.opened.given - (from + length new)))
+SendsNext-pumped meaning polled sinks written gate answer told o p k l begun from old new s q calls =
     let after = gathered_pumped from s.0 s.1 q in
     let first : from + (o.opened.given - (from + length old)) ≡ from + length s.0 = omega (arith, s.1.count, length-append s.0 old) in
     record {
       bytes = q.out;
-      calls = q.calls;
+      calls = calls;
       count = omega (arith, first, after.count, length-append s.0 q.out, length-append (s.0 ++ q.out) new);
       are = λ b t. rw first (part_of_front s.0 q.out new (drop from b) (after.bytes b (whole_same q.follows ∙ t)) ∙ ap (take (length q.out)) (drop-drop (length s.0) from b));
     }
 
 -- nothing was sent for want of memory
-pub SendsNext-none : {S K : Type 0} (meaning : S → Meaning) (polled : S → Gate → Poll (Result ℕ SourceError) → S → Type 0) (written : K → List ℕ → Poll (Result ℕ SinkError) → K → Type 0) (gate : Gate) (o : Opened S) (k : K) (at : ℕ) → SendsNext meaning polled written gate (Ready (Err error.NoMemory)) o o k k at at
+pub SendsNext-none : {S K : Type 0} (meaning : S → Meaning) (polled : Polled S) (written : K → List ℕ → Poll (Result ℕ SinkError) → K → Type 0) (gate : Gate) (o : Opened S) (k : K) (at : ℕ) → SendsNext meaning polled written gate (Ready (Err error.NoMemory)) o o k k at at
 SendsNext-none meaning polled written gate o k at = record {
   bytes = [];
   calls = inl (ByGate-refl polled gate o.tap, Feeds.none);
@@ -210,16 +215,29 @@ SendsNext-none meaning polled written gate o k at = record {
   are = λ b t. refl;
 }
 
--- reads behind
-pub SendsNext-closed : {S K : Type 0} (meaning : S → Meaning) (polled : S → Gate → Poll (Result ℕ SourceError) → S → Type 0) (written : K → List ℕ → Poll (Result ℕ SinkError) → K → Type 0) (gate : Gate) (how : Ending) (answer : Poll (Result (Unit {0}) DataError)) (o p q : Opened S) (k l : K) (at next : ℕ) → SendsNext meaning polled written gate (Ready (Ok tt)) o p k l at next
-    → ByGate polled gate how p.tap q.tap → ((bytes : List ℕ) → Calls polled written gate how (Ready (Ok tt)) o.tap q.tap k bytes l → CallsAs polled written gate answer o.tap q.tap k bytes l)
+closed_by : {S K : Type 0} (t : Bool) (meaning : S → Meaning) (polled : Polled S) (written : K → List ℕ → Poll (Result ℕ SinkError) → K → Type 0) (gate : Gate) (reads : Poll (Result Bool SourceError)) (answer : Poll (Result Bool DataError)) (o p q : Opened S) (k l : K) (at next : ℕ) → SendsNext meaning polled written gate (Ready (Ok true)) o p k l at next
+    → (p.limit ≤ p.given → SendsNext meaning polled written gate (Ready (Ok false)) o p k l at next) → (p.given < p.limit → (q.tap ≡ p.tap) × (reads ≡ Ready (Ok true))) → ByGate polled gate (ending_of reads) p.tap q.tap
+    → ((bytes : List ℕ) → Calls polled written gate (ending_of reads) (Ready (Ok tt)) o.tap q.tap k bytes l → CallsAs polled written gate answer o.tap q.tap k bytes l) → nat_le p.limit p.given ≡ t
     → SendsNext meaning polled written gate answer o q k l at next
-SendsNext-closed meaning polled written gate how answer o p q k l at next s asks tells = record {
-  bytes = s.bytes;
-  calls = tells s.bytes (ByGate-trans polled gate how o.tap p.tap q.tap s.calls.0 asks, s.calls.1);
-  count = s.count;
-  are = s.are;
-}
+closed_by true meaning polled written gate reads answer o p q k l at next s unmet below asks tells e =
+    let first = unmet (leb-true p.limit p.given e) in
+    record {
+      bytes = first.bytes;
+      calls = tells first.bytes (ByGate-trans polled gate (ending_of reads) o.tap p.tap q.tap first.calls.0 asks, first.calls.1);
+      count = first.count;
+      are = first.are;
+    }
+closed_by false meaning polled written gate reads answer o p q k l at next s unmet below asks tells e =
+    let same = below (leb-false p.limit p.given e) in
+    record { bytes = s.bytes; calls = tells s.bytes (rw (same.1, same.0) s.calls); count = s.count; are = s.are }
+
+-- behind all that was sent it is learnt whether there is more; where the end may have been met nothing is read for that
+pub SendsNext-closed : {S K : Type 0} (meaning : S → Meaning) (polled : Polled S) (written : K → List ℕ → Poll (Result ℕ SinkError) → K → Type 0) (gate : Gate) (reads : Poll (Result Bool SourceError)) (answer : Poll (Result Bool DataError)) (o p q : Opened S) (k l : K) (at next : ℕ) → SendsNext meaning polled written gate (Ready (Ok true)) o p k l at next
+    → (p.limit ≤ p.given → SendsNext meaning polled written gate (Ready (Ok false)) o p k l at next) → (p.given < p.limit → (q.tap ≡ p.tap) × (reads ≡ Ready (Ok true))) → ByGate polled gate (ending_of reads) p.tap q.tap
+    → ((bytes : List ℕ) → Calls polled written gate (ending_of reads) (Ready (Ok tt)) o.tap q.tap k bytes l → CallsAs polled written gate answer o.tap q.tap k bytes l)
+    → SendsNext meaning polled written gate answer o q k l at next
+SendsNext-closed meaning polled written gate reads answer o p q k l at next s unmet below asks tells =
+    closed_by (nat_le p.limit p.given) meaning polled written gate reads answer o p q k l at next s unmet below asks tells refl
 
 -- all was sent, once nothing is pending and all up to the limit was read
 pub SentAll-of : {S K : Type 0} (meaning : S → Meaning) (sinks : K → SinkMeaning) (o : Opened S) (fed : Fed K) (from : ℕ) (pending : List ℕ) (n : ℕ) → SentOf meaning sinks o fed from pending → o.given ≤ o.limit → n ≡ o.given - from - length pending → pending ≡ [] → IsUsedUp meaning o → SentAll meaning o from n

@@ -1,11 +1,10 @@
 -- What a state that gathers text answers.
 use Rattle.std.specs.Option.{ForSome}
-use Rattle.std.proofs.Common.{◌≡◌, ℕ, ◌≤◌, ◌<◌, List, Option, None, Some, Result, Err, Vec, Global, refl, ap, arith}
+use Rattle.std.proofs.Common.{◌≡◌, ℕ, ◌≤◌, ◌<◌, List, Option, None, Some, Err, Vec, Global, refl, ap, arith}
 use Rattle.std.specs.Prelude.{IsUtf8}
-use Rattle.rkt_base.specs.declared.poll.Poll.{Poll}
 use Rattle.rkt_base.specs.declared.poll.Poll.TheVariants.{Ready}
 use Rattle.rkt_data.specs.Gathering.{Gathered, Draws, IsUsedUp, cause_of, data_error_of}
-use Rattle.rkt_source.specs.Source.{Meaning}
+use Rattle.rkt_source.specs.Source.{Meaning, Polled}
 use Rattle.rkt_data.specs.Stream.{Opened, Piped, Follows}
 use Rattle.rkt_data.specs.Tap.{Ending, TapErrs}
 use Rattle.rkt_data.specs.Text.{IsRead, TextFails, TextErr, found_bytes, found_so_far}
@@ -28,7 +27,7 @@ resumed_read meaning o None f s n r = let e = n refl in rw e.1 (omega arith)
 resumed_read meaning o (Some x) f s n r = rw (s x refl) r
 
 -- where no text was read
-pub TextErr-failed : {S : Type 0} {meaning : S → Meaning} {polled : S → Gate → Poll (Result ℕ SourceError) → S → Type 0} {gate : Gate} {how : Ending} (o p : Piped S) (from : ℕ) (old got : List ℕ) (e : DataError) → Gathered meaning o.opened from old → Draws meaning polled gate how o p old got → p.opened.given ≤ p.opened.limit
+pub TextErr-failed : {S : Type 0} {meaning : S → Meaning} {polled : Polled S} {gate : Gate} {how : Ending} (o p : Piped S) (from : ℕ) (old got : List ℕ) (e : DataError) → Gathered meaning o.opened from old → Draws meaning polled gate how o p old got → p.opened.given ≤ p.opened.limit
     → TextFails meaning got o.opened p.opened e → TextErr meaning from o.opened p.opened e
 TextErr-failed o p from old got error.SourceFault h d l f = (f.0, λ q. absurd (omega (arith, q, f.1)))
 TextErr-failed o p from old got error.Gone h d l f = (f.0, λ q. absurd (omega (arith, q, f.1)))
@@ -38,7 +37,7 @@ TextErr-failed o p from old got error.SinkFault h d l f = f
 TextErr-failed o p from old got error.NoMemory h d l f = f
 
 -- the source has refused a read
-pub Texts-failed : {S : Type 0} (meaning : S → Meaning) (polled : S → Gate → Poll (Result ℕ SourceError) → S → Type 0) (gate : Gate) (e : SourceError) (d : DataError) (o p : Piped S) (old new : List ℕ) → d ≡ data_error_of e → Draws meaning polled gate (Ready (Err e)) o p old new
+pub Texts-failed : {S : Type 0} (meaning : S → Meaning) (polled : Polled S) (gate : Gate) (e : SourceError) (d : DataError) (o p : Piped S) (old new : List ℕ) → d ≡ data_error_of e → Draws meaning polled gate (Ready (Err e)) o p old new
     → TapErrs meaning e o.opened.tap p.opened.tap × (p.opened.given < p.opened.limit) → (got : List ℕ) × Draws meaning polled gate (Ready (cause_of d)) o p old got × TextFails meaning got o.opened p.opened d
 Texts-failed meaning polled gate source_error.SourceFault d o p old new is draws h = rw is (new, draws, h)
 Texts-failed meaning polled gate source_error.Gone d o p old new is draws h = rw is (new, draws, h)

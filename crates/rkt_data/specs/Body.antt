@@ -1,10 +1,10 @@
 -- What contracts see of a body that is not opened yet.
 use Rattle.std.specs.Borrow.{Bor}
 use Rattle.std.specs.Option.{ForSome}
-use Rattle.std.specs.Prelude.{◌≡◌, ℕ, ◌+◌, ◌≤◌, ◌⊎◌, ◌++◌, min, max, IsTrue, Bool, true, false, List, [], length, take, Option, None, Some, Result}
+use Rattle.std.specs.Prelude.{◌≡◌, ℕ, ◌+◌, ◌≤◌, ◌⊎◌, ◌++◌, min, max, IsTrue, Bool, true, false, List, [], length, take, Option, None, Some, Ok, Err}
 use Rattle.rkt_base.specs.declared.poll.Poll.{Poll}
 use Rattle.rkt_base.specs.declared.poll.Poll.TheVariants.{Ready, Pending}
-use Rattle.rkt_source.specs.Source.{Meaning, Faulted}
+use Rattle.rkt_source.specs.Source.{Meaning, Faulted, Polled}
 use Rattle.rkt_source.specs.declared.source.Gate.{Gate}
 use Rattle.rkt_source.specs.declared.source.SourceError.{SourceError}
 use Rattle.rkt_data.specs.Stream.{Opened, PullsAtMost}
@@ -57,12 +57,15 @@ pub record Peeked {S : Type 0} (meaning : S → Meaning) (trip : Option ℕ) (nu
   pub tap : SameTap meaning trip b.tap c.tap
   pub front : FrontOf meaning c
   pub taken : TakenIsHeld meaning c
-  pub complete : IsTrue b.complete → IsTrue c.complete
+  -- where all of it is held, or as much as is shown, it is left as it was
+  pub alone : IsTrue b.complete ⊎ (min num 512 ≤ length b.held) → c ≡ b
 
--- the source was called under this Gate alone; where a peek is Ready, only the last of its reads may have been refused
-abbrev pub PeeksByGate : {S X : Type 0} → (S → Gate → Poll (Result ℕ SourceError) → S → Type 0) → Gate → Poll X → Option (Tapped S) → Option (Tapped S) → Type 0
-PeeksByGate polled gate Pending t u = ByGate polled gate Pending t u
-PeeksByGate polled gate (Ready x) t u = (last : Result (Unit {0}) SourceError) × ByGate polled gate (Ready last) t u
+-- the source was called under this Gate alone; where a peek is Ready, only the last of its reads may have been refused, and the
+-- end was met only where the body is complete now
+abbrev pub PeeksByGate : {S X : Type 0} → Polled S → Gate → Poll X → Body S → Body S → Type 0
+PeeksByGate polled gate Pending b c = ByGate polled gate Pending b.tap c.tap
+PeeksByGate polled gate (Ready x) b c =
+    ByGate polled gate (Ready (Ok c.complete)) b.tap c.tap ⊎ ((e : SourceError) × ByGate polled gate (Ready (Err e)) b.tap c.tap)
 
 -- why a peek stopped: enough is held, the end came, a read was refused, or the source was Pending
 abbrev pub PeekStops : {S : Type 0} → (S → Meaning) → ℕ → Body S → Body S → Poll (Unit {0}) → Type 0

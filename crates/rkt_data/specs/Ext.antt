@@ -4,7 +4,7 @@ use Rattle.std.specs.Prelude.{◌≡◌, ⊤, ℕ, ◌+◌, ◌<◌, ◌≤◌, 
 use Rattle.std.specs.declared.alloc.Global.{Global}
 use Rattle.rkt_base.specs.declared.poll.Poll.{Poll}
 use Rattle.rkt_base.specs.declared.poll.Poll.TheVariants.{Ready, Pending}
-use Rattle.rkt_source.specs.Source.{Meaning, Keeps, Waits, Errs}
+use Rattle.rkt_source.specs.Source.{Meaning, Keeps, Waits, Errs, Polled}
 use Rattle.rkt_data.specs.Gathering.{Causes, cause_of}
 use Rattle.rkt_source.specs.declared.source.Gate.{Gate}
 use Rattle.rkt_source.specs.declared.source.SourceError.{SourceError}
@@ -39,16 +39,16 @@ abbrev pub GivesChunk : {R : Type 0} → (R → Meaning) → Option ℕ → Chun
 GivesChunk meaning trip a b answer = GivesUnlessEnded meaning trip a.ended a b answer
 
 -- an error comes of a read that it has answered, or of none
-abbrev pub AsksForError : {R : Type 0} → (R → Gate → Poll (Result ℕ SourceError) → R → Type 0) → Gate → R → Result (Unit {0}) SourceError → R → Type 0
-AsksForError polled gate s (Ok x) t = t ≡ s
-AsksForError polled gate s (Err e) t = polled s gate (Ready (Err e)) t
+abbrev pub AsksForError : {R : Type 0} → Polled R → Gate → ℕ → R → Result Bool SourceError → R → Type 0
+AsksForError polled gate room s (Ok x) t = t ≡ s
+AsksForError polled gate room s (Err e) t = polled s gate room (Ready (Err e)) t
 
--- the one read under this Gate that the answer comes of; want of memory comes of none
-abbrev pub AsksForChunk : {R : Type 0} → (R → Gate → Poll (Result ℕ SourceError) → R → Type 0) → Gate → R → Poll (Option (Result (Vec ℕ Global) DataError)) → R → Type 0
-AsksForChunk polled gate s Pending t = polled s gate Pending t
-AsksForChunk polled gate s (Ready None) t = polled s gate (Ready (Ok 0)) t
-AsksForChunk polled gate s (Ready (Some (Ok v))) t = polled s gate (Ready (Ok (length v.items))) t
-AsksForChunk polled gate s (Ready (Some (Err e))) t = AsksForError polled gate s (cause_of e) t
+-- the one read under this Gate with this room that the answer comes of; want of memory comes of none
+abbrev pub AsksForChunk : {R : Type 0} → Polled R → Gate → ℕ → R → Poll (Option (Result (Vec ℕ Global) DataError)) → R → Type 0
+AsksForChunk polled gate room s Pending t = polled s gate room Pending t
+AsksForChunk polled gate room s (Ready None) t = polled s gate room (Ready (Ok 0)) t
+AsksForChunk polled gate room s (Ready (Some (Ok v))) t = polled s gate room (Ready (Ok (length v.items))) t
+AsksForChunk polled gate room s (Ready (Some (Err e))) t = AsksForError polled gate room s (cause_of e) t
 
 -- the closure may be called on the error, where there is one
 abbrev pub CanMapErr : {T E : Type 0} → (E → Type 0) → Poll (Option (Result T E)) → Type 0

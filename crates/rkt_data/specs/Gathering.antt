@@ -4,9 +4,9 @@ use Rattle.std.specs.Prelude.{◌≡◌, ⊤, ℕ, ◌+◌, ◌≤◌, ◌<◌, 
 use Rattle.std.specs.declared.alloc.Global.{Global}
 use Rattle.rkt_base.specs.declared.poll.Poll.{Poll}
 use Rattle.rkt_base.specs.declared.poll.Poll.TheVariants.{Ready, Pending}
-use Rattle.rkt_source.specs.Source.{Meaning}
+use Rattle.rkt_source.specs.Source.{Meaning, Polled}
 use Rattle.rkt_data.specs.Stream.{Opened, Piped, Follows, TakesAtMost, IsComplete, cut, whole_of}
-use Rattle.rkt_data.specs.Tap.{ByGate, Ending, TapErrs, TapWaits}
+use Rattle.rkt_data.specs.Tap.{ByGate, Ending, TapErrs, TapWaits, ended, gave}
 use Rattle.rkt_data.specs.declared.capped.Capped.{Capped}
 use Rattle.rkt_data.specs.declared.capped.N.{N}
 use Rattle.rkt_data.specs.declared.drain.Drained.{Drained}
@@ -36,13 +36,13 @@ data_error_of source_error.Gone = error.Gone
 data_error_of source_error.TimedOut = error.TimedOut
 
 -- what an error tells of the reads: only one of the source ends them
-abbrev pub cause_of : DataError → Result (Unit {0}) SourceError
+abbrev pub cause_of : DataError → Result Bool SourceError
 cause_of error.SourceFault = Err source_error.SourceFault
 cause_of error.Gone = Err source_error.Gone
 cause_of error.TimedOut = Err source_error.TimedOut
-cause_of (error.NotUtf8 valid_up_to) = Ok tt
-cause_of error.SinkFault = Ok tt
-cause_of error.NoMemory = Ok tt
+cause_of (error.NotUtf8 valid_up_to) = Ok true
+cause_of error.SinkFault = Ok false
+cause_of error.NoMemory = Ok false
 
 -- what each error means: one of the source by the source, a fault of the sink by the sink, and so on
 abbrev pub Causes : (SourceError → Type 0) → Type 0 → (ℕ → Type 0) → Type 0 → DataError → Type 0
@@ -56,7 +56,7 @@ Causes source sink text memory error.NoMemory = memory
 -- what the answer of a state tells of the reads
 abbrev pub reads_end : {X : Type 0} → Poll (Result X DataError) → Ending
 reads_end Pending = Pending
-reads_end (Ready (Ok x)) = Ready (Ok tt)
+reads_end (Ready (Ok x)) = ended
 reads_end (Ready (Err e)) = Ready (cause_of e)
 
 -- the bytes of a body from a position on, up to a limit
@@ -69,12 +69,14 @@ pub record Gained {S : Type 0} (meaning : S → Meaning) (o p : Opened S) (more 
   pub bytes : ForSome (whole_of meaning o) (λ b. more ≡ take (length more) (drop o.given b))
 
 -- several reads of an opened body under one Gate that have ended so, by which the bytes that a buffer holds became more
-pub record Draws {S : Type 0} (meaning : S → Meaning) (polled : S → Gate → Poll (Result ℕ SourceError) → S → Type 0) (gate : Gate) (how : Ending) (o p : Piped S) (old new : List ℕ) : Type 0 where
+pub record Draws {S : Type 0} (meaning : S → Meaning) (polled : Polled S) (gate : Gate) (how : Ending) (o p : Piped S) (old new : List ℕ) : Type 0 where
   pub follows : Follows meaning gate.tripped o.opened p.opened
   pub by_gate : ByGate polled gate how o.opened.tap p.opened.tap
   pub bound : TakesAtMost meaning p.opened p.opened.limit
   pub not_probed : p.probed ≡ false
   pub gained : (more : List ℕ) × (new ≡ old ++ more) × Gained meaning o.opened p.opened more
+  -- the end was not met where all up to the limit was given
+  pub unmet : p.opened.limit ≤ p.opened.given → how ≡ ended → ByGate polled gate gave o.opened.tap p.opened.tap
 
 -- the bytes gathered are those read since the state was made
 pub record Gathered {S : Type 0} (meaning : S → Meaning) (o : Opened S) (from : ℕ) (got : List ℕ) : Type 0 where
@@ -101,10 +103,10 @@ Drains meaning o p drained.NoMemory = ⊤
 
 -- how the reads have ended then
 abbrev pub drained_end : Drained → Ending
-drained_end drained.End = Ready (Ok tt)
+drained_end drained.End = ended
 drained_end (drained.Failed e) = Ready (Err e)
 drained_end drained.Waiting = Pending
-drained_end drained.NoMemory = Ready (Ok tt)
+drained_end drained.NoMemory = gave
 
 -- whether the body has no more than its limit
 abbrev pub Closes : {S : Type 0} → (S → Meaning) → Piped S → Piped S → Poll (Result Bool SourceError) → Type 0
@@ -124,7 +126,7 @@ Finishes meaning o p (finished.Failed e) = BytesErr meaning o.opened p.opened e
 
 -- how the reads have ended then
 abbrev pub finished_end : Finished → Ending
-finished_end (finished.Bytes complete) = Ready (Ok tt)
+finished_end (finished.Bytes complete) = ended
 finished_end finished.Waiting = Pending
 finished_end (finished.Failed e) = Ready (cause_of e)
 

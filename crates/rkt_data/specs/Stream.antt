@@ -1,10 +1,11 @@
 -- What contracts see of an opened body, and the bound on what it takes from its source.
 use Rattle.std.specs.Option.{ForSome}
-use Rattle.std.specs.Prelude.{◌≡◌, ◌↔◌, ℕ, ◌+◌, ◌≤◌, ◌<◌, max, IsTrue, Bool, true, false, List, length, take, drop, Option, None, Some, Result, Ok, Err}
+use Rattle.std.specs.Prelude.{◌≡◌, ◌↔◌, ℕ, ◌+◌, ◌-◌, ◌≤◌, ◌<◌, max, min, IsTrue, Bool, true, false, List, length, take, drop, Option, None, Some, Result, Ok, Err}
 use Rattle.rkt_base.specs.declared.poll.Poll.{Poll}
 use Rattle.rkt_base.specs.declared.poll.Poll.TheVariants.{Ready, Pending}
-use Rattle.rkt_source.specs.Source.{Meaning}
-use Rattle.rkt_data.specs.Tap.{Tapped, SameTap, TapErrs, TapWaits, body}
+use Rattle.rkt_source.specs.Source.{Meaning, Polled}
+use Rattle.rkt_source.specs.declared.source.Gate.{Gate}
+use Rattle.rkt_data.specs.Tap.{Tapped, SameTap, TapErrs, TapWaits, AsksTap, body}
 use Rattle.rkt_source.specs.declared.source.SourceError.{SourceError}
 
 pub record Opened (S : Type 0) : Type 0 where
@@ -53,6 +54,17 @@ cut b limit = take limit b
 
 abbrev pub IsComplete : Bool → List ℕ → ℕ → Type 0
 IsComplete complete b limit = IsTrue complete ↔ (length b ≤ limit)
+
+-- how many bytes a read can give into a buffer of this length: what the limit leaves of it
+abbrev pub room_for : {S : Type 0} → Opened S → ℕ → ℕ
+room_for o size = min size (o.limit - o.given)
+
+-- one read under this Gate with this room: bytes that are held come first, and behind them the source is asked once
+pub record AsksOnce {S : Type 0} (polled : Polled S) (gate : Gate) (room : ℕ) (answer : Poll (Result ℕ SourceError))
+    (o p : Opened S) : Type 0 where
+  pub held : (0 < room → o.given < length o.front)
+      → (p.tap ≡ o.tap) × (answer ≡ Ready (Ok (min room (length o.front - o.given))))
+  pub asks : length o.front ≤ o.given → 0 < room → AsksTap polled gate room answer o.tap p.tap
 
 -- what no read changes
 pub record Follows {S : Type 0} (meaning : S → Meaning) (trip : Option ℕ) (o p : Opened S) : Type 0 where

@@ -1,9 +1,9 @@
 -- A source behind a body, and what several reads of it come to.
 use Rattle.std.specs.Option.{ForSome}
-use Rattle.std.specs.Prelude.{◌≡◌, ⊤, ℕ, ◌+◌, ◌≤◌, List, length, take, drop, Option, Some, None, option_map, Result, Ok, Err}
+use Rattle.std.specs.Prelude.{◌≡◌, ⊤, ℕ, ◌+◌, ◌<◌, ◌≤◌, ◌⊎◌, Bool, true, false, List, length, take, drop, Option, Some, None, option_map, Result, Ok, Err}
 use Rattle.rkt_base.specs.declared.poll.Poll.{Poll}
 use Rattle.rkt_base.specs.declared.poll.Poll.TheVariants.{Ready, Pending}
-use Rattle.rkt_source.specs.Source.{Meaning, Keeps, Waits, Errs, LeftOrRead}
+use Rattle.rkt_source.specs.Source.{Meaning, Polled, ReadOnce, Keeps, Waits, Errs}
 use Rattle.rkt_source.specs.declared.source.Gate.{Gate}
 use Rattle.rkt_source.specs.declared.source.SourceError.{SourceError}
 use Rattle.rkt_data.specs.declared.tap.Stop.{Stop}
@@ -19,40 +19,54 @@ abbrev pub tapped : {S : Type 0} → Option (Tap S) → Option (Tapped S)
 tapped None = None
 tapped (Some t) = Some record { now = t.source; begun = t.begun.value }
 
--- how several reads have ended: each was answered, or the last was refused or Pending
+-- how several reads have ended: the last was refused or Pending, or none was, and whether the last may have met the end
 abbrev pub Ending : Type 0
-Ending = Poll (Result (Unit {0}) SourceError)
+Ending = Poll (Result Bool SourceError)
+
+-- each gave bytes
+abbrev pub gave : Ending
+gave = Ready (Ok false)
+
+-- each gave bytes, but maybe a last one that met the end
+abbrev pub ended : Ending
+ended = Ready (Ok true)
 
 -- what an answer tells of that
 abbrev pub ending_of : {X : Type 0} → Poll (Result X SourceError) → Ending
 ending_of Pending = Pending
-ending_of (Ready (Ok x)) = Ready (Ok tt)
+ending_of (Ready (Ok x)) = ended
 ending_of (Ready (Err e)) = Ready (Err e)
 
--- any number of reads under this Gate, each of which was answered, lead from the first to the second
-pub data Polls {S : Type 0} (polled : S → Gate → Poll (Result ℕ SourceError) → S → Type 0) (gate : Gate) : S → S → Type 0 where
+-- any number of reads under this Gate, each of which gave bytes, lead from the first to the second
+pub data Polls {S : Type 0} (polled : Polled S) (gate : Gate) : S → S → Type 0 where
   none : {s : S} → Polls polled gate s s
-  more : {s t u : S} {n : ℕ} → Polls polled gate s t → polled t gate (Ready (Ok n)) u → Polls polled gate s u
+  more : {s t u : S} {n : ℕ} → Polls polled gate s t → 0 < n → ReadOnce polled gate (Ready (Ok n)) t u → Polls polled gate s u
 
--- reads under this Gate have ended so: none but the last was refused or Pending
-abbrev pub PollsTo : {S : Type 0} → (S → Gate → Poll (Result ℕ SourceError) → S → Type 0) → Gate → Ending → S → S → Type 0
-PollsTo polled gate Pending s t = (r : _) × Polls polled gate s r × polled r gate Pending t
-PollsTo polled gate (Ready (Ok x)) s t = Polls polled gate s t
-PollsTo polled gate (Ready (Err e)) s t = (r : _) × Polls polled gate s r × polled r gate (Ready (Err e)) t
+-- behind such reads the last one was answered so
+abbrev pub PollsBefore : {S : Type 0} → Polled S → Gate → Poll (Result ℕ SourceError) → S → S → Type 0
+PollsBefore polled gate answer s t = (r : _) × Polls polled gate s r × ReadOnce polled gate answer r t
+
+-- reads under this Gate have ended so: nothing was read behind the end, behind a refusal and behind Pending
+abbrev pub PollsTo : {S : Type 0} → Polled S → Gate → Ending → S → S → Type 0
+PollsTo polled gate Pending s t = PollsBefore polled gate Pending s t
+PollsTo polled gate (Ready (Ok false)) s t = Polls polled gate s t
+PollsTo polled gate (Ready (Ok true)) s t = Polls polled gate s t ⊎ PollsBefore polled gate (Ready (Ok 0)) s t
+PollsTo polled gate (Ready (Err e)) s t = PollsBefore polled gate (Ready (Err e)) s t
 
 -- the source, where there is one, was called under this Gate alone, and its reads have ended so
-abbrev pub ByGate : {S : Type 0} → (S → Gate → Poll (Result ℕ SourceError) → S → Type 0) → Gate → Ending → Option (Tapped S) → Option (Tapped S) → Type 0
+abbrev pub ByGate : {S : Type 0} → Polled S → Gate → Ending → Option (Tapped S) → Option (Tapped S) → Type 0
 ByGate polled gate how None None = ⊤
 ByGate polled gate how None (Some u) = ⊥
 ByGate polled gate how (Some t) None = ⊥
 ByGate polled gate how (Some t) (Some u) = PollsTo polled gate how t.now u.now
 
--- the source, where there is one, was left alone or read once under this Gate; an error and Pending are its own answers
-abbrev pub AsksOnce : {S : Type 0} → (S → Gate → Poll (Result ℕ SourceError) → S → Type 0) → Gate → Poll (Result ℕ SourceError) → Option (Tapped S) → Option (Tapped S) → Type 0
-AsksOnce polled gate answer None None = ⊤
-AsksOnce polled gate answer None (Some u) = ⊥
-AsksOnce polled gate answer (Some t) None = ⊥
-AsksOnce polled gate answer (Some t) (Some u) = LeftOrRead polled gate answer t.now u.now
+-- the source was read once under this Gate with this room, and has answered so; without a source that is the end
+abbrev pub AsksTap : {S : Type 0} → Polled S → Gate → ℕ → Poll (Result ℕ SourceError) → Option (Tapped S) → Option (Tapped S)
+    → Type 0
+AsksTap polled gate room answer None None = answer ≡ Ready (Ok 0)
+AsksTap polled gate room answer None (Some u) = ⊥
+AsksTap polled gate room answer (Some t) None = ⊥
+AsksTap polled gate room answer (Some t) (Some u) = polled t.now gate room answer u.now
 
 -- it is the same source, and keeps what no read changes
 abbrev pub SameTap : {S : Type 0} → (S → Meaning) → Option ℕ → Option (Tapped S) → Option (Tapped S) → Type 0
@@ -94,8 +108,8 @@ Stopped m m' n room (Failed e) = Errs e m m'
 
 -- how the reads of a call have ended that stopped so
 abbrev pub ending_at : Stop → Ending
-ending_at Full = Ready (Ok tt)
-ending_at End = Ready (Ok tt)
+ending_at Full = gave
+ending_at End = ended
 ending_at Waiting = Pending
 ending_at (Failed e) = Ready (Err e)
 

@@ -6,9 +6,9 @@ use Rattle.std.specs.declared.alloc.Global.{Global}
 use Rattle.rkt_base.specs.declared.poll.Poll.{Poll}
 use Rattle.rkt_base.specs.declared.poll.Poll.TheVariants.{Ready, Pending}
 use Rattle.rkt_data.specs.Gathering.{Causes, Gathering, Gathered, Draws, IsUsedUp, Completes, cause_of, cut_from}
-use Rattle.rkt_source.specs.Source.{Meaning}
+use Rattle.rkt_source.specs.Source.{Meaning, Polled}
 use Rattle.rkt_data.specs.Stream.{Opened, Piped, whole_of}
-use Rattle.rkt_data.specs.Tap.{TapErrs, TapWaits}
+use Rattle.rkt_data.specs.Tap.{TapErrs, TapWaits, ended}
 use Rattle.rkt_data.specs.declared.capped.Capped.{Capped}
 use Rattle.rkt_data.specs.declared.error.DataError.{DataError}
 use Rattle.rkt_data.specs.declared.into_string.Found.{Found}
@@ -16,7 +16,6 @@ use Rattle.rkt_data.specs.declared.into_string.Found.TheVariants as found
 use Rattle.rkt_data.specs.declared.into_string.Texted.{Texted}
 use Rattle.rkt_data.specs.declared.into_string.Texted.TheVariants as texted
 use Rattle.rkt_source.specs.declared.source.Gate.{Gate}
-use Rattle.rkt_source.specs.declared.source.SourceError.{SourceError}
 
 abbrev pub found_bytes : Found → List ℕ
 found_bytes (found.Bytes room count) = take count room.items
@@ -48,8 +47,8 @@ TextFails meaning got o p e = Causes
     e
 
 -- what reading for a text came to
-abbrev pub Texts : {S : Type 0} → (S → Meaning) → (S → Gate → Poll (Result ℕ SourceError) → S → Type 0) → Gate → Found → Piped S → Piped S → Texted → Type 0
-Texts meaning polled gate f o p (texted.Text text) = Draws meaning polled gate (Ready (Ok tt)) o p (found_bytes f) (string_bytes text) × IsUsedUp meaning p.opened
+abbrev pub Texts : {S : Type 0} → (S → Meaning) → Polled S → Gate → Found → Piped S → Piped S → Texted → Type 0
+Texts meaning polled gate f o p (texted.Text text) = Draws meaning polled gate ended o p (found_bytes f) (string_bytes text) × IsUsedUp meaning p.opened
 Texts meaning polled gate f o p (texted.Waiting room count) = Draws meaning polled gate Pending o p (found_bytes f) (take count room.items) × (count ≤ vec_len room) × TapWaits meaning o.opened.tap p.opened.tap
 Texts meaning polled gate f o p (texted.Failed e) = (got : List ℕ) × Draws meaning polled gate (Ready (cause_of e)) o p (found_bytes f) got × TextFails meaning got o.opened p.opened e
 

@@ -105,7 +105,7 @@ impl<S: Source> Data<S> {
     // Reads until as many bytes are held as a peek may show, the end came, or a read failed.
     pub(crate) fn fill(&mut self, gate: Gate, num: usize) -> Poll<()>
         ensures peeked { Peeked S.meaning gate.tripped num self.old self.new }
-        ensures by_gate { PeeksByGate S.polled gate result self.old.tap self.new.tap }
+        ensures by_gate { PeeksByGate S.polled gate result self.old self.new }
         ensures stops { PeekStops S.meaning num self.old self.new result }
     {
         let want = num.min(PEEK_BYTES);

@@ -28,8 +28,7 @@ impl<S: Source> Model for DataStream<S> {
 }
 
 impl<S: Source> DataStream<S> {
-    ghost use Rattle.rkt_data.specs.Stream.{Follows, Reads, TakesAtMost};
-    ghost use Rattle.rkt_data.specs.Tap.{AsksOnce};
+    ghost use Rattle.rkt_data.specs.Stream.{AsksOnce, Follows, Reads, TakesAtMost, room_for};
 
     pub(crate) fn new(pipe: Pipe<S>) -> DataStream<S>
         requires { pipe.probed ≡ false }
@@ -55,8 +54,8 @@ impl<S: Source> DataStream<S> {
     /// where the buffer is not empty.
     pub fn poll_read(&mut self, gate: Gate, buf: &mut [u8]) -> Poll<Result<usize, SourceError>>
         ensures follows { Follows S.meaning gate.tripped self.old self.new }
-        // The source is asked once at most, and an error or Pending is what it has answered.
-        ensures by_gate { AsksOnce S.polled gate result self.old.tap self.new.tap }
+        // Behind the bytes that are held the source is asked once, with all the room that the limit leaves.
+        ensures by_gate { AsksOnce S.polled gate (room_for self.old (length buf.old)) result self.old self.new }
         ensures bound { TakesAtMost S.meaning self.new self.new.limit }
         ensures within { self.new.given ≤ self.new.limit }
         ensures empty { length buf.old ≡ 0 → (result ≡ Poll.Ready (Ok 0)) × (self.new ≡ self.old) }

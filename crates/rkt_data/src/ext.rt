@@ -60,8 +60,8 @@ impl<R: Source> ReaderStream<R> {
         gate: Gate,
     ) -> Poll<Option<Result<Vec<u8>, DataError>>>
         ensures cap { self.new.cap ≡ self.old.cap }
-        // The source is asked once, until the end was met, or a fault.
-        ensures by_gate { self.old.ended ≡ false → AsksForChunk R.polled gate self.old.reader result self.new.reader }
+        // The source is asked once, for as many bytes as a chunk has, until the end was met, or a fault.
+        ensures by_gate { self.old.ended ≡ false → AsksForChunk R.polled gate self.old.cap self.old.reader result self.new.reader }
         ensures answer { GivesChunk R.meaning gate.tripped self.old self.new result }
     {
         if self.ended {

@@ -1,5 +1,5 @@
 //! What an opened body reads from: the bytes held, and then the source, up to a limit.
-ghost use Rattle.std.specs.Prelude.{◌≡◌, ◌+◌, ◌-◌, ◌≤◌, Ok, false, length, min, take, vec_len};
+ghost use Rattle.std.specs.Prelude.{◌≡◌, ◌+◌, ◌-◌, ◌<◌, ◌≤◌, Ok, false, length, min, take, true, vec_len};
 
 use crate::tap::Tap;
 use rkt_base::Poll;
@@ -30,8 +30,8 @@ impl<S: Source> Model for Pipe<S> {
 
 impl<S: Source> Pipe<S> {
     ghost use Rattle.rkt_data.specs.Gathering.{IsUsedUp, Closes};
-    ghost use Rattle.rkt_data.specs.Stream.{DrawnBy, Follows, Reads, Probes, TakesAtMost, PullsAtMost};
-    ghost use Rattle.rkt_data.specs.Tap.{tapped, AsksOnce, ByGate, ending_of};
+    ghost use Rattle.rkt_data.specs.Stream.{AsksOnce, DrawnBy, Follows, Reads, Probes, TakesAtMost, PullsAtMost, room_for};
+    ghost use Rattle.rkt_data.specs.Tap.{tapped, ByGate, ending_of};
 
     pub(crate) fn new(bytes: Vec<u8>, held: usize, tap: Option<Tap<S>>, limit: u64) -> Pipe<S>
         requires drawn { DrawnBy S.meaning (take held bytes.items) limit 0 false (tapped tap) }
@@ -75,7 +75,7 @@ impl<S: Source> Pipe<S> {
         requires { self.old.probed ≡ false }
         ensures probed { self.new.probed ≡ false }
         ensures follows { Follows S.meaning gate.tripped self.old.opened self.new.opened }
-        ensures by_gate { AsksOnce S.polled gate result self.old.opened.tap self.new.opened.tap }
+        ensures by_gate { AsksOnce S.polled gate (room_for self.old.opened (length buf.old)) result self.old.opened self.new.opened }
         ensures bound { TakesAtMost S.meaning self.new.opened self.new.opened.limit }
         ensures within { self.new.opened.given ≤ self.new.opened.limit }
         ensures empty { length buf.old ≡ 0 → (result ≡ Poll.Ready (Ok 0)) × (self.new ≡ self.old) }
@@ -115,6 +115,7 @@ impl<S: Source> Pipe<S> {
         ensures follows { Follows S.meaning gate.tripped self.old.opened self.new.opened }
         ensures by_gate { ByGate S.polled gate (ending_of result) self.old.opened.tap self.new.opened.tap }
         ensures bound { PullsAtMost S.meaning self.new.opened }
+        ensures below { self.old.opened.given < self.old.opened.limit → (self.new ≡ self.old) × (result ≡ Poll.Ready (Ok true)) }
         ensures closes { Closes S.meaning self.old self.new result }
     {
         if self.left() > 0 {

@@ -1,7 +1,8 @@
 //! An opened body on its way to a sink.
-ghost use Rattle.std.specs.Prelude.{◌≡◌, ◌+◌, ◌-◌, ◌≤◌, [], false, length};
+ghost use Rattle.std.specs.Prelude.{◌≡◌, ◌+◌, ◌-◌, ◌<◌, ◌≤◌, [], Ok, false, length, true};
 ghost use Rattle.rkt_data.specs.Gathering.{IsUsedUp, Closes};
-ghost use Rattle.rkt_data.specs.Sending.{PumpStops, SentAll, Sends, SendsNext, pumped_answer};
+ghost use Rattle.rkt_base.specs.declared.poll.Poll.TheVariants.{Ready};
+ghost use Rattle.rkt_data.specs.Sending.{PumpStops, SentAll, SenderSends, Sends, pumped_answer};
 ghost use Rattle.rkt_source.specs.Sink.{SinkKeeps};
 ghost use Rattle.rkt_data.specs.Stream.{Follows, TakesAtMost, PullsAtMost};
 ghost use Rattle.rkt_data.specs.Tap.{ByGate, ending_of};
@@ -79,7 +80,9 @@ impl<S: Source, K: Sink> Sender<S, K> {
         ensures from { self.new.from ≡ self.old.from }
         ensures begun { self.new.sink.begun ≡ self.old.sink.begun }
         ensures follows { Follows S.meaning gate.tripped self.old.piped.opened self.new.piped.opened }
-        ensures calls { SendsNext S.meaning S.polled K.written gate (pumped_answer result) self.old.piped.opened self.new.piped.opened self.old.sink.now self.new.sink.now (self.old.from + (self.old.piped.opened.given - (self.old.from + length self.old.pending))) (self.new.from + (self.new.piped.opened.given - (self.new.from + length self.new.pending))) }
+        ensures calls { SenderSends S.meaning S.polled K.written gate (pumped_answer result) self.old self.new }
+        ensures unmet { result ≡ Pumped.Done → self.new.piped.opened.limit ≤ self.new.piped.opened.given
+            → SenderSends S.meaning S.polled K.written gate (Ready (Ok false)) self.old self.new }
         ensures bound { TakesAtMost S.meaning self.new.piped.opened self.new.piped.opened.limit }
         ensures keeps { SinkKeeps (K.meaning self.old.sink.now) (K.meaning self.new.sink.now) }
         ensures stops { PumpStops S.meaning K.meaning self.old.piped.opened self.new.piped.opened self.old.sink.now self.new.sink.now self.new.pending result }
@@ -114,6 +117,8 @@ impl<S: Source, K: Sink> Sender<S, K> {
         ensures given { self.new.piped.opened.given ≡ self.old.piped.opened.given }
         ensures follows { Follows S.meaning gate.tripped self.old.piped.opened self.new.piped.opened }
         ensures by_gate { ByGate S.polled gate (ending_of result) self.old.piped.opened.tap self.new.piped.opened.tap }
+        ensures below { self.old.piped.opened.given < self.old.piped.opened.limit
+            → (self.new.piped ≡ self.old.piped) × (result ≡ Ready (Ok true)) }
         ensures closes { Closes S.meaning self.old.piped self.new.piped result }
     {
         self.pipe.close(gate)

@@ -3,7 +3,7 @@ use Rattle.std.proofs.Common.{zero, suc, ◌≡◌, ◌<◌, ◌≤◌, ◌+◌,
 use Rattle.std.specs.List.{onto_first}
 use Rattle.std.proofs.lemmas.Bool.{cases_lt}
 use Rattle.std.proofs.lemmas.Grind.{common_steps}
-use Rattle.rkt_script.specs.Script.{lines_of, content_of, add_line, AreGood, IsFirstBad}
+use Rattle.rkt_script.specs.Script.{lines_of, AreGood, IsFirstBad, Lead}
 use Rattle.rkt_script.specs.declared.script.ScriptRequest.{ScriptRequest}
 
 -- the first line of a text, and what is left of it in each front of the text
@@ -104,21 +104,17 @@ first_line b (c ∷ bs) = by_test (b == 10) refl (first_line c bs)
     by_test false is next = goes_on b (c ∷ bs) is next
 
 bad_here : (from room number : ℕ) (requests : List ScriptRequest) (line : List ℕ) (lines : List (List ℕ)) → number ≡ from → room < length line → IsFirstBad from room requests (line ∷ lines) number
-bad_here from room number requests line lines is over = inl (is, λ good. absurd (omega (arith, good.0, over)))
+bad_here from room number requests line lines is over = inl (is, λ next good. absurd (omega (arith, good.0, over)))
 
 only_one : (from room number : ℕ) (requests : List ScriptRequest) (line : List ℕ) → IsFirstBad from room requests (line ∷ []) number → number ≡ from
 only_one from room number requests line (inl here) = here.0
-only_one from room number requests line (inr later) = absurd later.1
-
--- the requests behind a line
-abbrev behind_line : List ScriptRequest → List ℕ → List ScriptRequest
-behind_line requests line = add_line requests (content_of line)
+only_one from room number requests line (inr later) = absurd later.2
 
 behind : (from room number : ℕ) (requests : List ScriptRequest) (line : List ℕ) (front lines : List (List ℕ))
-    → (IsFirstBad (from + 1) (room - length line) (behind_line requests line) front number → IsFirstBad (from + 1) (room - length line) (behind_line requests line) lines number)
+    → ((more : List ScriptRequest) → IsFirstBad (from + 1) (room - length line) more front number → IsFirstBad (from + 1) (room - length line) more lines number)
     → IsFirstBad from room requests (line ∷ front) number → IsFirstBad from room requests (line ∷ lines) number
 behind from room number requests line front lines next (inl here) = inl here
-behind from room number requests line front lines next (inr later) = inr (later.0, next later.1)
+behind from room number requests line front lines next (inr later) = inr (later.0, later.1, next later.0 later.2)
 
 bad_more : (text : List ℕ) (split : FirstLine text) (from room number : ℕ) (requests : List ScriptRequest)
     → ((next left : ℕ) (more : List ScriptRequest) → IsFirstBad next left more (lines_of (take (suc left) split.rest)) number → IsFirstBad next left more (lines_of split.rest) number)
@@ -134,7 +130,7 @@ bad_more text split from room number requests rest bad (inr within) =
     let front = subst (λ (ls : List (List ℕ)). IsFirstBad from room requests ls number) cut bad in
     subst (λ (ls : List (List ℕ)). IsFirstBad from room requests ls number) (sym split.first)
     (behind from room number requests split.line (lines_of (take (suc (room - length split.line)) split.rest)) (lines_of split.rest)
-    (rest (from + 1) (room - length split.line) (behind_line requests split.line)) front)
+    (rest (from + 1) (room - length split.line)) front)
 
 -- the first bad line of the front with one byte more than there is room for is that of the whole
 bad_of_front : (fuel : ℕ) (text : List ℕ) (from room number : ℕ) (requests : List ScriptRequest) → length text ≤ fuel
@@ -150,17 +146,17 @@ pub bad_front : (text : List ℕ) (from room number : ℕ) (requests : List Scri
 bad_front text from room number requests bad = bad_of_front (length text) text from room number requests (omega arith) bad
 
 -- good lines fit
-fits : (fuel : ℕ) (text : List ℕ) (room : ℕ) (requests : List ScriptRequest) → length text ≤ fuel → AreGood room requests (lines_of text) → length text ≤ room
-fits fuel [] room requests within good = omega arith
-fits zero (b ∷ bs) room requests within good = absurd (omega (arith, within))
-fits (suc fuel) (b ∷ bs) room requests within good =
+fits : (fuel : ℕ) (text : List ℕ) (room : ℕ) (requests after : List ScriptRequest) → length text ≤ fuel → Lead room requests (lines_of text) after → length text ≤ room
+fits fuel [] room requests after within good = omega arith
+fits zero (b ∷ bs) room requests after within good = absurd (omega (arith, within))
+fits (suc fuel) (b ∷ bs) room requests after within good =
     let split = first_line b bs in
-    let lines = subst (AreGood room requests) split.first good in
-    let rest = fits fuel split.rest (room - length split.line) (behind_line requests split.line) (omega (arith, within, split.size, split.some)) lines.1 in
-    omega (arith, split.size, lines.0.0, rest)
+    let lines = subst (λ (ls : List (List ℕ)). Lead room requests ls after) split.first good in
+    let rest = fits fuel split.rest (room - length split.line) lines.0 after (omega (arith, within, split.size, split.some)) lines.2 in
+    omega (arith, split.size, lines.1.0, rest)
 
 -- a front with one byte more than there is room for is the whole, if its lines are good
 pub good_front : (text : List ℕ) (room : ℕ) (requests : List ScriptRequest) → AreGood room requests (lines_of (take (suc room) text)) → take (suc room) text ≡ text
 good_front text room requests good =
-    let small = fits (length (take (suc room) text)) (take (suc room) text) room requests (omega arith) good in
+    let small = fits (length (take (suc room) text)) (take (suc room) text) room requests good.0 (omega arith) good.1 in
     grind (arith, common_steps, small)

@@ -27,7 +27,7 @@ use Rattle.rkt_board.specs.declared.history.EventOf.TheVariants.{Lift, Trip, Adm
 use Rattle.rkt_life.specs.declared.no_fairing.NoFairing.{NoFairing}
 use Rattle.rkt_orbit.specs.Calls.{CallingAtShutdown}
 use Rattle.rkt_lifecycle.specs.declared.ended.RunOf.{RunOf}
-use Rattle.rkt_sample.specs.Calm.{IsCalm, IsWithinGrace}
+use Rattle.rkt_sample.specs.Calm.{IsWithinGrace}
 use Rattle.rkt_sample.specs.declared.catcher.SampleCatcher.{SampleCatcher}
 use Rattle.rkt_sample.specs.declared.route.SampleRoute.{SampleRoute}
 use Rattle.rkt_message.specs.Reading.{StreamErrs}
@@ -38,8 +38,7 @@ use Rattle.rkt_message.specs.declared.content.Content.{Content}
 use Rattle.rkt_message.specs.declared.content.Content.TheVariants as content
 use Rattle.rkt_message.specs.declared.piece.Piece.{Piece}
 use Rattle.rkt_source.specs.declared.source.SourceError.{SourceError}
-use Rattle.rkt_demo.proofs.LivesOnce.{made_once}
-use Rattle.rkt_demo.proofs.Once.{Spelling}
+use Rattle.rkt_demo.proofs.LivesOnce.{made_at_hand}
 use Rattle.rkt_demo.proofs.Places.{front_at, map_front}
 use Rattle.rkt_demo.proofs.SampleCalls.{IsAtHand}
 use Rattle.rkt_demo.specs.Entries.{ended_section}
@@ -132,7 +131,7 @@ none_left k (Admit n m b ∷ es) entry none found = none_left k es entry none fo
 none_left k (Down calls ∷ es) entry none found = none_left k es entry none found
 none_left k (Close m ∷ es) entry none found = none_left k es entry none found
 
-module _ (laws : Spelling) (word : ℕ) (window : Option (ℕ × ℕ)) (table : Table) (tables : SampleTables) (sample : IsSample table tables) where
+module _ (word : ℕ) (window : Option (ℕ × ℕ)) (table : Table) (tables : SampleTables) (sample : IsSample table tables) where
   -- an exchange over these tables made this response to a request
   record MadeHere (shown : Bool) (request : ScriptRequest) (response : ResponseOf SourceInMemory) : Type 0 where
     pub run : RunOf ℕ
@@ -181,7 +180,7 @@ module _ (laws : Spelling) (word : ℕ) (window : Option (ℕ × ℕ)) (table : 
     response = response;
     made = made_by true request response made;
     long = long_where window is;
-    text = inl (record { pieces = pieces; sent = sent; text = refl });
+    text = rw sent.1 (record { pieces = pieces; sent = sent; text = refl });
   }
 
   -- of one that has no head
@@ -189,24 +188,16 @@ module _ (laws : Spelling) (word : ℕ) (window : Option (ℕ × ℕ)) (table : 
       → has_head response ≡ false → IsSection (served_so (shown && long)) table word window k request (failed_section k)
   headless_so false long is k request response told made none = record { shown = false; response = response; made = made_by false request response made; calm = inl refl; told = rw none refl }
   headless_so true false is k request response told made none = record { shown = true; response = response; made = made_by true request response made; calm = inr (short_where window is); told = rw none refl }
-  headless_so true true is k request response told made none = record { told = told refl; response = response; made = made_by true request response made; long = long_where window is; text = inr refl }
+  headless_so true true is k request response told made none = record { told = told refl; response = response; made = made_by true request response made; long = long_where window is; text = rw none refl }
 
   -- what may make a body fail
   abbrev BodyFails : ℕ → ResponseOf SourceInMemory → ResponseOf SourceInMemory → Type 0
   BodyFails turns first last = ((e : SourceError) × StreamErrs source_meaning e first.body.content last.body.content) ⊎ MayWait source_meaning turns first.body.content
 
-  -- no body fails of a response that was made where nothing is cut off
-  never_failed : (shown : Bool) (request : ScriptRequest) (turns : ℕ) (first last : ResponseOf SourceInMemory) → IsCalm (gates_of window tables shown) → MadeHere shown request first → BodyFails turns first last → ⊥
-  never_failed shown request turns first last calm made fails =
-      let is : IsMade table word window shown request first = made_by shown request first made in
-      never_fails turns first.body.content last.body.content (made_once laws table word word window window shown shown request first first is is calm calm).1 fails
-
-  -- and of one whose body failed
-  failed_so : (shown long : Bool) → is_long window tables.config.grace ≡ long → (k : ℕ) (request : ScriptRequest) (turns : ℕ) (first last : ResponseOf SourceInMemory) → (IsTrue shown → 0 < word) → MadeHere shown request first
-      → BodyFails turns first last → IsSection (served_so (shown && long)) table word window k request (failed_section k)
-  failed_so false long is k request turns first last told made fails = absurd (never_failed false request turns first last (inl refl) made fails)
-  failed_so true false is k request turns first last told made fails = absurd (never_failed true request turns first last (inr (short_where window is)) made fails)
-  failed_so true true is k request turns first last told made fails = record { told = told refl; response = first; made = made_by true request first made; long = long_where window is; text = inr refl }
+  -- no body fails of a response that was made
+  never_failed : (shown : Bool) (request : ScriptRequest) (turns : ℕ) (first last : ResponseOf SourceInMemory) → MadeHere shown request first → BodyFails turns first last → ⊥
+  never_failed shown request turns first last made fails =
+      never_fails turns first.body.content last.body.content (made_at_hand table word window shown request first (made_by shown request first made)) fails
 
   -- whether a Gate of an exchange may have shown a trip, where there was one
   abbrev shown_in : (seen : Option ℕ) (entry : Kept) (ended : Ending) → CausedAs (served_in word window) tables seen entry ended → Bool
@@ -239,7 +230,7 @@ module _ (laws : Spelling) (word : ℕ) (window : Option (ℕ × ℕ)) (table : 
   section_of_cause k request seen entry (Failed BadHead) not caused cut served =
       headless_so caused.shown (is_long window tables.config.grace) refl k request caused.first (λ is. served.told (caused.behind is)) (made_of request seen entry (Failed BadHead) caused served) caused.sent.0
   section_of_cause k request seen entry (Failed BodyFault) not caused cut served =
-      failed_so caused.shown (is_long window tables.config.grace) refl k request _ caused.first caused.response (λ is. served.told (caused.behind is)) (made_of request seen entry (Failed BodyFault) caused served) caused.sent.0
+      absurd (never_failed caused.shown request _ caused.first caused.response (made_of request seen entry (Failed BodyFault) caused served) caused.sent.0)
 
   -- a launch serves a front of what its listener offers
   pub launched_serves : (given : Option (List Asked)) (count : ℕ) (events : List (EventOf ℕ SourceInMemory LinkInMemory)) (requests : List ScriptRequest) → given ≡ Some (take count (map asked_for requests)) → AllAdmitted given events

@@ -7,6 +7,7 @@ pub mod Igniting
 pub mod Lifted
 pub mod LivesOnce
 pub mod Mounting
+pub mod NeverWaits
 pub mod Once
 pub mod Opened
 pub mod Places
@@ -16,5 +17,6 @@ pub mod SampleCalls
 pub mod SectionsOnce
 pub mod Shielding
 pub mod Showing
+pub mod Sourceless
 pub mod Statuses
 pub mod Stops

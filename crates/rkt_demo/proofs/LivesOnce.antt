@@ -42,6 +42,7 @@ use Rattle.rkt_demo.proofs.Once.{Spelling, content_type_once, incomes_alike, tab
 use Rattle.rkt_demo.proofs.Opened.{opened_so}
 use Rattle.rkt_demo.proofs.RoutedOnce.{SameFound, routes_once}
 use Rattle.rkt_demo.proofs.SampleCalls.{BodiesAlike, Body, HasNoSource, IsAtHand, Response, calls_once, like}
+use Rattle.rkt_demo.proofs.Sourceless.{routed_at_hand}
 use Rattle.rkt_demo.proofs.Shielding.{answered_shielded, asked_nothing}
 use Rattle.rkt_demo.specs.Sample.{IsSample, SampleTables}
 use Rattle.rkt_demo.specs.Shown.{IsMade, LeadsTo, asked_for, served_in}
@@ -110,10 +111,44 @@ begun_alike one other log log' floor floor' = record { log = log' ∙ sym log; f
 abbrev pub OneResponse : Response → Response → Type 0
 OneResponse response response' = (response' ≡ response) × HasNoSource response
 
+-- what callbacks mean where `/stop` tells a word, in a window, under Gates that may show a trip or not
+abbrev RelOf : SampleTables → ℕ → Option (ℕ × ℕ) → Bool → Relations ℕ Body ℕ SourceInMemory NoFairing (Unit {0}) (Unit {0}) SampleRoute (Option Body) SampleCatcher Status
+RelOf tables v w s = callbacks_of (served_in v w) tables s
+
+module _ (table : Table) (tables : SampleTables) (sample : IsSample table tables) (v : ℕ) (w : Option (ℕ × ℕ)) (s : Bool) where
+  -- what comes of what was found
+  finishes : (at : RequestAt ℕ Body ℕ) (calls : List Call) (over : Over ℕ SourceInMemory) (lives : Lives (RelOf tables v w s) tables at calls over)
+      → over.response ≡ finished tables.config.ident (is_head lives.opened.request.method) (pending_cookies lives.found.kept over.moment) lives.found.response
+  finishes at calls over lives =
+      let asked : lives.asked ≡ lives.opened = asked_nothing (gates_of w tables s) tables.config.turns tables.fairings lives.opened lives.asked lives.before sample.fairings lives.asks in
+      let left = answered_shielded (gates_of w tables s) tables.config.turns tables.fairings (dressed tables.config.ident over.moment lives.found) lives.left lives.behind sample.fairings lives.answers in
+      let head : is_head lives.asked.request.method ≡ is_head lives.opened.request.method = ap (λ (a : RequestAt ℕ Body ℕ). is_head a.request.method) asked in
+      lives.response ∙ ap (λ (h : Bool). with_body_rule h lives.left.response) head ∙ ap (with_body_rule (is_head lives.opened.request.method)) left
+
+  routed_of : (at : RequestAt ℕ Body ℕ) (calls : List Call) (over : Over ℕ SourceInMemory) (lives : Lives (RelOf tables v w s) tables at calls over)
+      → Routes (callbacks (RelOf tables v w s)) (table_of tables) [] lives.opened lives.between (Finds lives.found)
+  routed_of at calls over lives =
+      let asked : lives.asked ≡ lives.opened = asked_nothing (gates_of w tables s) tables.config.turns tables.fairings lives.opened lives.asked lives.before sample.fairings lives.asks in
+      subst (λ (a : RequestAt ℕ Body ℕ). Routes (callbacks (RelOf tables v w s)) (table_of tables) [] a lives.between (Finds lives.found)) asked lives.finds
+
+  ends_at_hand : (faults : List Bad) (at : RequestAt ℕ Body ℕ) (calls : List Call) (over : Over ℕ SourceInMemory) → Ends (RelOf tables v w s) tables faults at calls over → HasNoSource over.response
+  ends_at_hand [] at calls over lives =
+      let found : HasNoSource lives.found.response = routed_at_hand v (gates_of w tables s) (table_of tables) lives.found [] lives.opened lives.between (routed_of at calls over lives) in
+      subst HasNoSource (sym (finishes at calls over lives))
+      (finished_at_hand tables.config.ident (is_head lives.opened.request.method) (pending_cookies lives.found.kept over.moment) lives.found.response found)
+  ends_at_hand (fault ∷ faults) at calls over refuses =
+      subst HasNoSource (sym refuses.response) (routed_at_hand v (gates_of w tables s) (table_of tables) refuses.found (fault ∷ faults) at calls refuses.finds)
+
+-- no response that an exchange makes has a source
+pub made_at_hand : (table : Table) (word : ℕ) (window : Option (ℕ × ℕ)) (shown : Bool) (request : ScriptRequest) (response : Response) → IsMade table word window shown request response → HasNoSource response
+made_at_hand table word window shown request response made =
+    let life = made.lifecycle in
+    ends_at_hand table made.tables made.sample word window shown life.faults _ made.run.calls (over_as made.run response life.after) life.leads
+
 module _ (laws : Spelling) (word word' : ℕ) (window window' : Option (ℕ × ℕ)) (table : Table) (tables : SampleTables) (sample : IsSample table tables) (shown shown' : Bool)
     (calm : IsCalm (gates_of window tables shown)) (calm' : IsCalm (gates_of window' tables shown')) where
   abbrev Rel : ℕ → Option (ℕ × ℕ) → Bool → Relations ℕ Body ℕ SourceInMemory NoFairing (Unit {0}) (Unit {0}) SampleRoute (Option Body) SampleCatcher Status
-  Rel v w s = callbacks_of (served_in v w) tables s
+  Rel = RelOf tables
 
   -- bodies that were not cut off, under the Gates of the one and of the other
   abbrev Alike : Body → Body → Type 0
@@ -144,21 +179,6 @@ module _ (laws : Spelling) (word word' : ℕ) (window window' : Option (ℕ × �
         kept_is = opens.kept;
       }
 
-  -- what comes of what was found
-  finishes : (v : ℕ) (w : Option (ℕ × ℕ)) (s : Bool) (at : RequestAt ℕ Body ℕ) (calls : List Call) (over : Over ℕ SourceInMemory) (lives : Lives (Rel v w s) tables at calls over)
-      → over.response ≡ finished tables.config.ident (is_head lives.opened.request.method) (pending_cookies lives.found.kept over.moment) lives.found.response
-  finishes v w s at calls over lives =
-      let asked : lives.asked ≡ lives.opened = asked_nothing (gates_of w tables s) tables.config.turns tables.fairings lives.opened lives.asked lives.before sample.fairings lives.asks in
-      let left = answered_shielded (gates_of w tables s) tables.config.turns tables.fairings (dressed tables.config.ident over.moment lives.found) lives.left lives.behind sample.fairings lives.answers in
-      let head : is_head lives.asked.request.method ≡ is_head lives.opened.request.method = ap (λ (a : RequestAt ℕ Body ℕ). is_head a.request.method) asked in
-      lives.response ∙ ap (λ (h : Bool). with_body_rule h lives.left.response) head ∙ ap (with_body_rule (is_head lives.opened.request.method)) left
-
-  routed_of : (v : ℕ) (w : Option (ℕ × ℕ)) (s : Bool) (at : RequestAt ℕ Body ℕ) (calls : List Call) (over : Over ℕ SourceInMemory) (lives : Lives (Rel v w s) tables at calls over)
-      → Routes (callbacks (Rel v w s)) (table_of tables) [] lives.opened lives.between (Finds lives.found)
-  routed_of v w s at calls over lives =
-      let asked : lives.asked ≡ lives.opened = asked_nothing (gates_of w tables s) tables.config.turns tables.fairings lives.opened lives.asked lives.before sample.fairings lives.asks in
-      subst (λ (a : RequestAt ℕ Body ℕ). Routes (callbacks (Rel v w s)) (table_of tables) [] a lives.between (Finds lives.found)) asked lives.finds
-
   -- where two requests have their methods
   lives_once : (calls calls' : List Call) (over over' : Over ℕ SourceInMemory) (first first' : RequestAt ℕ Body ℕ) (lives : Lives (Rel word window shown) tables first calls over)
       (lives' : Lives (Rel word' window' shown') tables first' calls' over') → lives'.opened.request ≡ lives.opened.request → Alike lives.opened.body lives'.opened.body → AddedAlike lives.opened.kept lives'.opened.kept
@@ -166,15 +186,15 @@ module _ (laws : Spelling) (word word' : ℕ) (window window' : Option (ℕ × �
   lives_once calls calls' over over' first first' lives lives' request bodies kepts =
       let finds' : Routes (callbacks (Rel word' window' shown')) (table_of tables) [] (record { request = lives.opened.request; body = lives'.opened.body; kept = lives'.opened.kept }) lives'.between (Finds lives'.found) =
       subst (λ (r : Seen ℕ). Routes (callbacks (Rel word' window' shown')) (table_of tables) [] (record { request = r; body = lives'.opened.body; kept = lives'.opened.kept }) lives'.between (Finds lives'.found)) request
-      (routed_of word' window' shown' first' calls' over' lives') in
+      (routed_of table tables sample word' window' shown' first' calls' over' lives') in
       let same = found_once [] lives.opened.request lives.opened.body lives'.opened.body lives.opened.kept lives'.opened.kept lives.between lives'.between lives.found lives'.found bodies kepts
-      (routed_of word window shown first calls over lives) finds' in
+      (routed_of table tables sample word window shown first calls over lives) finds' in
       let ident : List ℕ = tables.config.ident in
       let head : Bool = is_head lives.opened.request.method in
       let head' : is_head lives'.opened.request.method ≡ head = ap (λ (r : Seen ℕ). is_head r.method) request in
       let cookies : pending_cookies lives'.found.kept over'.moment ≡ pending_cookies lives.found.kept over.moment = pending_alike lives.found.kept lives'.found.kept over.moment over'.moment same.kept in
-      let one = finishes word window shown first calls over lives in
-      let other = finishes word' window' shown' first' calls' over' lives' in (
+      let one = finishes table tables sample word window shown first calls over lives in
+      let other = finishes table tables sample word' window' shown' first' calls' over' lives' in (
         other ∙ ap (λ (h : Bool). finished ident h (pending_cookies lives'.found.kept over'.moment) lives'.found.response) head'
             ∙ ap (λ (cs : List Parts). finished ident head cs lives'.found.response) cookies ∙ ap (finished ident head (pending_cookies lives.found.kept over.moment)) same.response ∙ sym one,
         subst HasNoSource (sym one) (finished_at_hand ident head (pending_cookies lives.found.kept over.moment) lives.found.response same.good),

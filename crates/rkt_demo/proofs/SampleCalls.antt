@@ -89,7 +89,7 @@ answers_alike rule rule' catcher.Default status = (refl, tt)
 answers_alike rule rule' catcher.BadNotFound status = refl
 answers_alike rule rule' catcher.BadFailed status = refl
 
-page_at_hand : (json : Bool) (code : ℕ) → HasNoSource (page_of json code)
+pub page_at_hand : (json : Bool) (code : ℕ) → HasNoSource (page_of json code)
 page_at_hand true code = tt
 page_at_hand false code = tt
 

@@ -20,9 +20,10 @@ use Rattle.rkt_demo.proofs.Places.{front_at}
 use Rattle.rkt_demo.proofs.Stops.{none_at}
 use Rattle.rkt_demo.proofs.SampleCalls.{IsAtHand, Response}
 use Rattle.rkt_demo.specs.Output.{answered_section, body_bytes, failed_section, head_text, sent_section}
-use Rattle.rkt_script.specs.Script.{lines_of, requests_of}
-use Rattle.rkt_demo.specs.Shown.{IsAnswered, IsSection, IsServed, IsShort, NoneStarved, PrintedOnce, ShownFrom, ShownOnce, Told}
-use Rattle.rkt_script.specs.Stopping.{FollowsWord, StandBefore}
+use Rattle.rkt_script.proofs.Offered.{offers_one}
+use Rattle.rkt_script.specs.Script.{Offers}
+use Rattle.rkt_demo.specs.Shown.{IsAnswered, IsSection, IsServed, IsShort, NoneStarved, PrintedAlone, PrintedOnce, Shown, ShownFrom, ShownOnce, Told}
+use Rattle.rkt_script.specs.Stopping.{FollowsWord, NoneStops, StandBefore}
 use Rattle.rkt_script.specs.Words.{Table}
 use Rattle.rkt_script.specs.declared.script.ScriptRequest.{ScriptRequest}
 
@@ -103,9 +104,16 @@ module _ (laws : Spelling) (table : Table) (window window' : Option (ℕ × ℕ)
       by_order true until there = inr (none_next k word is.2 request (ltb-true k before until) none there is.3)
       by_order false until there = inl (unwarned k (ltb-false k before until) (omega (arith, within)))
 
+-- a text that shows a script shows the requests that it offers
+shown_of : (table : Table) (window : Option (ℕ × ℕ)) (told : ℕ → Told) (n : ℕ) (script text : List ℕ) (requests : List ScriptRequest) → Offers script requests → Shown table window told n script text
+    → ShownFrom table window told 0 0 (take n requests) text
+shown_of table window told n script text requests offers shown =
+    subst (λ (rs : List ScriptRequest). ShownFrom table window told 0 0 (take n rs) text) (offers_one script requests shown.0 offers shown.1) shown.2
+
 pub one_text : Spelling → ShownOnce
-one_text laws table window window' told n before script text text' stands unwarned is is' =
-    let all : List ScriptRequest = requests_of (lines_of script) in
+one_text laws table window window' told n before script text text' all offers stands unwarned shown shown' =
+    let is = shown_of table window told n script text all offers shown in
+    let is' = shown_of table window' told n script text' all offers shown' in
     let size : length (take n all) ≡ min n (length all) = length-take n all in
     from_once laws table window window' told n before all stands unwarned 0 0 0 (take n all) text text' (omega (arith, size)) (λ until. refl)
     (λ i r there. let same : 0 + i ≡ i = omega arith in
@@ -132,7 +140,35 @@ module _ (laws : Spelling) (table : Table) (window window' : Option (ℕ × ℕ)
       is'.6 ∙ rw (first, rest) (sym is.6)
 
 pub one_print : Spelling → PrintedOnce
-one_print laws table window window' told told' n script text text' short short' some some' is is' =
-    let all : List ScriptRequest = requests_of (lines_of script) in
+one_print laws table window window' told told' n script text text' short short' some some' shown shown' =
+    let all : List ScriptRequest = shown.0 in
     let size : length (take n all) ≡ min n (length all) = length-take n all in
-    printed_from laws table window window' told told' n short short' some some' 0 0 0 (take n all) text text' (omega (arith, size)) is is'
+    printed_from laws table window window' told told' n short short' some some' 0 0 0 (take n all) text text' (omega (arith, size)) shown.2 (shown_of table window' told' n script text' all shown.1 shown')
+
+-- as long as `/stop` told no word nothing else is told of a request than that it was served, or that there was no memory
+quiet_section : (table : Table) (word : ℕ) (window : Option (ℕ × ℕ)) (told : Told) (k : ℕ) (request : ScriptRequest) (section : List ℕ) → word ≡ 0 → told ≢ Told.NoMemory → IsSection told table word window k request section
+    → IsServed table word window k request section
+quiet_section table word window Told.NoMemory k request section none some is = absurd (some refl)
+quiet_section table word window Told.Served k request section none some is = is
+quiet_section table word window Told.Warned k request section none some is = absurd (omega (arith, is.told, none))
+quiet_section table word window Told.CutShort k request section none some is = absurd (omega (arith, is.told, none))
+
+module _ (laws : Spelling) (table : Table) (window window' : Option (ℕ × ℕ)) (told told' : ℕ → Told) (n : ℕ) (some : NoneStarved n told) (some' : NoneStarved n told') where
+  alone_from : (k word word' : ℕ) (requests : List ScriptRequest) (text text' : List ℕ) → k + length requests ≤ n → word ≡ 0 → word' ≡ 0 → NoneStops requests → ShownFrom table window told word k requests text
+      → ShownFrom table window' told' word' k requests text' → text' ≡ text
+  alone_from k word word' [] text text' within none none' stops is is' = is' ∙ sym is
+  alone_from k word word' (request ∷ requests) text text' within none none' stops is is' =
+      let inside : k < n = omega (arith, within) in
+      let next : is.2 ≡ 0 = is.3.other stops.0 ∙ none in
+      let next' : is'.2 ≡ 0 = is'.3.other stops.0 ∙ none' in
+      let first : is'.0 ≡ is.0 = served_once laws table is.2 is'.2 window window' k request is.0 is'.0
+      (quiet_section table is.2 window (told k) k request is.0 next (some k inside) is.4)
+      (quiet_section table is'.2 window' (told' k) k request is'.0 next' (some' k inside) is'.4) in
+      let rest : is'.1 ≡ is.1 = alone_from (k + 1) is.2 is'.2 requests is.1 is'.1 (omega (arith, within)) next next' stops.1 is.5 is'.5 in
+      is'.6 ∙ rw (first, rest) (sym is.6)
+
+pub alone_print : Spelling → PrintedAlone
+alone_print laws table window window' told told' n script text text' all offers stops some some' shown shown' =
+    let size : length (take n all) ≡ min n (length all) = length-take n all in
+    alone_from laws table window window' told told' n some some' 0 0 0 (take n all) text text' (omega (arith, size)) refl refl stops
+    (shown_of table window told n script text all offers shown) (shown_of table window' told' n script text' all offers shown')

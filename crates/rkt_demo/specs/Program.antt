@@ -6,8 +6,7 @@ use Rattle.rkt_config.specs.Config.{first_bad}
 use Rattle.rkt_source.specs.Source.{Meaning}
 use Rattle.rkt_script.specs.declared.script.TheConstants.{SCRIPT_LIMIT}
 use Rattle.rkt_script.specs.Script.{lines_of, AreGood, IsFirstBad}
-use Rattle.rkt_demo.specs.Shown.{Shown, Told}
-use Rattle.rkt_script.specs.Stopping.{IsCount}
+use Rattle.rkt_demo.specs.Shown.{ShowsScript}
 use Rattle.rkt_script.specs.Streams.{IsReadTo}
 use Rattle.rkt_script.specs.Words.{Commands, Table}
 
@@ -48,7 +47,7 @@ config_refusal = codes "error 18 aborting due to invalid configuration\n"
 abbrev pub IsText : Table → Option (ℕ × ℕ) → List ℕ → List ℕ → Type 0
 IsText table window script text = ((number : ℕ) × IsFirstBadLine script number × (text ≡ refusal number))
     ⊎ (IsGoodScript script × ¬ IsAccepted table × (text ≡ config_refusal))
-    ⊎ (IsGoodScript script × IsAccepted table × ((n : ℕ) × (told : ℕ → Told) × IsCount script n × Shown table window told n script text))
+    ⊎ (IsGoodScript script × IsAccepted table × ShowsScript table window script text)
 
 -- all of the source was read, or so many bytes that a line leaves the grammar
 abbrev pub IsAllRead : Meaning → Meaning → Type 0

@@ -24,8 +24,8 @@ use Rattle.rkt_worker.specs.Serving.{Serving, callbacks_of, gates_of, serving}
 use Rattle.rkt_source.specs.Memory.{SourceInMemory, source_meaning}
 use Rattle.rkt_demo.specs.Output.{cut_section, failed_section, last_line, sent_section, starved_section}
 use Rattle.rkt_demo.specs.Sample.{IsSample, SampleTables}
-use Rattle.rkt_script.specs.Script.{lines_of, requests_of}
-use Rattle.rkt_script.specs.Stopping.{FollowsWord, MayServe, StandBefore}
+use Rattle.rkt_script.specs.Script.{Offers}
+use Rattle.rkt_script.specs.Stopping.{FollowsWord, IsCount, MayServe, NoneStops, StandBefore}
 use Rattle.rkt_script.specs.Words.{Table}
 use Rattle.rkt_script.specs.declared.script.ScriptRequest.{ScriptRequest}
 
@@ -66,14 +66,14 @@ pub record IsServed (table : Table) (word : ℕ) (window : Option (ℕ × ℕ)) 
   pub told : MatchBool (has_head response) (IsAnswered k response section) (section ≡ failed_section k)
 
 -- the section of a request whose exchange may have been shown a trip, since `/stop` has told its word, over a window as long as the
--- grace, so that a read of its body may have been refused: of a response that an exchange made under such Gates, whether it could
--- be sent or not
+-- grace, so that a read of its body may have been refused: of a response that an exchange made under such Gates, which was sent
+-- where a head of it can be formed
 pub record IsWarned (table : Table) (word : ℕ) (window : Option (ℕ × ℕ)) (k : ℕ) (request : ScriptRequest) (section : List ℕ) : Type 0 where
   pub told : 0 < word
   pub response : ResponseOf SourceInMemory
   pub made : IsMade table word window true request response
   pub long : ForSome window (λ w. w.0 + made.tables.config.grace ≤ w.1)
-  pub text : IsAnswered k response section ⊎ (section ≡ failed_section k)
+  pub text : MatchBool (has_head response) (IsAnswered k response section) (section ≡ failed_section k)
 
 -- the section of a request whose link was cut off: `/stop` has told its word, and so long a grace has gone by since
 pub record IsCutShort (table : Table) (word : ℕ) (window : Option (ℕ × ℕ)) (k : ℕ) (section : List ℕ) : Type 0 where
@@ -107,16 +107,24 @@ ShownFrom table window told word k (request ∷ requests) text = (section : List
 
 -- the text tells this of the first n requests of a script, served with the configuration of this table in this window of moments
 abbrev pub Shown : Table → Option (ℕ × ℕ) → (ℕ → Told) → ℕ → List ℕ → List ℕ → Type 0
-Shown table window told n script text = ShownFrom table window told 0 0 (take n (requests_of (lines_of script))) text
+Shown table window told n script text =
+    (requests : List ScriptRequest) × Offers script requests × ShownFrom table window told 0 0 (take n requests) text
 
 -- the text tells of as many of these requests as may be served
 abbrev pub ShowsRequests : Table → Option (ℕ × ℕ) → List ScriptRequest → List ℕ → Type 0
 ShowsRequests table window requests text = (n : ℕ) × (told : ℕ → Told) × MayServe requests n × ShownFrom table window told 0 0 (take n requests) text
 
+-- the text tells of as many requests of a script as may be served
+abbrev pub ShowsScript : Table → Option (ℕ × ℕ) → List ℕ → List ℕ → Type 0
+ShowsScript table window script text =
+    (n : ℕ) × (told : ℕ → Told) × IsCount script n × Shown table window told n script text
+
 -- so many requests of one script are shown as one text at most, whatever the moments, where the same is told of each, and of none
 -- from the first one for `/stop` on that a read of its body may have been refused
 abbrev pub ShownOnce : Type 0
-ShownOnce = (table : Table) (window window' : Option (ℕ × ℕ)) (told : ℕ → Told) (n before : ℕ) (script text text' : List ℕ) → StandBefore (requests_of (lines_of script)) before → ((k : ℕ) → before ≤ k → k < n → told k ≢ Told.Warned)
+ShownOnce = (table : Table) (window window' : Option (ℕ × ℕ)) (told : ℕ → Told) (n before : ℕ) (script text text' : List ℕ)
+    (requests : List ScriptRequest) → Offers script requests → StandBefore requests before
+    → ((k : ℕ) → before ≤ k → k < n → told k ≢ Told.Warned)
     → Shown table window told n script text → Shown table window' told n script text' → text' ≡ text
 
 -- the moments of a window are all within the grace that a table configures
@@ -131,4 +139,12 @@ NoneStarved n told = (k : ℕ) → k < n → told k ≢ Told.NoMemory
 -- memory for all of them.
 abbrev pub PrintedOnce : Type 0
 PrintedOnce = (table : Table) (window window' : Option (ℕ × ℕ)) (told told' : ℕ → Told) (n : ℕ) (script text text' : List ℕ) → IsShort table window → IsShort table window' → NoneStarved n told → NoneStarved n told'
+    → Shown table window told n script text → Shown table window' told' n script text' → text' ≡ text
+
+-- Whatever the clocks, so many requests of one script are shown as one text at most where none of them is for `/stop`, and
+-- there was memory for all of them.
+abbrev pub PrintedAlone : Type 0
+PrintedAlone = (table : Table) (window window' : Option (ℕ × ℕ)) (told told' : ℕ → Told) (n : ℕ) (script text text' : List ℕ)
+    (requests : List ScriptRequest) → Offers script requests → NoneStops (take n requests)
+    → NoneStarved n told → NoneStarved n told'
     → Shown table window told n script text → Shown table window' told' n script text' → text' ≡ text

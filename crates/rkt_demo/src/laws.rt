@@ -1,5 +1,5 @@
-//! A law of what the program writes. Its function does nothing.
-ghost use Rattle.rkt_demo.specs.Shown.{PrintedOnce, ShownOnce};
+//! Laws of what the program writes. Their functions do nothing.
+ghost use Rattle.rkt_demo.specs.Shown.{PrintedAlone, PrintedOnce, ShownOnce};
 
 use rkt_http::{says_what_it_spells, spells_one_host, spells_one_media_type};
 
@@ -17,6 +17,16 @@ pub fn shown_once()
 /// memory for each of them.
 pub fn printed_once()
     ensures { PrintedOnce }
+{
+    says_what_it_spells();
+    spells_one_host();
+    spells_one_media_type();
+}
+
+/// A law of texts: whatever the moments are, so many requests of a script are shown as one text where none of them is for
+/// `/stop`, and there was memory for each of them.
+pub fn printed_alone()
+    ensures { PrintedAlone }
 {
     says_what_it_spells();
     spells_one_host();

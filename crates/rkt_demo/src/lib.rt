@@ -7,8 +7,10 @@ mod program;
 mod sample;
 mod serving;
 
-pub use laws::{printed_once, shown_once};
+pub use laws::{printed_alone, printed_once, shown_once};
 pub use program::{CONFIG_REFUSAL, run};
-pub use rkt_script::{BadLine, SCRIPT_LIMIT, ScriptRequest, USAGE, parse_script, sets_once};
+pub use rkt_script::{
+    BadLine, SCRIPT_LIMIT, ScriptRequest, USAGE, offers_once, parse_script, sets_once,
+};
 pub use sample::{Handler, Quiet, Sample, SampleHistory};
 pub use serving::launch_sample;

@@ -1,12 +1,11 @@
 //! The program: reads the words and the script, serves, and writes.
 ghost use Rattle.std.specs.Prelude.{◌≡◌, ◌⊎◌, ◌≤◌, ◌+◌, List, ℕ, IfOk, false, map, string_bytes};
 ghost use Rattle.rkt_base.specs.Counts.{Rose};
-ghost use Rattle.rkt_source.specs.Sink.{Gains};
 ghost use Rattle.rkt_demo.specs.Program.{OfCommand, IsAccepted, OfScript, IsScript, IsGoodScript, IsFirstBadLine, IsText, IsAllRead, refusal};
-ghost use Rattle.rkt_demo.specs.Shown.{Shown, Told};
-ghost use Rattle.rkt_script.specs.Stopping.{IsCount};
-ghost use Rattle.rkt_script.specs.Streams.{GainsFront, GainsUnlessRefused};
+ghost use Rattle.rkt_demo.specs.Shown.{ShowsScript};
+ghost use Rattle.rkt_script.specs.Streams.{ReadsOn, ReadsUntil, Refuses, RunsOut, Takes, TakesUnlessRefused};
 ghost use Rattle.rkt_script.specs.Words.{Commands, IsCommand, IsStatus, Table};
+ghost use Rattle.rkt_script.specs.declared.stream.TheConstants.{GATE};
 
 use crate::serving::serve_with;
 use rkt_base::{NoMemory, Want};
@@ -25,8 +24,8 @@ pub const CONFIG_REFUSAL: &str = "error 18 aborting due to invalid configuration
 // Says how the program is called.
 fn refuse_words<R: Wait, K: Sink>(rt: &R, sink: &mut K) -> u8
     ensures known { (result ≡ 2) ⊎ (result ≡ 6) }
-    ensures usage { result ≡ 2 → GainsUnlessRefused (K.meaning sink.old) (K.meaning sink.new) USAGE.now }
-    ensures front { GainsFront (K.meaning sink.old) (K.meaning sink.new) USAGE.now }
+    ensures usage { result ≡ 2 → TakesUnlessRefused K.meaning K.written sink.old USAGE.now sink.new }
+    ensures starved { result ≡ 6 → RunsOut K.meaning K.written sink.old USAGE.now sink.new }
 {
     match write_all(rt, sink, USAGE.as_bytes()) {
         Ok(()) => 2,
@@ -45,8 +44,8 @@ fn refusal_text(alloc: Global, number: usize) -> Result<String, NoMemory>
 // Names the first line that is not of the grammar.
 fn refuse_line<R: Wait, K: Sink>(rt: &R, alloc: Global, sink: &mut K, number: usize) -> u8
     ensures known { (result ≡ 3) ⊎ (result ≡ 6) }
-    ensures script { result ≡ 3 → GainsUnlessRefused (K.meaning sink.old) (K.meaning sink.new) (refusal number) }
-    ensures front { GainsFront (K.meaning sink.old) (K.meaning sink.new) (refusal number) }
+    ensures script { result ≡ 3 → TakesUnlessRefused K.meaning K.written sink.old (refusal number) sink.new }
+    ensures starved { result ≡ 6 → (sink.new ≡ sink.old) ⊎ RunsOut K.meaning K.written sink.old (refusal number) sink.new }
 {
     let Ok(text) = refusal_text(alloc, number) else {
         return 6;
@@ -61,8 +60,8 @@ fn refuse_line<R: Wait, K: Sink>(rt: &R, alloc: Global, sink: &mut K, number: us
 // Says that a setting does not take its text.
 fn refuse_config<R: Wait, K: Sink>(rt: &R, sink: &mut K) -> u8
     ensures known { (result ≡ 1) ⊎ (result ≡ 6) }
-    ensures config { result ≡ 1 → GainsUnlessRefused (K.meaning sink.old) (K.meaning sink.new) CONFIG_REFUSAL.now }
-    ensures front { GainsFront (K.meaning sink.old) (K.meaning sink.new) CONFIG_REFUSAL.now }
+    ensures config { result ≡ 1 → TakesUnlessRefused K.meaning K.written sink.old CONFIG_REFUSAL.now sink.new }
+    ensures starved { result ≡ 6 → RunsOut K.meaning K.written sink.old CONFIG_REFUSAL.now sink.new }
 {
     match write_all(rt, sink, CONFIG_REFUSAL.as_bytes()) {
         Ok(()) => 1,
@@ -74,8 +73,9 @@ fn refuse_config<R: Wait, K: Sink>(rt: &R, sink: &mut K) -> u8
 // Writes the text.
 fn write_text<R: Wait, K: Sink>(rt: &R, sink: &mut K, text: &[u8]) -> u8
     ensures known { (result ≡ 0) ⊎ (result ≡ 5) ⊎ (result ≡ 6) }
-    ensures whole { result ≡ 0 → Gains (K.meaning sink.old) (K.meaning sink.new) text.now }
-    ensures front { GainsFront (K.meaning sink.old) (K.meaning sink.new) text.now }
+    ensures whole { result ≡ 0 → Takes K.meaning K.written sink.old text.now sink.new }
+    ensures refused { result ≡ 5 → Refuses K.meaning K.written sink.old text.now sink.new }
+    ensures starved { result ≡ 6 → RunsOut K.meaning K.written sink.old text.now sink.new }
     ensures cause { result ≡ 5 → Rose (K.meaning sink.old).faults (K.meaning sink.new).faults }
 {
     match write_all(rt, sink, text) {
@@ -101,38 +101,44 @@ pub fn run<R: Wait + Threads, S: Source, K: Sink, C: Clock>(
     ensures usage { result ≡ 2 → ¬ IsCommand (map string_bytes words.now) }
     ensures no_command { ¬ IsCommand (map string_bytes words.now) → (result ≡ 2) ⊎ (result ≡ 6) }
     ensures unread { ¬ IsCommand (map string_bytes words.now) → source.new ≡ source.old }
-    ensures usage_text { result ≡ 2 → GainsUnlessRefused (K.meaning sink.old) (K.meaning sink.new) USAGE.now }
+    ensures usage_text { result ≡ 2 → TakesUnlessRefused K.meaning K.written sink.old USAGE.now sink.new }
 
-    // 4: the source refused, and nothing was written.
+    // 4: the source refused the last read, and nothing was written. At no other status was a read refused.
     ensures read { result ≡ 4 → Rose (S.meaning source.old).faults (S.meaning source.new).faults }
+    ensures reads_until { result ≡ 4 → ReadsUntil S.polled GATE source.old source.new }
+    ensures reads_on { ¬ (result ≡ 4) → ReadsOn S.polled GATE source.old source.new }
     ensures read_text { result ≡ 4 → sink.new ≡ sink.old }
 
     // 3: a line is not of the grammar, and the first such is named.
     ensures script { result ≡ 3 → OfScript (S.meaning source.old) (λ script. (number : ℕ)
-        × IsFirstBadLine script number × GainsUnlessRefused (K.meaning sink.old) (K.meaning sink.new) (refusal number)) }
+        × IsFirstBadLine script number × TakesUnlessRefused K.meaning K.written sink.old (refusal number) sink.new) }
     ensures good { (result ≡ 0) ⊎ (result ≡ 1) ⊎ (result ≡ 5) → OfScript (S.meaning source.old) IsGoodScript }
 
     // 1: the script is good, a setting does not take its text, and the error says so.
     ensures config { result ≡ 1 → OfCommand (map string_bytes words.now) (λ table. ¬ IsAccepted table) }
-    ensures config_text { result ≡ 1 → GainsUnlessRefused (K.meaning sink.old) (K.meaning sink.new) CONFIG_REFUSAL.now }
+    ensures config_text { result ≡ 1 → TakesUnlessRefused K.meaning K.written sink.old CONFIG_REFUSAL.now sink.new }
 
-    // 5: the sink refused, and has taken a front of the text.
+    // 5: the sink refused a write of the text, and has taken a front of it.
     ensures write { result ≡ 5 → Rose (K.meaning sink.old).faults (K.meaning sink.new).faults }
     ensures write_text { result ≡ 5 → OfCommand (map string_bytes words.now) (λ table. IsAccepted table × OfScript (S.meaning source.old) (λ script.
-        (n : ℕ) × (told : ℕ → Told) × (text : List ℕ) × IsCount script n × Shown table (C.meaning clock).window told n script text × GainsFront (K.meaning sink.old) (K.meaning sink.new) text)) }
+        (text : List ℕ) × ShowsScript table (C.meaning clock).window script text
+        × Refuses K.meaning K.written sink.old text sink.new)) }
 
-    // 6: there was no memory, and the sink has taken nothing, or a front of what was to be written.
-    ensures memory_usage { result ≡ 6 → ¬ IsCommand (map string_bytes words.now) → GainsFront (K.meaning sink.old) (K.meaning sink.new) USAGE.now }
+    // 6: there was no memory, and nothing was written, or it was the sink that had none for what was left.
+    ensures memory_usage { result ≡ 6 → ¬ IsCommand (map string_bytes words.now) → (sink.new ≡ sink.old)
+        ⊎ RunsOut K.meaning K.written sink.old USAGE.now sink.new }
     ensures memory_text { result ≡ 6 → IsCommand (map string_bytes words.now) → (sink.new ≡ sink.old)
         ⊎ OfCommand (map string_bytes words.now) (λ table. OfScript (S.meaning source.old) (λ script.
-        (text : List ℕ) × IsText table (C.meaning clock).window script text × GainsFront (K.meaning sink.old) (K.meaning sink.new) text)) }
+        (text : List ℕ) × IsText table (C.meaning clock).window script text
+        × RunsOut K.meaning K.written sink.old text sink.new)) }
 
-    // 0: the text shows as many requests of the script as may be served: all of them where none is for `/stop`. Where the same is
-    // told of each, there is one such text for that number, as a law of texts says, unless a read of the body of a request from the
-    // first one for `/stop` on may have been refused. Over moments that are all within the grace there is just one, as another law
-    // says, where there was memory for each request.
+    // 0: no write was refused, and the text shows as many requests of the script as may be served: all of them where none is
+    // for `/stop`. Where the same is told of each, there is one such text for that number, as a law of texts says, unless a read
+    // of the body of a request from the first one for `/stop` on may have been refused. Where none is for `/stop`, or over
+    // moments that are all within the grace, there is just one, as other laws say, where there was memory for each request.
     ensures text { result ≡ 0 → OfCommand (map string_bytes words.now) (λ table. IsAccepted table × OfScript (S.meaning source.old) (λ script.
-        (n : ℕ) × (told : ℕ → Told) × (text : List ℕ) × IsCount script n × Shown table (C.meaning clock).window told n script text × Gains (K.meaning sink.old) (K.meaning sink.new) text)) }
+        (text : List ℕ) × ShowsScript table (C.meaning clock).window script text
+        × Takes K.meaning K.written sink.old text sink.new)) }
 
     // Words and script of the grammar, settings that take their texts, and no fault of a stream: nothing but want of memory is
     // in the way. One command sets one table, as a law says.

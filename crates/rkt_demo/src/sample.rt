@@ -7,7 +7,6 @@ ghost use Rattle.rkt_sample.specs.Mounted.{sample_catchers, sample_routes};
 
 use rkt_base::{NoMemory, Want};
 use rkt_data::MemorySource;
-use rkt_http::says_what_it_spells;
 use rkt_life::{App, Build, Handed, Ignite, IgniteError, NoFairing, Parts, Rocket};
 use rkt_request::{ConfigTable, Types};
 use rkt_sample::{SampleCatcher, SampleRoute, StopReason, catchers, routes};
@@ -112,8 +111,6 @@ fn with_routes<Q: StopReason>(
 ) -> Result<Rocket<Build, Sample<Q>>, NoMemory>
     ensures { IfOk result (λ mounted. mounted ≡ record rocket { routes = rocket.routes ++ sample_routes }) }
 {
-    // So the routes' bases are origins.
-    says_what_it_spells();
     let Ok(routes) = routes(alloc) else {
         // By a call, in which that is proved once for its type.
         drop(rocket);
@@ -138,8 +135,6 @@ fn with_catchers<Q: StopReason>(
 ) -> Result<Rocket<Build, Sample<Q>>, NoMemory>
     ensures { IfOk result (λ registered. registered ≡ record rocket { catchers = rocket.catchers ++ sample_catchers }) }
 {
-    // So the catchers' bases are origins.
-    says_what_it_spells();
     let Ok(catchers) = catchers(alloc) else {
         // By a call, in which that is proved once for its type.
         drop(rocket);

@@ -1,5 +1,5 @@
 //! Serves requests by the sample, in one launch or in two.
-ghost use Rattle.std.specs.Prelude.{◌≡◌, ◌++◌, ℕ, List, IfOk, OnOk, length, map};
+ghost use Rattle.std.specs.Prelude.{◌≡◌, ◌++◌, ℕ, List, IfOk, OnOk, length, map, true};
 ghost use Rattle.std.specs.List.{AllByRecursion};
 ghost use Rattle.rkt_base.specs.Want.{IfRefused};
 ghost use Rattle.rkt_board.specs.Events.{admitted};
@@ -10,17 +10,19 @@ ghost use Rattle.rkt_demo.specs.Program.{IsAccepted};
 ghost use Rattle.rkt_demo.specs.Sample.{IsSample};
 ghost use Rattle.rkt_demo.specs.Shown.{ShowsRequests, asked_for};
 ghost use Rattle.rkt_script.specs.Stopping.{StandBefore};
+ghost use Rattle.rkt_serve.specs.Kept.{IsWant};
 ghost use Rattle.rkt_script.specs.Words.{Table};
 
 use crate::output::{print_histories, print_history};
 use crate::sample::{Handler, Quiet, Sample, SampleHistory};
 use rkt_base::{NoMemory, Want};
-use rkt_http::{says_what_it_spells, spells_one_host, spells_one_media_type};
 use rkt_life::{Ignite, IgniteError, Rocket};
 use rkt_request::ConfigTable;
 use rkt_sample::StopReason;
 use rkt_script::{ScriptRequest, before_stop};
-use rkt_serve::{Clock, Launch, Launched, LaunchedOf, ListListener, MemoryLink};
+use rkt_serve::{
+    Clock, Error, ErrorKindOf, Launch, Launched, LaunchedOf, ListListener, MemoryLink,
+};
 use std::alloc::{AllocError, Global};
 use std::sync::Wait;
 use std::thread::Threads;
@@ -42,6 +44,7 @@ fn links_for(alloc: Global, requests: Vec<ScriptRequest>) -> Result<Vec<MemoryLi
 fn listener_for(alloc: Global, requests: Vec<ScriptRequest>) -> Result<ListListener, NoMemory>
     ensures offers { IfOk result (λ listener. map asked_of listener.offered ≡ map asked_for requests.items) }
     ensures fresh { IfOk result (λ listener. IsFresh (listener_meaning listener)) }
+    ensures sound { IfOk result (λ listener. (listener_meaning listener).never_faults ≡ true) }
 {
     let links = links_for(alloc, requests)?;
     ListListener::new(alloc, links, Vec::new(alloc), Vec::new(alloc))
@@ -80,6 +83,18 @@ fn into_served<Q: StopReason, C: Clock>(
     }
 }
 
+// Lets go of what a launch without memory has kept. The sample fails for nothing else: it has ignited, its listener never
+// fails, and no exchange of it is abandoned.
+fn want_of<Q: StopReason, C: Clock>(error: Error<Sample<Q>, ListListener, C>) -> NoMemory
+    requires { IsWant error }
+{
+    match error.kind() {
+        ErrorKindOf::NoMemory { kept } => drop(kept),
+        ErrorKindOf::Ignition { .. } | ErrorKindOf::Shutdown(_) => unreachable!(),
+    }
+    AllocError
+}
+
 // Offers requests to a launch of a rocket.
 fn serve_launch<Q: StopReason, R: Wait + Threads, C: Clock>(
     rt: &R,
@@ -93,10 +108,6 @@ fn serve_launch<Q: StopReason, R: Wait + Threads, C: Clock>(
     ensures table { IfOk result (λ served. served.table ≡ rocket.table) }
     ensures window { IfOk result (λ served. (C.meaning served.clock).window ≡ (C.meaning clock).window) }
 {
-    // So two readings of one text are one.
-    says_what_it_spells();
-    spells_one_host();
-    spells_one_media_type();
     let Ok(listener) = listener_for(alloc, requests) else {
         // By a call, in which that is proved once for its type.
         drop(rocket);
@@ -104,10 +115,7 @@ fn serve_launch<Q: StopReason, R: Wait + Threads, C: Clock>(
     };
     match rocket.launch(rt, alloc, listener, clock, 0) {
         Ok(launched) => Ok(into_served(launched)),
-        Err(error) => {
-            drop(error.kind());
-            Err(AllocError)
-        }
+        Err(error) => Err(want_of(error)),
     }
 }
 

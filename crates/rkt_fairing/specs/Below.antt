@@ -1,7 +1,6 @@
 -- Routes and catchers below a base: its path stands in front of their own base.
 use Rattle.std.specs.Prelude.{◌++◌, ℕ, List}
-use Rattle.rkt_uri.specs.Origin.{Target, IsTarget, IsOrigin, normalized, target_of}
-use Rattle.rkt_uri.specs.declared.origin_place.Profile.TheVariants.{Request}
+use Rattle.rkt_uri.specs.Origin.{Target, normalized, target_of}
 use Rattle.rkt_route.specs.RouteUri.{mounted_at, path_alone}
 use Rattle.rkt_route.specs.declared.catcher.Catcher.{Catcher}
 use Rattle.rkt_route.specs.declared.route.Route.{Route}
@@ -18,11 +17,3 @@ route_below path route = record route { uri = mounted_at (joined_base path route
 
 abbrev pub catcher_below : {C : Type 0} → List ℕ → Catcher C → Catcher C
 catcher_below path catcher = record catcher { base = normalized (path_alone (joined_base path catcher.base)) }
-
--- the base of an item can stand behind the path of another one
-abbrev pub CanStandBehind : List ℕ → Target → Type 0
-CanStandBehind path own = IsOrigin Request (path ++ own.path)
-
--- what an item's base is where it was read of a text
-abbrev pub IsBase : Target → Type 0
-IsBase base = IsTarget Request base

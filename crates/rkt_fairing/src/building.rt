@@ -1,10 +1,10 @@
-ghost use Rattle.std.specs.Prelude.{◌≡◌, ◌++◌, All, None, OnOk, OnErr, IsSome, map};
+ghost use Rattle.std.specs.Prelude.{◌≡◌, ◌++◌, None, OnOk, OnErr, IsSome, map};
 ghost use Rattle.std.specs.BTreeMap.{insert_entry};
 ghost use Rattle.std.specs.Ordering.{nat_cmp};
 ghost use Rattle.rkt_base.specs.Want.{IfRefused};
 ghost use Rattle.rkt_config.specs.Managed.{value_at};
 ghost use Rattle.rkt_uri.specs.Origin.{IsOrigin, target_of};
-ghost use Rattle.rkt_fairing.specs.Below.{IsBase, catcher_below, route_below};
+ghost use Rattle.rkt_fairing.specs.Below.{catcher_below, route_below};
 ghost use Rattle.rkt_fairing.specs.Building.{building_of};
 ghost use Rattle.rkt_fairing.specs.Fairings.{added};
 
@@ -85,8 +85,8 @@ impl<H: Drop, K: Drop, N: Drop, V: Drop, F: Drop> BuildingOf<H, K, N, V, F> {
     ) -> Result<(), Want<InvalidBase>>
         ensures ok { OnOk result (self.new ≡ record self.old { routes = self.old.routes ++ map (route_below (target_of base.now).path) routes.items }) }
         ensures origin { OnOk result (IsOrigin Profile.Request base.now) }
-        // It is refused exactly where the base is no origin, as long as the routes' own bases are such as were read.
-        ensures refused { IfRefused result (λ _. ¬ (IsOrigin Profile.Request base.now × All (λ route. IsBase route.uri.base) routes.items)) }
+        // It is refused exactly where the base is no origin.
+        ensures refused { IfRefused result (λ _. ¬ IsOrigin Profile.Request base.now) }
         ensures err { OnErr result (self.new ≡ self.old) }
     {
         let mut below = routes_at(alloc, base, routes)?;
@@ -103,8 +103,8 @@ impl<H: Drop, K: Drop, N: Drop, V: Drop, F: Drop> BuildingOf<H, K, N, V, F> {
     ) -> Result<(), Want<InvalidBase>>
         ensures ok { OnOk result (self.new ≡ record self.old { catchers = self.old.catchers ++ map (catcher_below (target_of base.now).path) catchers.items }) }
         ensures origin { OnOk result (IsOrigin Profile.Request base.now) }
-        // It is refused exactly where the base is no origin, as long as the catchers' own bases are such as were read.
-        ensures refused { IfRefused result (λ _. ¬ (IsOrigin Profile.Request base.now × All (λ catcher. IsBase catcher.base) catchers.items)) }
+        // It is refused exactly where the base is no origin.
+        ensures refused { IfRefused result (λ _. ¬ IsOrigin Profile.Request base.now) }
         ensures err { OnErr result (self.new ≡ self.old) }
     {
         let mut below = catchers_at(alloc, base, catchers)?;

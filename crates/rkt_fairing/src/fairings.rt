@@ -67,8 +67,10 @@ impl<F> Fairings<F> {
         self.lists.ignited < self.lists.places.of(Callback::Ignite).len()
     }
 
-    /// Puts one behind the failures that `audit` gives.
+    /// Puts one that was called at ignition behind the failures that `audit` gives.
     pub fn push_failure(&mut self, info: Info) -> Result<(), NoMemory>
+        // So none stands there of fairings that were not called.
+        requires called { 0 < self.old.ignited }
         ensures ok { OnOk result (self.new ≡ with_failure (seen_info info) self.old) }
         ensures err { OnErr result (self.new ≡ self.old) }
     {

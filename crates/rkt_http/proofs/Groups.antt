@@ -1,9 +1,9 @@
 -- A group by its place, and by its name.
-use Rattle.std.proofs.Common.{◌≡◌, ℕ, zero, suc, ◌<◌, ◌≤◌, nat_lt, cond, Bool, true, false, if◌then◌else◌, List, [], ◌∷◌, ◌++◌, length, refl, sym, ◌∙◌, ap, subst, arith, Option, Some, None, is_some, find, Result, Ok, Err, OnOk, slice_set, slice_index_or}
+use Rattle.std.proofs.Common.{◌≡◌, ℕ, zero, suc, ◌<◌, ◌≤◌, nat_lt, cond, Bool, true, false, if◌then◌else◌, List, [], ◌∷◌, ◌++◌, length, refl, sym, ◌∙◌, ap, subst, arith, Option, Some, None, is_some, find, Result, Ok, Err, OnOk, slice_set, slice_index_or, take}
 use Rattle.std.specs.List.{position, position_or_len, remove}
+use Rattle.std.proofs.Math.Seq.{take-append_seam}
 use Rattle.std.proofs.lemmas.Bool.Decides.{nat_tests}
-use Rattle.rkt_http.specs.HeaderPlaces.{changed_at}
-use Rattle.rkt_http.specs.Headers.{Group, is_named, with_group, removed}
+use Rattle.rkt_http.specs.Headers.{Group, is_named, with_group, removed, added_all, appended, changed_at}
 
 cond_some : (t : Bool) (n i : ℕ) → cond t (Some n) None ≡ Some i → (t ≡ true) × (n ≡ i)
 cond_some true n i e = (refl, cc e)
@@ -110,6 +110,37 @@ changed_on_ok {E} r groups at group new change old there within view = by_answer
     by_answer : (a : Result (Unit {0}) E) → OnOk a (new ≡ change group) → OnOk a (slice_set groups at new ≡ changed_at at change old)
     by_answer (Ok x) ok = changed_set groups at group new change there (subst (λ (gs : List Group). at < length gs) (sym view) within) ok ∙ ap (changed_at at change) view
     by_answer (Err e) ok = tt
+
+-- the first of the groups that are appended, and then the others
+pub appended_first : (old mid all others rest : List Group) (other : Group) → others ≡ other ∷ rest → mid ≡ added_all old other.name other.values → all ≡ appended mid rest → all ≡ appended old others
+appended_first old mid all others rest other first grown more = more ∙ ap (λ (gs : List Group). appended gs rest) grown ∙ sym (ap (appended old) first)
+
+-- a group that grew, and is cut off where it ended before
+changed_back : (groups : List Group) (at count : ℕ) (values : List (List ℕ)) (group : Group) → group ≡ slice_index_or groups at group → at < length groups → count ≡ length group.values
+    → changed_at at (λ g. record g { values = take count g.values }) (changed_at at (λ g. record g { values = g.values ++ values }) groups) ≡ groups
+changed_back [] at count values group there within is = absurd (omega (arith, within))
+changed_back (g ∷ gs) zero count values group there within is =
+    let cut : take count (g.values ++ values) ≡ g.values = ap (λ (n : ℕ). take n (g.values ++ values)) (is ∙ ap (λ (h : Group). length h.values) there) ∙ take-append_seam g.values values in
+    ap (λ (vs : List (List ℕ)). record g { values = vs } ∷ gs) cut
+changed_back (g ∷ gs) (suc at) count values group there within is =
+    ap (λ (hs : List Group). g ∷ hs) (changed_back gs at count values group there (omega (arith, within)) is)
+
+length-changed_at : (at : ℕ) (change : Group → Group) (groups : List Group) → length (changed_at at change groups) ≡ length groups
+length-changed_at zero change [] = refl
+length-changed_at (suc at) change [] = refl
+length-changed_at zero change (g ∷ gs) = refl
+length-changed_at (suc at) change (g ∷ gs) = ap (λ (n : ℕ). suc n) (length-changed_at at change gs)
+
+-- a place stays one where a group was changed
+pub still_within : (old mid new : List Group) (at : ℕ) (change : Group → Group) → at < length old → mid ≡ changed_at at change old → new ≡ mid → at < length new
+still_within old mid new at change within changed same =
+    subst (λ (n : ℕ). at < n) (sym (ap (λ (gs : List Group). length gs) (same ∙ changed) ∙ length-changed_at at change old)) within
+
+-- what was put behind the values of a group is taken away again
+pub taken_back : (old mid all new : List Group) (at count : ℕ) (values : List (List ℕ)) (group : Group) → group ≡ slice_index_or old at group → at < length old → count ≡ length group.values
+    → mid ≡ changed_at at (λ g. record g { values = g.values ++ values }) old → all ≡ mid → new ≡ changed_at at (λ g. record g { values = take count g.values }) all → new ≡ old
+taken_back old mid all new at count values group there within is grown same cut =
+    cut ∙ ap (changed_at at (λ g. record g { values = take count g.values })) (same ∙ grown) ∙ changed_back old at count values group there within is
 
 pub removed_there : (groups : List Group) (name : List ℕ) (at : ℕ) → position (is_named name) groups ≡ Some at → remove groups at ≡ removed groups name
 removed_there groups name at is = let place = at_place name groups at is in remove_first groups name at place.0 place.1

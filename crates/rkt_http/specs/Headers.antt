@@ -1,5 +1,5 @@
 -- Header fields, and a header map as the list of its groups.
-use Rattle.std.specs.Prelude.{ℕ, List, [], ◌∷◌, ◌++◌, Bool, Option, Some, None, if◌then◌else◌, find, fold, map, flat_map, slice_get}
+use Rattle.std.specs.Prelude.{ℕ, zero, suc, List, [], ◌∷◌, ◌++◌, Bool, Option, Some, None, if◌then◌else◌, find, fold, map, flat_map, slice_get}
 use Rattle.std.specs.Str.{str_eq_ignore_ascii_case}
 
 -- a header field
@@ -37,6 +37,12 @@ first_value groups name = slice_get (values_of groups name) 0
 abbrev pub with_group : (Group → Group) → Group → List Group → List Group
 with_group change new [] = new ∷ []
 with_group change new (group ∷ groups) = if is_named new.name group then change group ∷ groups else group ∷ with_group change new groups
+
+-- with the group at this place changed
+abbrev pub changed_at : ℕ → (Group → Group) → List Group → List Group
+changed_at n change [] = []
+changed_at zero change (group ∷ groups) = change group ∷ groups
+changed_at (suc n) change (group ∷ groups) = group ∷ changed_at n change groups
 
 -- with these values behind those of their name
 abbrev pub added_all : List Group → List ℕ → List (List ℕ) → List Group

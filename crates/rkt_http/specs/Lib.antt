@@ -1,5 +1,4 @@
 pub mod DefaultPage
-pub mod HeaderPlaces
 pub mod Headers
 pub mod IntoOutcome
 pub mod Method

@@ -1,4 +1,4 @@
-ghost use Rattle.std.specs.Prelude.{◌≡◌, ◌∷◌, ◌++◌, [], IfOk, OnOk, OnErr};
+ghost use Rattle.std.specs.Prelude.{◌≡◌, ◌∷◌, ◌++◌, [], IfOk, OnOk, OnErr, take};
 ghost use Rattle.rkt_http.specs.Headers.{Group, is_named};
 
 use crate::uncased::Uncased;
@@ -76,6 +76,12 @@ impl Entry {
         ensures err { OnErr result (self.new ≡ self.old) }
     {
         self.values.append(&mut values)
+    }
+
+    pub(crate) fn truncate(&mut self, count: usize)
+        ensures { self.new ≡ record self.old { values = take count self.old.values } }
+    {
+        self.values.truncate(count);
     }
 
     pub(crate) fn set(&mut self, values: Vec<Text>)

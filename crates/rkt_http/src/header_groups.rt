@@ -1,242 +1,175 @@
-ghost use Rattle.std.specs.Prelude.{◌≡◌, ◌<◌, ◌∷◌, ◌++◌, [], ◌↔◌, IsTrue, OnOk, OnErr, IfOk, IfSome, None, length, position, find, remove};
-ghost use Rattle.std.specs.Option.{ForSome, option_copied};
-ghost use Rattle.rkt_http.specs.HeaderPlaces.{Tells, changed_at};
-ghost use Rattle.rkt_http.specs.Headers.{Group, is_named};
+//! Groups in the order in which their names came first. They are few, so a name is looked for by a walk.
+ghost use Rattle.std.specs.Prelude.{◌≡◌, ◌<◌, ◌≤◌, ◌+◌, ◌∷◌, ◌++◌, [], IsTrue, OnOk, OnErr, IfSome, length, position, find, take};
+ghost use Rattle.std.specs.Option.{option_copied};
+ghost use Rattle.std.specs.Vec.{vec_len, vec_capacity};
+ghost use Rattle.std.specs.Vec.Iter.{into_iter_items};
+ghost use Rattle.rkt_http.specs.Headers.{is_named, appended, overwritten, replaced_all, changed_at};
 
 use crate::header::Header;
 use crate::header_entry::{Entry, one_value};
-use crate::header_places::Places;
 use crate::uncased::Uncased;
 use rkt_base::{NoMemory, Text};
 use std::alloc::Global;
-use std::marker::Model;
+use std::vec::IntoIter;
 
-// With no more groups than this, a walk is as quick as a look-up.
-const FEW: usize = 16;
-
-/// Groups in the order in which their names came first. Where there are many, their places are looked up; these are
-/// noted at the first look-up, and anew behind a removal.
-#[derive(Debug, Drop)]
-pub(crate) struct Groups {
-    entries: Vec<Entry>,
-    places: Option<Box<Places>>,
-}
-
-impl Model for Groups {
-    ghost use Rattle.std.specs.Prelude.{List};
-    ghost use Rattle.std.specs.Option.{ForSome};
-    ghost use Rattle.rkt_http.specs.Headers.{Group};
-    ghost use Rattle.rkt_http.specs.HeaderPlaces.{Tells};
-
-    ghost Value = { List Group };
-
-    ghost view = { λ g. g.entries.items };
-
-    ghost invariant = { λ g. ForSome g.places (λ places. Tells places.value.by_name g.entries.items) };
-}
-
-impl Groups {
-    pub(crate) fn new(alloc: Global) -> Groups
-        ensures { result ≡ [] }
-    {
-        Groups {
-            entries: Vec::new(alloc),
-            places: None,
-        }
-    }
-
-    /// The same groups, in texts of their own.
-    pub(crate) fn try_clone(&self) -> Result<Groups, NoMemory>
-        ensures { IfOk result (λ groups. groups ≡ self.now) }
-    {
-        Ok(Groups {
-            entries: self.entries.clone()?,
-            places: None,
-        })
-    }
-
-    /// The same groups, which takes no memory.
-    pub(crate) fn into_vec(self) -> Vec<Entry>
-        ensures { result.items ≡ self }
-    {
-        self.entries
-    }
-
-    pub(crate) fn len(&self) -> usize
-        ensures { result ≡ length self.now }
-    {
-        self.entries.len()
-    }
-
-    pub(crate) fn is_empty(&self) -> bool
-        ensures { IsTrue result ↔ (self.now ≡ []) }
-    {
-        self.entries.is_empty()
-    }
-
-    pub(crate) fn as_slice(&self) -> &[Entry]
-        ensures { result.now ≡ self.now }
-    {
-        self.entries.as_slice()
-    }
-
-    /// The place of the group of this name, by a walk.
-    pub(crate) fn place_of(&self, name: &str) -> Option<usize>
-        ensures place { result ≡ position (is_named name.now) self.now }
-        ensures within { IfSome result (λ at. at < length self.now) }
-    {
-        self.as_slice()
-            .iter()
-            .position(|entry| entry.is_named(name))
-    }
-
-    /// The group of this name, by a walk.
-    pub(crate) fn find(&self, name: &str) -> Option<&Entry>
-        ensures { option_copied result ≡ find (is_named name.now) self.now }
-    {
-        self.as_slice().iter().find(|entry| entry.is_named(name))
-    }
-
-    /// The place of the group of this name, by a look-up where there are many.
-    pub(crate) fn locate(&mut self, alloc: Global, name: &str) -> Result<Option<usize>, NoMemory>
-        ensures same { self.new ≡ self.old }
-        ensures place { IfOk result (λ place. place ≡ position (is_named name.now) self.old) }
-        ensures within { IfOk result (λ place. IfSome place (λ at. at < length self.old)) }
-    {
-        if self.entries.len() <= FEW {
-            return Ok(self.place_of(name));
-        }
-        self.look_up(alloc, name)
-    }
-
-    fn look_up(&mut self, alloc: Global, name: &str) -> Result<Option<usize>, NoMemory>
-        ensures same { self.new ≡ self.old }
-        ensures place { IfOk result (λ place. place ≡ position (is_named name.now) self.old) }
-        ensures within { IfOk result (λ place. IfSome place (λ at. at < length self.old)) }
-    {
-        let places = match self.places.take() {
-            Some(places) => places,
-            None => noted(alloc, self.entries.as_slice())?,
-        };
-        let place = places.get(alloc, name);
-        self.places = Some(places);
-        place
-    }
-
-    pub(crate) fn push(&mut self, at: usize, value: Text) -> Result<(), NoMemory>
-        requires { at < length self.old }
-        ensures ok { OnOk result (self.new ≡ changed_at at (λ group. record group { values = group.values ++ value ∷ [] }) self.old) }
-        ensures err { OnErr result (self.new ≡ self.old) }
-    {
-        self.entries[at].push(value)
-    }
-
-    pub(crate) fn append(&mut self, at: usize, values: Vec<Text>) -> Result<(), NoMemory>
-        requires { at < length self.old }
-        ensures ok { OnOk result (self.new ≡ changed_at at (λ group. record group { values = group.values ++ values.items }) self.old) }
-        ensures err { OnErr result (self.new ≡ self.old) }
-    {
-        self.entries[at].append(values)
-    }
-
-    pub(crate) fn set(&mut self, at: usize, values: Vec<Text>)
-        requires { at < length self.old }
-        ensures { self.new ≡ changed_at at (λ group. record group { values = values.items }) self.old }
-    {
-        self.entries[at].set(values)
-    }
-
-    pub(crate) fn set_one(&mut self, alloc: Global, at: usize, value: Text) -> Result<(), NoMemory>
-        requires { at < length self.old }
-        ensures ok { OnOk result (self.new ≡ changed_at at (λ group. record group { values = value ∷ [] }) self.old) }
-        ensures err { OnErr result (self.new ≡ self.old) }
-    {
-        let values = one_value(alloc, value)?;
-        self.set(at, values);
-        Ok(())
-    }
-
-    /// Puts a group behind the others.
-    pub(crate) fn insert(&mut self, alloc: Global, entry: Entry) -> Result<(), NoMemory>
-        ensures ok { OnOk result (self.new ≡ self.old ++ entry ∷ []) }
-        ensures err { OnErr result (self.new ≡ self.old) }
-    {
-        let at = self.entries.len();
-        let places = with_one_more(alloc, self.places.take(), entry.name(), at)?;
-        put(&mut self.entries, entry)?;
-        self.places = places;
-        Ok(())
-    }
-
-    /// Puts a group of one value behind the others.
-    pub(crate) fn insert_one(&mut self, alloc: Global, header: Header) -> Result<(), NoMemory>
-        ensures ok { OnOk result (self.new ≡ self.old ++ record { name = header.name; values = header.value ∷ [] } ∷ []) }
-        ensures err { OnErr result (self.new ≡ self.old) }
-    {
-        let (name, value) = header.into_parts();
-        let values = one_value(alloc, value)?;
-        self.insert(alloc, Entry::new(name, values))
-    }
-
-    /// Puts a group of these values behind the others.
-    pub(crate) fn insert_all(
-        &mut self,
-        alloc: Global,
-        name: &str,
-        values: Vec<Text>,
-    ) -> Result<(), NoMemory>
-        ensures ok { OnOk result (self.new ≡ self.old ++ record { name = name.now; values = values.items } ∷ []) }
-        ensures err { OnErr result (self.new ≡ self.old) }
-    {
-        let name = Uncased::new(alloc, name)?;
-        self.insert(alloc, Entry::new(name, values))
-    }
-
-    /// Takes the group out, and closes up.
-    pub(crate) fn remove(&mut self, at: usize)
-        requires { at < length self.old }
-        ensures { self.new ≡ remove self.old at }
-    {
-        self.places = None;
-        let _ = self.entries.remove(at);
-    }
-}
-
-// The places of these groups, on the heap.
-fn noted(alloc: Global, entries: &[Entry]) -> Result<Box<Places>, NoMemory>
-    ensures { IfOk result (λ places. Tells places.value.by_name entries.now) }
+/// The place of the group of this name.
+pub(crate) fn place_of(groups: &[Entry], name: &str) -> Option<usize>
+    ensures place { result ≡ position (is_named name.now) groups.now }
+    ensures within { IfSome result (λ at. at < length groups.now) }
 {
-    let places = Places::of(alloc, entries)?;
-    Ok(Box::new(alloc, places)?)
+    groups.iter().position(|entry| entry.is_named(name))
 }
 
-// The places, where they are noted, with that of one group more.
-fn with_one_more(
-    alloc: Global,
-    places: Option<Box<Places>>,
-    name: &str,
+/// The group of this name.
+pub(crate) fn find<'a>(groups: &'a [Entry], name: &str) -> Option<&'a Entry>
+    ensures { option_copied result ≡ find (is_named name.now) groups.entry.now }
+{
+    groups.iter().find(|entry| entry.is_named(name))
+}
+
+/// Puts a value behind those of the group.
+pub(crate) fn push_at(groups: &mut Vec<Entry>, at: usize, value: Text) -> Result<(), NoMemory>
+    requires { at < length groups.old.items }
+    ensures ok { OnOk result (groups.new.items ≡
+        changed_at at (λ group. record group { values = group.values ++ value ∷ [] }) groups.old.items) }
+    ensures err { OnErr result (groups.new.items ≡ groups.old.items) }
+{
+    groups[at].push(value)
+}
+
+/// Puts values behind those of the group.
+pub(crate) fn append_at(
+    groups: &mut Vec<Entry>,
     at: usize,
-) -> Result<Option<Box<Places>>, NoMemory>
-    ensures { (groups : _) (new : Group) → ForSome places (λ old. Tells old.value.by_name groups) → new.name ≡ name.now → at ≡ length groups
-        → IfOk result (λ places. ForSome places (λ noted. Tells noted.value.by_name (groups ++ new ∷ []))) }
+    values: Vec<Text>,
+) -> Result<(), NoMemory>
+    requires { at < length groups.old.items }
+    ensures ok { OnOk result (groups.new.items ≡
+        changed_at at (λ group. record group { values = group.values ++ values.items }) groups.old.items) }
+    ensures err { OnErr result (groups.new.items ≡ groups.old.items) }
 {
-    match places {
-        Some(mut places) => {
-            places.add(alloc, name, at)?;
-            Ok(Some(places))
+    groups[at].append(values)
+}
+
+/// Leaves the first values of the group, so many.
+fn truncate_at(groups: &mut Vec<Entry>, at: usize, count: usize)
+    requires { at < length groups.old.items }
+    ensures { groups.new.items ≡ changed_at at (λ group. record group { values = take count group.values }) groups.old.items }
+{
+    groups[at].truncate(count);
+}
+
+/// Leaves these values alone in the group.
+pub(crate) fn set_at(groups: &mut Vec<Entry>, at: usize, values: Vec<Text>)
+    requires { at < length groups.old.items }
+    ensures groups { groups.new.items ≡ changed_at at (λ group. record group { values = values.items }) groups.old.items }
+    ensures len { vec_len groups.new ≡ vec_len groups.old }
+    ensures capacity { vec_capacity groups.new ≡ vec_capacity groups.old }
+{
+    groups[at].set(values);
+}
+
+/// Leaves this value alone in the group.
+pub(crate) fn set_one_at(groups: &mut Vec<Entry>, at: usize, value: Text) -> Result<(), NoMemory>
+    requires { at < length groups.old.items }
+    ensures ok { OnOk result (groups.new.items ≡ changed_at at (λ group. record group { values = value ∷ [] }) groups.old.items) }
+    ensures err { OnErr result (groups.new.items ≡ groups.old.items) }
+{
+    let values = one_value(*groups.allocator(), value)?;
+    set_at(groups, at, values);
+    Ok(())
+}
+
+/// Puts a group behind the others. Most maps have few, so the first one gets the room for one.
+pub(crate) fn insert(groups: &mut Vec<Entry>, group: Entry) -> Result<(), NoMemory>
+    ensures ok { OnOk result (groups.new.items ≡ groups.old.items ++ group ∷ []) }
+    ensures err { OnErr result (groups.new.items ≡ groups.old.items) }
+{
+    if groups.is_empty() {
+        groups.reserve_exact(1)?;
+    }
+    groups.push(group)?;
+    Ok(())
+}
+
+/// Puts a group of one value behind the others.
+pub(crate) fn insert_one(groups: &mut Vec<Entry>, header: Header) -> Result<(), NoMemory>
+    ensures ok { OnOk result (groups.new.items ≡
+        groups.old.items ++ record { name = header.name; values = header.value ∷ [] } ∷ []) }
+    ensures err { OnErr result (groups.new.items ≡ groups.old.items) }
+{
+    let (name, value) = header.into_parts();
+    let values = one_value(*groups.allocator(), value)?;
+    insert(groups, Entry::new(name, values))
+}
+
+/// Puts a group of these values behind the others.
+pub(crate) fn insert_all(
+    groups: &mut Vec<Entry>,
+    name: &str,
+    values: Vec<Text>,
+) -> Result<(), NoMemory>
+    ensures ok { OnOk result (groups.new.items ≡ groups.old.items ++ record { name = name.now; values = values.items } ∷ []) }
+    ensures err { OnErr result (groups.new.items ≡ groups.old.items) }
+{
+    let name = Uncased::new(*groups.allocator(), name)?;
+    insert(groups, Entry::new(name, values))
+}
+
+/// Puts the values of each of these groups behind those of its name, or the group behind the others. Where memory is
+/// short, what was put there is taken away again.
+pub(crate) fn append_all(
+    groups: &mut Vec<Entry>,
+    mut others: IntoIter<Entry>,
+) -> Result<(), NoMemory>
+    ensures ok { OnOk result (groups.new.items ≡ appended groups.old.items (into_iter_items others)) }
+    ensures err { OnErr result (groups.new.items ≡ groups.old.items) }
+{
+    let Some(other) = others.next() else {
+        return Ok(());
+    };
+    match place_of(groups.as_slice(), other.name()) {
+        Some(at) => {
+            let count = groups[at].values().len();
+            append_at(groups, at, other.into_values())?;
+            if let Err(error) = append_all(groups, others) {
+                truncate_at(groups, at, count);
+                return Err(error);
+            }
+            Ok(())
         }
-        None => Ok(None),
+        None => {
+            let count = groups.len();
+            insert(groups, other)?;
+            if let Err(error) = append_all(groups, others) {
+                groups.truncate(count);
+                return Err(error);
+            }
+            Ok(())
+        }
     }
 }
 
-// Puts a group behind the others. Most maps have few, so the first one gets the room for one.
-fn put(entries: &mut Vec<Entry>, entry: Entry) -> Result<(), NoMemory>
-    ensures ok { OnOk result (entries.new.items ≡ entries.old.items ++ entry ∷ []) }
-    ensures err { OnErr result (entries.new.items ≡ entries.old.items) }
+/// Leaves the values of the group alone in that of its name, or puts it behind the others, for which there is room.
+fn overwrite_one(groups: &mut Vec<Entry>, other: Entry)
+    requires { vec_len groups.old < vec_capacity groups.old }
+    ensures groups { groups.new.items ≡ replaced_all groups.old.items other.name other.values }
+    ensures len { vec_len groups.new ≤ vec_len groups.old + 1 }
+    ensures capacity { vec_capacity groups.new ≡ vec_capacity groups.old }
 {
-    if entries.is_empty() {
-        entries.reserve_exact(1)?;
+    match place_of(groups.as_slice(), other.name()) {
+        Some(at) => set_at(groups, at, other.into_values()),
+        None => groups.push_reserved(other),
     }
-    entries.push(entry)?;
-    Ok(())
+}
+
+/// Leaves the values of each of these groups alone in that of its name, or puts the group behind the others, for which
+/// there is room.
+pub(crate) fn overwrite_all(groups: &mut Vec<Entry>, others: Vec<Entry>)
+    requires { vec_len groups.old + length others.items ≤ vec_capacity groups.old }
+    ensures { groups.new.items ≡ overwritten groups.old.items others.items }
+{
+    for other in others {
+        overwrite_one(groups, other);
+    }
 }

@@ -1,9 +1,12 @@
-ghost use Rattle.std.specs.Prelude.{◌≡◌, ◌∷◌, ◌++◌, [], ◌↔◌, List, ℕ, None, IfOk, OnOk, OnErr, IsTrue, length, position, find, is_some, option_copied, slice_get, map, string_bytes};
+ghost use Rattle.std.specs.Prelude.{◌≡◌, ◌-◌, ◌^◌, ◌∷◌, ◌++◌, [], ◌↔◌, List, ℕ, None, IfOk, OnOk, OnErr, IsTrue, length, min, position, find, is_some, option_copied, slice_get, map, string_bytes};
 ghost use Rattle.rkt_http.specs.Headers.{Field, Group, is_named, group_of, values_of, fields_of, added, replaced, added_all, appended, overwritten, replaced_all, removed};
 
 use crate::header::Header;
 use crate::header_entry::Entry;
-use crate::header_groups::Groups;
+use crate::header_groups::{
+    append_all, append_at, find, insert_all, insert_one, overwrite_all, place_of, push_at, set_at,
+    set_one_at,
+};
 use crate::header_iter::{HeaderIter, HeaderValues};
 use rkt_base::{NoMemory, Text};
 use std::alloc::Global;
@@ -19,8 +22,7 @@ fn texts(alloc: Global, values: Vec<String>) -> Result<Vec<Text>, NoMemory>
 /// names came first, and a group is spelled as it came first.
 #[derive(Debug, Drop)]
 pub struct HeaderMap {
-    alloc: Global,
-    groups: Groups,
+    groups: Vec<Entry>,
 }
 
 impl Model for HeaderMap {
@@ -29,7 +31,7 @@ impl Model for HeaderMap {
 
     ghost Value = { List Group };
 
-    ghost view = { λ m. m.groups };
+    ghost view = { λ m. m.groups.items };
 }
 
 impl HeaderMap {
@@ -37,8 +39,7 @@ impl HeaderMap {
         ensures { result ≡ [] }
     {
         HeaderMap {
-            alloc,
-            groups: Groups::new(alloc),
+            groups: Vec::new(alloc),
         }
     }
 
@@ -47,18 +48,22 @@ impl HeaderMap {
         ensures { IfOk result (λ copy. copy ≡ self.now) }
     {
         Ok(HeaderMap {
-            alloc,
-            groups: self.groups.try_clone()?,
+            groups: self.groups.as_slice().to_vec(alloc)?,
         })
     }
 
-    /// The number of groups.
+    /// The number of values in all groups, or `usize::MAX` where there are more.
     pub fn len(&self) -> usize
-        ensures { result ≡ length self.now }
+        ensures { result ≡ min (length (fields_of self.now)) (2 ^ 64 - 1) }
     {
-        self.groups.len()
+        let mut count: usize = 0;
+        for group in self.groups.as_slice() {
+            count = count.saturating_add(group.values().len());
+        }
+        count
     }
 
+    /// Whether there is no group. One of no values is a group too.
     pub fn is_empty(&self) -> bool
         ensures { IsTrue result ↔ (self.now ≡ []) }
     {
@@ -68,14 +73,14 @@ impl HeaderMap {
     pub fn contains(&self, name: &str) -> bool
         ensures { result ≡ is_some (group_of self.now name.now) }
     {
-        self.groups.find(name).is_some()
+        find(self.groups.as_slice(), name).is_some()
     }
 
     /// The values under a name, in order.
     pub fn get(&self, name: &str) -> HeaderValues<'_>
         ensures { result ≡ values_of self.now name.now }
     {
-        match self.groups.find(name) {
+        match find(self.groups.as_slice(), name) {
             Some(entry) => HeaderValues::new(entry.values()),
             None => HeaderValues::new(&[]),
         }
@@ -85,7 +90,7 @@ impl HeaderMap {
     pub fn get_one(&self, name: &str) -> Option<&str>
         ensures { option_copied result ≡ slice_get (values_of self.now name.now) 0 }
     {
-        match self.groups.find(name) {
+        match find(self.groups.as_slice(), name) {
             Some(entry) => match entry.values().first() {
                 Some(value) => Some(value.as_str()),
                 None => None,
@@ -106,9 +111,9 @@ impl HeaderMap {
         ensures ok { OnOk result (self.new ≡ added self.old header) }
         ensures err { OnErr result (self.new ≡ self.old) }
     {
-        match self.groups.locate(self.alloc, header.name().as_str())? {
-            Some(at) => self.groups.push(at, header.into_value()),
-            None => self.groups.insert_one(self.alloc, header),
+        match place_of(self.groups.as_slice(), header.name().as_str()) {
+            Some(at) => push_at(&mut self.groups, at, header.into_value()),
+            None => insert_one(&mut self.groups, header),
         }
     }
 
@@ -117,10 +122,10 @@ impl HeaderMap {
         ensures ok { OnOk result (self.new ≡ added_all self.old name.now (map string_bytes values.items)) }
         ensures err { OnErr result (self.new ≡ self.old) }
     {
-        let values = texts(self.alloc, values)?;
-        match self.groups.locate(self.alloc, name)? {
-            Some(at) => self.groups.append(at, values),
-            None => self.groups.insert_all(self.alloc, name, values),
+        let values = texts(*self.groups.allocator(), values)?;
+        match place_of(self.groups.as_slice(), name) {
+            Some(at) => append_at(&mut self.groups, at, values),
+            None => insert_all(&mut self.groups, name, values),
         }
     }
 
@@ -131,13 +136,13 @@ impl HeaderMap {
         ensures there { IfOk result (λ there. there ≡ is_some (group_of self.old header.name)) }
         ensures err { OnErr result (self.new ≡ self.old) }
     {
-        match self.groups.locate(self.alloc, header.name().as_str())? {
+        match place_of(self.groups.as_slice(), header.name().as_str()) {
             Some(at) => {
-                self.groups.set_one(self.alloc, at, header.into_value())?;
+                set_one_at(&mut self.groups, at, header.into_value())?;
                 Ok(true)
             }
             None => {
-                self.groups.insert_one(self.alloc, header)?;
+                insert_one(&mut self.groups, header)?;
                 Ok(false)
             }
         }
@@ -148,13 +153,13 @@ impl HeaderMap {
         ensures ok { OnOk result (self.new ≡ replaced_all self.old name.now (map string_bytes values.items)) }
         ensures err { OnErr result (self.new ≡ self.old) }
     {
-        let values = texts(self.alloc, values)?;
-        match self.groups.locate(self.alloc, name)? {
+        let values = texts(*self.groups.allocator(), values)?;
+        match place_of(self.groups.as_slice(), name) {
             Some(at) => {
-                self.groups.set(at, values);
+                set_at(&mut self.groups, at, values);
                 Ok(())
             }
-            None => self.groups.insert_all(self.alloc, name, values),
+            None => insert_all(&mut self.groups, name, values),
         }
     }
 
@@ -163,9 +168,7 @@ impl HeaderMap {
         ensures ok { OnOk result (self.new ≡ appended self.old other) }
         ensures err { OnErr result (self.new ≡ self.old) }
     {
-        let map = self.try_clone(self.alloc)?;
-        *self = append_all(map, other.groups.into_vec())?;
-        Ok(())
+        append_all(&mut self.groups, other.groups.into_iter())
     }
 
     /// Leaves the values of each group of another map alone in the group of that name, which keeps its place and its
@@ -176,59 +179,20 @@ impl HeaderMap {
         ensures stays { OnOk result ((name : List ℕ) → group_of other name ≡ None → group_of self.new name ≡ group_of self.old name) }
         ensures err { OnErr result (self.new ≡ self.old) }
     {
-        let map = self.try_clone(self.alloc)?;
-        *self = overwrite_all(map, other.groups.into_vec())?;
+        self.groups.reserve(other.groups.len())?;
+        overwrite_all(&mut self.groups, other.groups);
         Ok(())
-    }
-
-    fn append_group(&mut self, group: Entry) -> Result<(), NoMemory>
-        ensures { OnOk result (self.new ≡ added_all self.old group.name group.values) }
-    {
-        match self.groups.locate(self.alloc, group.name())? {
-            Some(at) => self.groups.append(at, group.into_values()),
-            None => self.groups.insert(self.alloc, group),
-        }
-    }
-
-    fn overwrite_group(&mut self, group: Entry) -> Result<(), NoMemory>
-        ensures { OnOk result (self.new ≡ replaced_all self.old group.name group.values) }
-    {
-        match self.groups.locate(self.alloc, group.name())? {
-            Some(at) => {
-                self.groups.set(at, group.into_values());
-                Ok(())
-            }
-            None => self.groups.insert(self.alloc, group),
-        }
     }
 
     /// Takes the group out, and closes up.
     pub fn remove(&mut self, name: &str)
         ensures { self.new ≡ removed self.old name.now }
     {
-        match self.groups.place_of(name) {
-            Some(at) => self.groups.remove(at),
+        match place_of(self.groups.as_slice(), name) {
+            Some(at) => {
+                let _ = self.groups.remove(at);
+            }
             None => {}
         }
     }
-}
-
-// The map with these groups, one after another.
-fn append_all(mut map: HeaderMap, groups: Vec<Entry>) -> Result<HeaderMap, NoMemory>
-    ensures { IfOk result (λ all. all ≡ appended map groups.items) }
-{
-    for group in groups {
-        map.append_group(group)?;
-    }
-    Ok(map)
-}
-
-// The map with the values of these groups in place of its own.
-fn overwrite_all(mut map: HeaderMap, groups: Vec<Entry>) -> Result<HeaderMap, NoMemory>
-    ensures { IfOk result (λ all. all ≡ overwritten map groups.items) }
-{
-    for group in groups {
-        map.overwrite_group(group)?;
-    }
-    Ok(map)
 }

@@ -9,7 +9,6 @@ mod header_entry;
 mod header_groups;
 mod header_iter;
 mod header_map;
-mod header_places;
 mod key;
 mod method;
 pub mod outcome;

@@ -1,4 +1,5 @@
 pub mod Adding
+pub mod Closed
 pub mod Layers
 pub mod Meeting
 pub mod OfRoutes

@@ -1,6 +1,6 @@
 -- Which sentries of a rocket are reached, which of these are asked, and what comes of it.
-use Rattle.std.specs.Prelude.{◌≡◌, ◌==◌, ◌&&◌, ◌+◌, ◌∷◌, ◌++◌, ℕ, zero, suc, [], List, Bool, true, false, Option, Some, None, IfSome, filter, length, map, not, slice_get, if◌then◌else◌}
-use Rattle.std.specs.List.{list_any}
+use Rattle.std.specs.Prelude.{◌≡◌, ◌==◌, ◌&&◌, ◌+◌, ◌∷◌, ◌++◌, ℕ, zero, suc, [], List, Bool, true, false, Option, Some, None, IfSome, IsSomeAnd, filter, length, map, not, slice_get, if◌then◌else◌}
+use Rattle.std.specs.List.{Contains, list_any}
 use Rattle.std.specs.Option.{option_map_or}
 use Rattle.rkt_http.specs.declared.key.Key.{Key}
 use Rattle.rkt_route.specs.declared.route.Sentry.{Sentry}
@@ -68,6 +68,12 @@ reached nodes = layers nodes (length nodes) [] (children nodes None)
 -- of the specialised ones that are reached the first of each key is asked
 abbrev pub asked : List Node → List ℕ
 asked nodes = firsts nodes true [] (reached nodes)
+
+-- where one of these is not specialised, those whose parent is its key are among these too
+abbrev pub IsClosed : List Node → List ℕ → Type 0
+IsClosed nodes positions = (at child : ℕ) → Contains positions at
+    → IsSomeAnd (slice_get nodes at) (λ node. node.specialized ≡ false)
+    → Contains (opened nodes at) child → Contains positions child
 
 -- those that are asked answer, each under its key
 abbrev pub Answer : {S V : Type 0} → (S → SeenIgnited V → Bool → Type 0) → List (Sentry S) → SeenIgnited V → List ℕ → List (Key × Bool) → Type 0

@@ -19,5 +19,5 @@ pub use answer::{IgniteAnswer, IgniteCall};
 pub use asking::query;
 pub use error::{Aborted, IgniteError};
 pub use igniting::{IgnitedParts, ignite};
-pub use laws::{at_most_one_catches, ranks_differ};
+pub use laws::{at_most_one_catches, ranks_differ, reached_is_closed};
 pub use parts::IgnitedPartsOf;

@@ -1,5 +1,5 @@
 //! The rounds of an ignition: all that wait are called, and those attached meanwhile are added, until none waits.
-ghost use Rattle.std.specs.Prelude.{◌≡◌, IfOk, OnOk};
+ghost use Rattle.std.specs.Prelude.{◌≡◌, ◌<◌, IfOk, OnOk};
 ghost use Rattle.rkt_ignition.specs.Ignites.{CallsNext, Waits, answered};
 ghost use Rattle.rkt_ignition.specs.Rounds.{IsNext, RoundsEnd, Settles};
 
@@ -36,6 +36,7 @@ fn settle<A: Parts, F: Attach + Drop>(
 
 // Puts the fairing of a call that was not Done behind the failures.
 fn note<F>(attached: &mut Fairings<F>, call: &IgniteCall) -> Result<(), NoMemory>
+    requires called { 0 < attached.old.ignited }
     ensures { OnOk result (attached.new ≡ answered call.now.answer call.now.info attached.old) }
 {
     match call.answer {
@@ -52,7 +53,10 @@ fn call_next<A: Parts, F: Attach + Drop, P: IgniteCallback<A, F>>(
 ) -> Result<IgniteCall, NoMemory>
     requires { Waits attached.old }
     // Where it was not Done, it is still to be put behind the failures.
-    ensures { IfOk result (λ call. CallsNext P.calling F.info (record { attached = attached.old; building = building.old }) call (record { attached = answered call.answer call.info attached.new; building = building.new })) }
+    ensures calls { IfOk result (λ call. CallsNext P.calling F.info
+        (record { attached = attached.old; building = building.old }) call
+        (record { attached = answered call.answer call.info attached.new; building = building.new })) }
+    ensures called { IfOk result (λ _. 0 < attached.new.ignited) }
 {
     match attached.next_ignite() {
         Some(slot) => {

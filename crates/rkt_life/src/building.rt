@@ -1,10 +1,10 @@
 //! A rocket that is being built.
-ghost use Rattle.std.specs.Prelude.{◌≡◌, ◌++◌, [], All, None, IfOk, IfErr, OnOk, IsSome, map};
+ghost use Rattle.std.specs.Prelude.{◌≡◌, ◌++◌, [], None, IfOk, IfErr, OnOk, IsSome, map};
 ghost use Rattle.std.specs.BTreeMap.{insert_entry};
 ghost use Rattle.std.specs.Option.{option_copied};
 ghost use Rattle.std.specs.Ordering.{nat_cmp};
 ghost use Rattle.rkt_config.specs.Managed.{value_at};
-ghost use Rattle.rkt_fairing.specs.Below.{IsBase, catcher_below, route_below};
+ghost use Rattle.rkt_fairing.specs.Below.{catcher_below, route_below};
 ghost use Rattle.rkt_fairing.specs.Fairings.{added};
 ghost use Rattle.rkt_life.specs.Built.{built};
 ghost use Rattle.rkt_life.specs.Handed.{IfHanded};
@@ -65,8 +65,8 @@ impl<A: App> RocketOf<AppBuilding<A>, A> {
     ) -> Result<Rocket<Build, A>, Handed<Rocket<Build, A>, Want<InvalidBase>>>
         ensures ok { IfOk result (λ rocket. rocket ≡ record self { routes = self.routes ++ map (route_below (target_of base.now).path) routes.items }) }
         ensures origin { OnOk result (IsOrigin Profile.Request base.now) }
-        // It is refused exactly where the base is no origin, as long as the routes' own bases are such as were read.
-        ensures refused { IfHanded result (λ _. ¬ (IsOrigin Profile.Request base.now × All (λ route. IsBase route.uri.base) routes.items)) }
+        // It is refused exactly where the base is no origin.
+        ensures refused { IfHanded result (λ _. ¬ IsOrigin Profile.Request base.now) }
         ensures handed { IfErr result (λ h. h.rocket ≡ self) }
     {
         match self.state.mount(alloc, base, routes) {
@@ -88,8 +88,8 @@ impl<A: App> RocketOf<AppBuilding<A>, A> {
     ) -> Result<Rocket<Build, A>, Handed<Rocket<Build, A>, Want<InvalidBase>>>
         ensures ok { IfOk result (λ rocket. rocket ≡ record self { catchers = self.catchers ++ map (catcher_below (target_of base.now).path) catchers.items }) }
         ensures origin { OnOk result (IsOrigin Profile.Request base.now) }
-        // It is refused exactly where the base is no origin, as long as the catchers' own bases are such as were read.
-        ensures refused { IfHanded result (λ _. ¬ (IsOrigin Profile.Request base.now × All (λ catcher. IsBase catcher.base) catchers.items)) }
+        // It is refused exactly where the base is no origin.
+        ensures refused { IfHanded result (λ _. ¬ IsOrigin Profile.Request base.now) }
         ensures handed { IfErr result (λ h. h.rocket ≡ self) }
     {
         match self.state.register(alloc, base, catchers) {

@@ -2,14 +2,16 @@
 ghost use Rattle.std.specs.Prelude.{◌≡◌, IfOk};
 ghost use Rattle.rkt_base.specs.Want.{IfRefused};
 ghost use Rattle.rkt_ignition.specs.Ignited.{IsIgnited, IsRefused};
+ghost use Rattle.rkt_ignition.specs.Laws.{AtMostOneCatches, RanksDiffer};
 ghost use Rattle.rkt_ignition.specs.Valid.{IsValid};
 ghost use Rattle.rkt_life.specs.Ignition.{IgnitesTo};
+ghost use Rattle.rkt_request.specs.Seen.{Seen};
 ghost use Rattle.rkt_turn.specs.Shutdown.{fresh};
 
 use crate::{Ignite, Rocket, RocketOf};
 use rkt_base::Want;
 use rkt_fairing::{App, AppBuilding, Fairing};
-use rkt_ignition::{IgniteError, ignite};
+use rkt_ignition::{IgniteError, at_most_one_catches, ignite, ranks_differ};
 use rkt_lifecycle::TablesOf;
 use rkt_sentinel::Aborts;
 use std::alloc::Global;
@@ -25,10 +27,18 @@ impl<A: App<Sentinel: Aborts<A>>> RocketOf<AppBuilding<A>, A> {
         // Where none of its ignitions can be refused, it ignites, as long as there is memory.
         ensures complete { IsValid A.Fairing.Ignites.calling A.Fairing.key A.Fairing.info A.Sentinel.may self → IfRefused result (λ _. ⊥) }
         ensures fresh { IfOk result (λ rocket. rocket.handle ≡ fresh rocket.handle.wire) }
+        // Two different routes that match one request differ in rank.
+        ensures ranks_differ { IfOk result (λ rocket. (request : Seen A.Value)
+            → RanksDiffer rocket.tables.router.routes request) }
+        // At most one catcher is for a code, or for every one, below a base.
+        ensures one_catches { IfOk result (λ rocket. AtMostOneCatches rocket.tables.router.catchers) }
     {
         let parts = ignite::<A, A::Fairing, <A::Fairing as Fairing<A>>::Ignites>(
             alloc, self.state,
         )?;
+        // No two of its routes and no two of its catchers collide, and this is what follows.
+        ranks_differ::<A::Handler, A::Catch, A::Sentinel, A>(&parts.router);
+        at_most_one_catches(&parts.router);
         let tables = TablesOf {
             router: parts.router,
             fairings: parts.fairings,

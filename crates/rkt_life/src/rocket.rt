@@ -100,7 +100,7 @@ impl<P, A: App> RocketOf<
 
 impl<A: App> RocketOf<Igniting<A>, A> {
     /// A rocket with these tables, whose configuration was read of a table, and a wire of its own.
-    pub fn from_tables(
+    pub(crate) fn from_tables(
         alloc: Global,
         tables: Tables<A>,
         table: ConfigTable,

@@ -4,11 +4,11 @@ use Rattle.std.proofs.Common.{arith, append_assoc, ap, refl, sym, inl, inr, ⊎_
 use Rattle.std.proofs.lemmas.Bool.{false≢true}
 use Rattle.rkt_data.specs.Body.{Body, Peeked, WasRefused}
 use Rattle.rkt_data.specs.Tap.{SameTap, Tapped}
-use Rattle.rkt_data.proofs.Taps.{SameTap-trans}
+use Rattle.rkt_data.proofs.Taps.{Peeked-complete, SameTap-trans}
 use Rattle.rkt_router.specs.Calls.{GateFits, GateRule}
-use Rattle.rkt_source.specs.Source.{Keeps, Meaning}
+use Rattle.rkt_source.specs.Source.{Keeps, Meaning, Polled}
 use Rattle.rkt_source.specs.declared.source.Gate.{Gate}
-use Rattle.rkt_lifecycle.specs.Peeks.{PeekEnds, PeekOf, Reads}
+use Rattle.rkt_lifecycle.specs.Peeks.{PeekEnds, PeekOf}
 
 -- what is kept under a Gate is kept under one that has a trip where the first has one
 keeps_under : (one other : Option ℕ) (m n : Meaning) → (IsSome one → IsSome other) → Keeps one m n → Keeps other m n
@@ -48,7 +48,7 @@ refused_after meaning trip (Some a) (Some b) (Some c) same refused =
 
 module _ {S : Type 0} (meaning : S → Meaning) (rule : GateRule) (gate : Gate) (fits : GateFits rule gate) where
   -- a peek that ends in its first poll
-  pub peek_once : (polled : Reads S) (b c : Body S) (shown : List ℕ) → PeekEnds meaning polled 14 gate b c → shown ≡ take 14 c.held → PeekOf meaning rule 14 b shown c
+  pub peek_once : (polled : Polled S) (b c : Body S) (shown : List ℕ) → PeekEnds meaning polled 14 gate b c → shown ≡ take 14 c.held → PeekOf meaning rule 14 b shown c
   peek_once polled b c shown ends is = record {
     body = ends.peeked.body;
     held = ends.peeked.held;
@@ -58,7 +58,7 @@ module _ {S : Type 0} (meaning : S → Meaning) (rule : GateRule) (gate : Gate) 
     stops = ends.stops;
     tap = (gate, fits, ends.peeked.tap);
     taken = ends.peeked.taken;
-    complete = ends.peeked.complete;
+    complete = Peeked-complete ends.peeked;
   }
 
   -- what a peek leaves behind a poll that has not ended it, it leaves of the whole
@@ -72,5 +72,5 @@ module _ {S : Type 0} (meaning : S → Meaning) (rule : GateRule) (gate : Gate) 
     stops = ⊎_elim inl (λ rest. inr (⊎_elim inl (λ refused. inr (refused_after meaning gate.tripped b.tap c.tap d.tap peeked.tap refused)) rest)) more.stops;
     tap = same_through meaning rule b.tap c.tap d.tap gate more.tap.0 gate.tripped refl fits more.tap.1 peeked.tap more.tap.2;
     taken = more.taken;
-    complete = λ h. more.complete (peeked.complete h);
+    complete = λ h. more.complete (Peeked-complete peeked h);
   }

@@ -10,3 +10,4 @@ pub mod Recorded
 pub mod Relations
 pub mod Stands
 pub mod Tables
+pub mod View

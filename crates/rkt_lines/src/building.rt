@@ -1,7 +1,6 @@
 //! Calls of a rocket's builder that take one route, one catcher or one fairing.
-ghost use Rattle.std.specs.Prelude.{◌≡◌, ◌∷◌, ◌++◌, [], Some, None, IfOk, IfErr, IfSome, OnOk, All};
+ghost use Rattle.std.specs.Prelude.{◌≡◌, ◌∷◌, ◌++◌, [], Some, None, IfOk, IfErr, IfSome, OnOk};
 ghost use Rattle.rkt_base.specs.Want.{IfRefused};
-ghost use Rattle.rkt_fairing.specs.Below.{IsBase};
 ghost use Rattle.rkt_fairing.specs.Fairings.{added};
 ghost use Rattle.rkt_grammar.specs.Grammar.{LeavesAt};
 ghost use Rattle.rkt_lines.specs.Building.{IsCatcherFault, IsRead, IsRouted, IsRouteFault};
@@ -11,7 +10,7 @@ ghost use Rattle.rkt_uri.specs.Origin.{IsOrigin};
 use crate::IntoHandler;
 use rkt_base::Want;
 use rkt_fairing::AppBuilding;
-use rkt_http::{InvalidUri, Profile, says_what_it_spells};
+use rkt_http::{InvalidUri, Profile};
 use rkt_life::{App, Build, BuildError, Catcher, Method, NoMemory, Rocket, RocketOf, Route, Slot};
 use rkt_route::{BadCode, Catching};
 use std::alloc::Global;
@@ -56,11 +55,8 @@ fn routes<H: Drop, N: Drop>(
     handler: H,
 ) -> Result<Vec<Route<H, N>>, Want<InvalidUri>>
     ensures read { IfOk result (λ routes. (route : Route H N) × IsRead method uri.now handler route × (routes.items ≡ route ∷ [])) }
-    ensures based { IfOk result (λ routes. All (λ route. IsBase route.uri.base) routes.items) }
     ensures refused { IfRefused result (λ e. LeavesAt (IsOrigin Profile.Route) uri.now e.at) }
 {
-    // So its base is an origin.
-    says_what_it_spells();
     let route = Route::new(alloc, method, uri, handler)?;
     Ok(only(alloc, route)?)
 }

@@ -25,6 +25,14 @@ impl<T> Boxed<T> {
     {
         &self.inner
     }
+
+    /// Puts a value in the place of the one in it, which is handed out. It takes no memory.
+    pub fn replace(&mut self, value: T) -> T
+        ensures old { result ≡ self.old }
+        ensures new { self.new ≡ value }
+    {
+        Box::replace(&mut self.inner, value)
+    }
 }
 
 impl<T: Drop> Boxed<T> {

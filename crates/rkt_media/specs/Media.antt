@@ -1,5 +1,5 @@
 -- Media types (RFC 9110, 8.3.1).
-use Rattle.std.specs.Prelude.{ℕ, ◌+◌, List, [], ◌∷◌, ◌++◌, Bool, ◌&&◌, codes, flat_map, nat_eq, if◌then◌else◌}
+use Rattle.std.specs.Prelude.{ℕ, ◌+◌, List, [], ◌∷◌, ◌++◌, Bool, ◌&&◌, Option, Some, None, codes, flat_map, nat_eq, if◌then◌else◌}
 use Rattle.std.specs.Cmp.Lexicographic.{pointwise}
 use Rattle.std.specs.Str.{str_eq_ignore_ascii_case}
 use Rattle.rkt_media.specs.declared.known.Known.{Known}
@@ -14,6 +14,15 @@ pub record Media : Type 0 where
   pub top : List ℕ
   pub sub : List ℕ
   pub parameters : List Parameter
+
+-- type and subtype, where none are those of any
+abbrev pub names_of : Option (List ℕ × List ℕ) → List ℕ × List ℕ
+names_of None = (codes "*", codes "*")
+names_of (Some names) = names
+
+-- the media type of these names and parameters
+abbrev pub media_of : Option (List ℕ × List ℕ) → List Parameter → Media
+media_of names parameters = record { top = (names_of names).0; sub = (names_of names).1; parameters = parameters }
 
 -- the text of a parameter behind a type
 abbrev pub parameter_text : Parameter → List ℕ

@@ -46,9 +46,8 @@ fn read(alloc: Global, text: &str) -> Result<Accept, NoMemory>
 {
     let entries = read_entries(alloc, text)?;
     if entries.is_empty() {
-        let any = MediaType::bare(alloc, "*", "*")?;
         return Ok(Accept {
-            ranges: Ranges::Any(any),
+            ranges: Ranges::Any(MediaType::any(alloc)),
         });
     }
     Ok(Accept {

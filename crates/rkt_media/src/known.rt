@@ -49,7 +49,7 @@ impl MediaType {
         ensures { IfOk result (λ media. media ≡ known_media known) }
     {
         match known {
-            Known::Any => MediaType::bare(alloc, "*", "*"),
+            Known::Any => Ok(MediaType::any(alloc)),
             Known::Plain | Known::Text => MediaType::utf8_text(alloc, "plain"),
             Known::Binary => MediaType::bare(alloc, "application", "octet-stream"),
             Known::JSON => MediaType::bare(alloc, "application", "json"),

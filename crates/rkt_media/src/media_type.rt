@@ -16,21 +16,21 @@ use thiserror::Error;
 /// A media type with its parameters. A parameter's value is kept as it is spelled.
 #[derive(Debug, Drop)]
 pub struct MediaType {
-    top: Text,
-    sub: Text,
+    /// Type and subtype. Those of `*/*`, which is made without memory, are none.
+    names: Option<(Text, Text)>,
     parameters: Vec<(Text, Text)>,
 }
 
 impl Model for MediaType {
-    ghost use Rattle.rkt_media.specs.Media.{Media};
+    ghost use Rattle.rkt_media.specs.Media.{Media, media_of};
     ghost use Rattle.rkt_media.specs.MediaText.{IsSpelled};
 
     ghost Value = { Media };
 
-    ghost view = { λ m. record { top = m.top; sub = m.sub; parameters = m.parameters.items } };
+    ghost view = { λ m. media_of m.names m.parameters.items };
 
     // Known types too are what a text of the grammar spells.
-    ghost invariant = { λ m. IsSpelled (record { top = m.top; sub = m.sub; parameters = m.parameters.items }) };
+    ghost invariant = { λ m. IsSpelled (media_of m.names m.parameters.items) };
 }
 
 /// Where a text leaves the grammar of media types: the place of the first such byte, or the text's length.
@@ -92,6 +92,16 @@ impl MediaType {
         }
     }
 
+    /// Any media type, `*/*`. It takes no memory.
+    pub fn any(alloc: Global) -> MediaType
+        ensures { result ≡ bare (codes "*") (codes "*") }
+    {
+        MediaType {
+            names: None,
+            parameters: Vec::new(alloc),
+        }
+    }
+
     /// A copy, by an allocator that is handed in.
     pub fn try_clone(&self, alloc: Global) -> Result<MediaType, NoMemory>
         ensures { IfOk result (λ m. m ≡ self.now) }
@@ -104,14 +114,20 @@ impl MediaType {
     pub fn top(&self) -> &str
         ensures { result.now ≡ self.now.top }
     {
-        self.top.as_str()
+        match &self.names {
+            Some((top, _)) => top.as_str(),
+            None => "*",
+        }
     }
 
     /// The subtype.
     pub fn sub(&self) -> &str
         ensures { result.now ≡ self.now.sub }
     {
-        self.sub.as_str()
+        match &self.names {
+            Some((_, sub)) => sub.as_str(),
+            None => "*",
+        }
     }
 
     /// How many of its type and subtype are no star.
@@ -170,8 +186,7 @@ impl MediaType {
         ensures { IfOk result (λ m. m ≡ record { top = top.now; sub = sub.now; parameters = parameters.items }) }
     {
         Ok(MediaType {
-            top: Text::new(alloc, top)?,
-            sub: Text::new(alloc, sub)?,
+            names: Some((Text::new(alloc, top)?, Text::new(alloc, sub)?)),
             parameters,
         })
     }

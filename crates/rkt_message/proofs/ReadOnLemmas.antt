@@ -1,11 +1,9 @@
 -- A response that is read on, poll by poll.
 use Rattle.std.proofs.Common.{◌≡◌, ◌<◌, ◌+◌, ◌∙◌, inl, inr, ⊎_elim, ℕ, arith, List, [], Option, Some, Result, Ok, Err, le_trans, refl, sym, subst}
-use Rattle.rkt_source.specs.Source.{Meaning, Keeps}
+use Rattle.rkt_source.specs.Source.{Meaning, Keeps, Polled}
 use Rattle.rkt_message.specs.Body.{preset_of}
-use Rattle.rkt_base.specs.declared.poll.Poll.{Poll}
 use Rattle.rkt_base.specs.declared.poll.Poll.TheVariants.{Ready}
 use Rattle.rkt_source.specs.declared.source.Gate.{Gate}
-use Rattle.rkt_source.specs.declared.source.SourceError.{SourceError}
 use Rattle.rkt_message.specs.Reading.{Follows, LeftAlone, ReadsOn, StreamWaits, Takes}
 use Rattle.rkt_message.specs.Response.{ResponseOf}
 use Rattle.rkt_message.specs.Sending.{Answers, HasWaited, IsSending, PieceByGate, ReadOn, ReadsOnUnder, Sending, StandsAt}
@@ -31,13 +29,13 @@ left_alone (content.Phantom length size) = tt
 left_alone (content.Streamed s) = refl
 
 -- the head is formed without a read of the body
-pub head_asks : {S : Type 0} (meaning : S → Meaning) (polled : S → Gate → Poll (Result ℕ SourceError) → S → Type 0) (gate : Gate) (s t : Sending S) (answer : Result Piece PieceError) (c : Content S) → s.given ≡ [] → Answers meaning s t (Ready answer) → PieceByGate polled gate (Ready answer) c c
-head_asks meaning polled gate s t (Ok (Head status headers)) c at h = left_alone c
-head_asks meaning polled gate s t (Ok (Chunk bytes)) c at h = absurd (h.0.head.1 at)
-head_asks meaning polled gate s t (Ok End) c at h = absurd (h.0.head.1 at)
-head_asks meaning polled gate s t (Err error.BadHead) c at h = left_alone c
-head_asks meaning polled gate s t (Err error.BodyFault) c at h = absurd (h.0 at)
-head_asks meaning polled gate s t (Err error.NoMemory) c at h = left_alone c
+pub head_asks : {S : Type 0} (meaning : S → Meaning) (polled : Polled S) (gate : Gate) (room : ℕ) (s t : Sending S) (answer : Result Piece PieceError) (c : Content S) → s.given ≡ [] → Answers meaning s t (Ready answer) → PieceByGate polled gate room (Ready answer) c c
+head_asks meaning polled gate room s t (Ok (Head status headers)) c at h = left_alone c
+head_asks meaning polled gate room s t (Ok (Chunk bytes)) c at h = absurd (h.0.head.1 at)
+head_asks meaning polled gate room s t (Ok End) c at h = absurd (h.0.head.1 at)
+head_asks meaning polled gate room s t (Err error.BadHead) c at h = left_alone c
+head_asks meaning polled gate room s t (Err error.BodyFault) c at h = absurd (h.0 at)
+head_asks meaning polled gate room s t (Err error.NoMemory) c at h = left_alone c
 
 pub takes_nothing : {S : Type 0} (meaning : S → Meaning) (c : Content S) → Takes meaning c c 0
 takes_nothing meaning content.None = tt

@@ -1,22 +1,21 @@
 -- Bodies that are read on, several times.
 use Rattle.std.specs.Option.{ForSome}
 use Rattle.std.specs.Prelude.{option_map}
-use Rattle.std.proofs.Common.{◌≡◌, ℕ, ◌+◌, ◌≤◌, ◌++◌, ◌∙◌, List, length, take, drop, Option, None, Some, Result, Ok, Err, refl, sym, ap, subst, arith, append_assoc, length-append, length-take-le, drop-drop, take-append-drop}
+use Rattle.std.proofs.Common.{◌≡◌, ◌<◌, ℕ, ◌+◌, ◌≤◌, ◌++◌, ◌∙◌, List, length, take, drop, Option, None, Some, Ok, Err, refl, sym, ap, subst, arith, append_assoc, length-append, length-take-le, drop-drop, take-append-drop}
 use Rattle.rkt_source.proofs.Sources.{Keeps-refl, Keeps-trans}
 use Rattle.rkt_data.proofs.Pulls.{front_of, same_front}
-use Rattle.rkt_base.specs.declared.poll.Poll.{Poll}
 use Rattle.rkt_base.specs.declared.poll.Poll.TheVariants.{Ready}
-use Rattle.rkt_data.proofs.Taps.{PollsTo-after}
+use Rattle.rkt_data.proofs.Taps.{PollsTo-after, PollsTo-gave}
 use Rattle.rkt_data.specs.Gathering.{cause_of, data_error_of}
-use Rattle.rkt_source.specs.Source.{Meaning, Keeps, Errs}
-use Rattle.rkt_data.specs.Tap.{Ending, Polls}
+use Rattle.rkt_source.specs.Source.{Meaning, Keeps, Errs, Polled}
+use Rattle.rkt_data.specs.Tap.{Ending, Polls, gave}
 use Rattle.rkt_data.specs.declared.error.DataError.{DataError}
 use Rattle.rkt_data.specs.declared.error.DataError.TheVariants as error
 use Rattle.rkt_source.specs.declared.source.Gate.{Gate}
 use Rattle.rkt_source.specs.declared.source.SourceError.{SourceError}
 use Rattle.rkt_source.specs.declared.source.SourceError.TheVariants as source_error
 use Rattle.rkt_message.specs.Body.{BodyOf, left_of, preset_of, resized}
-use Rattle.rkt_message.specs.Reading.{ByGate, Follows, ReadsOn, StreamErrs, StreamWaits, Takes}
+use Rattle.rkt_message.specs.Reading.{ByGate, Follows, ReadsOn, ReadsSource, StreamErrs, StreamWaits, Takes}
 use Rattle.rkt_message.specs.Whole.{BytesErr, Draws, Stops, all_of}
 use Rattle.rkt_message.specs.declared.content.Content.{Content}
 use Rattle.rkt_message.specs.declared.content.Content.TheVariants as content
@@ -41,6 +40,17 @@ ReadsOn-trans meaning trip (content.Streamed s) d e p q =
     let r = subst (λ x. ReadsOn meaning trip x e) p.1 q in
     (r.0, r.1, Keeps-trans p.2 r.2)
 
+-- a source that was read gave bytes
+pub ByGate-gave : {S : Type 0} (meaning : S → Meaning) (polled : Polled S) (gate : Gate) (n : ℕ) (c d : Content S) (old new : List ℕ) → 0 < n → 0 < length old
+    → ((s : S) → c ≡ content.Streamed s → 0 < length old → ReadsSource meaning polled gate s d old new (Ready (Ok n))) → ByGate polled gate gave c d
+ByGate-gave meaning polled gate n content.None d old new more room reads = tt
+ByGate-gave meaning polled gate n content.UnsizedNone d old new more room reads = tt
+ByGate-gave meaning polled gate n (content.Sized rest size) d old new more room reads = tt
+ByGate-gave meaning polled gate n (content.Phantom length size) d old new more room reads = tt
+ByGate-gave meaning polled gate n (content.Streamed s) d old new more room reads =
+    let read = reads s refl room in
+    subst (λ x. ByGate polled gate gave (content.Streamed s) x) (sym read.1) (PollsTo-gave polled gate (length old) n s read.0 room more read.2)
+
 -- with another preset size
 pub ReadsOn-resized : {S : Type 0} (meaning : S → Meaning) (trip : Option ℕ) (c d : Content S) (size : Option ℕ) → ReadsOn meaning trip c d → ReadsOn meaning trip c (resized d size)
 ReadsOn-resized meaning trip content.None d z p = ap (λ x. resized x z) p
@@ -56,26 +66,26 @@ left_of-resized meaning (content.Sized rest size) z = refl
 left_of-resized meaning (content.Phantom length size) z = refl
 left_of-resized meaning (content.Streamed s) z = refl
 
-ByGate-refl : {S : Type 0} (polled : S → Gate → Poll (Result ℕ SourceError) → S → Type 0) (gate : Gate) (c : Content S) → ByGate polled gate (Ready (Ok tt)) c c
+ByGate-refl : {S : Type 0} (polled : Polled S) (gate : Gate) (c : Content S) → ByGate polled gate gave c c
 ByGate-refl polled gate content.None = tt
 ByGate-refl polled gate content.UnsizedNone = tt
 ByGate-refl polled gate (content.Sized rest size) = tt
 ByGate-refl polled gate (content.Phantom length size) = tt
 ByGate-refl polled gate (content.Streamed s) = Polls.none
 
-pub ByGate-trans : {S : Type 0} (meaning : S → Meaning) (polled : S → Gate → Poll (Result ℕ SourceError) → S → Type 0) (gate : Gate) (how : Ending) (c d e : Content S) → ReadsOn meaning gate.tripped c d → ReadsOn meaning gate.tripped d e
-    → ByGate polled gate (Ready (Ok tt)) c d → ByGate polled gate how d e → ByGate polled gate how c e
+pub ByGate-trans : {S : Type 0} (meaning : S → Meaning) (polled : Polled S) (gate : Gate) (how : Ending) (c d e : Content S) → ReadsOn meaning gate.tripped c d → ReadsOn meaning gate.tripped d e
+    → ByGate polled gate gave c d → ByGate polled gate how d e → ByGate polled gate how c e
 ByGate-trans meaning polled gate how content.None d e p q a b = tt
 ByGate-trans meaning polled gate how content.UnsizedNone d e p q a b = tt
 ByGate-trans meaning polled gate how (content.Sized rest size) d e p q a b = tt
 ByGate-trans meaning polled gate how (content.Phantom length size) d e p q a b = tt
 ByGate-trans meaning polled gate how (content.Streamed s) d e p q a b =
     let r = subst (λ x. ReadsOn meaning gate.tripped x e) p.1 q in
-    let first = subst (λ x. ByGate polled gate (Ready (Ok tt)) (content.Streamed s) x) p.1 a in
+    let first = subst (λ x. ByGate polled gate gave (content.Streamed s) x) p.1 a in
     let second = subst (λ x. ByGate polled gate how (content.Streamed p.0) x) r.1 (subst (λ x. ByGate polled gate how x e) p.1 b) in
     subst (λ x. ByGate polled gate how (content.Streamed s) x) (sym r.1) (PollsTo-after polled gate how s p.0 r.0 first second)
 
-pub ByGate-resized : {S : Type 0} (polled : S → Gate → Poll (Result ℕ SourceError) → S → Type 0) (gate : Gate) (how : Ending) (c d : Content S) (size : Option ℕ) → ByGate polled gate how c d → ByGate polled gate how c (resized d size)
+pub ByGate-resized : {S : Type 0} (polled : Polled S) (gate : Gate) (how : Ending) (c d : Content S) (size : Option ℕ) → ByGate polled gate how c d → ByGate polled gate how c (resized d size)
 ByGate-resized polled gate how content.None d z a = tt
 ByGate-resized polled gate how content.UnsizedNone d z a = tt
 ByGate-resized polled gate how (content.Sized rest size) d z a = tt
@@ -87,7 +97,7 @@ ByGate-resized polled gate how (content.Streamed s) (content.Phantom length size
 ByGate-resized polled gate how (content.Streamed s) (content.Streamed t) z a = a
 
 -- an error of the source is the cause of the one that is answered
-pub ByGate-caused : {S : Type 0} (polled : S → Gate → Poll (Result ℕ SourceError) → S → Type 0) (gate : Gate) (e : SourceError) (x : DataError) (c d : Content S) → x ≡ data_error_of e → ByGate polled gate (Ready (Err e)) c d → ByGate polled gate (Ready (cause_of x)) c d
+pub ByGate-caused : {S : Type 0} (polled : Polled S) (gate : Gate) (e : SourceError) (x : DataError) (c d : Content S) → x ≡ data_error_of e → ByGate polled gate (Ready (Err e)) c d → ByGate polled gate (Ready (cause_of x)) c d
 ByGate-caused polled gate source_error.SourceFault x c d is h = rw is h
 ByGate-caused polled gate source_error.Gone x c d is h = rw is h
 ByGate-caused polled gate source_error.TimedOut x c d is h = rw is h
@@ -195,7 +205,7 @@ left_same k (Some w) o' e h = h ∙ ap (λ (n : ℕ). Some (drop n w)) e
 pub Follows-refl : {S : Type 0} (meaning : S → Meaning) (trip : Option ℕ) (b : BodyOf S) → Follows meaning trip b b
 Follows-refl meaning trip b = record { content = ReadsOn-refl meaning trip b.content; chunk = refl }
 
-pub Draws-start : {S : Type 0} (meaning : S → Meaning) (polled : S → Gate → Poll (Result ℕ SourceError) → S → Type 0) (gate : Gate) (b : BodyOf S) (old : List ℕ) → Draws meaning polled gate (Ready (Ok tt)) b b old old
+pub Draws-start : {S : Type 0} (meaning : S → Meaning) (polled : Polled S) (gate : Gate) (b : BodyOf S) (old : List ℕ) → Draws meaning polled gate gave b b old old
 Draws-start meaning polled gate b old = record {
   follows = Follows-refl meaning gate.tripped b;
   preset = refl;
@@ -204,7 +214,7 @@ Draws-start meaning polled gate b old = record {
   moves = (0, omega arith, (Takes-refl meaning b.content, left_refl (left_of meaning b.content)));
 }
 
-pub Draws-trans : {S : Type 0} {meaning : S → Meaning} {polled : S → Gate → Poll (Result ℕ SourceError) → S → Type 0} {gate : Gate} {how : Ending} {b c d : BodyOf S} {old mid new : List ℕ} → Draws meaning polled gate (Ready (Ok tt)) b c old mid → Draws meaning polled gate how c d mid new → Draws meaning polled gate how b d old new
+pub Draws-trans : {S : Type 0} {meaning : S → Meaning} {polled : Polled S} {gate : Gate} {how : Ending} {b c d : BodyOf S} {old mid new : List ℕ} → Draws meaning polled gate gave b c old mid → Draws meaning polled gate how c d mid new → Draws meaning polled gate how b d old new
 Draws-trans {meaning = meaning} {polled = polled} {gate = gate} {how = how} {b = b} {c = c} {d = d} p q = record {
   follows = record {
     content = ReadsOn-trans meaning gate.tripped b.content c.content d.content p.follows.content q.follows.content;
@@ -236,10 +246,10 @@ read_length n k room buf post within fits =
     ap length (front_of n k (take n room) buf post (length-take-le n room within) fits) ∙ length-append (take n room) (take k buf) ∙ ap (λ (i : ℕ). length (take n room) + i) (length-take-le k buf fits)
 
 -- one read, into a buffer behind its first n bytes
-pub Draws-read : {S : Type 0} {meaning : S → Meaning} {polled : S → Gate → Poll (Result ℕ SourceError) → S → Type 0} {gate : Gate} {b c d : BodyOf S} {old : List ℕ} (n k : ℕ) (room buf post : List ℕ) → Draws meaning polled gate (Ready (Ok tt)) b c old (take n room) → n ≤ length room → k ≤ length buf
-    → Follows meaning gate.tripped c d → preset_of d.content ≡ preset_of c.content → ByGate polled gate (Ready (Ok tt)) c.content d.content
+pub Draws-read : {S : Type 0} {meaning : S → Meaning} {polled : Polled S} {gate : Gate} {b c d : BodyOf S} {old : List ℕ} (n k : ℕ) (room buf post : List ℕ) → Draws meaning polled gate gave b c old (take n room) → n ≤ length room → k ≤ length buf
+    → Follows meaning gate.tripped c d → preset_of d.content ≡ preset_of c.content → ByGate polled gate gave c.content d.content
     → left_of meaning d.content ≡ option_map (drop k) (left_of meaning c.content) → ForSome (left_of meaning c.content) (λ w. take k buf ≡ take k w) → Takes meaning c.content d.content k
-    → Draws meaning polled gate (Ready (Ok tt)) b d old (take (n + k) (take n room ++ (buf ++ post)))
+    → Draws meaning polled gate gave b d old (take (n + k) (take n room ++ (buf ++ post)))
 Draws-read {meaning = meaning} {c = c} {d = d} n k room buf post p within fits follows preset by_gate left bytes takes = Draws-trans p record {
   follows = follows;
   preset = preset;
@@ -250,7 +260,7 @@ Draws-read {meaning = meaning} {c = c} {d = d} n k room buf post p within fits f
 }
 
 -- one read that gave nothing
-pub Draws-nothing : {S : Type 0} {meaning : S → Meaning} {polled : S → Gate → Poll (Result ℕ SourceError) → S → Type 0} {gate : Gate} {how : Ending} {b c d : BodyOf S} {old : List ℕ} (n : ℕ) (room buf post : List ℕ) → Draws meaning polled gate (Ready (Ok tt)) b c old (take n room) → n ≤ length room
+pub Draws-nothing : {S : Type 0} {meaning : S → Meaning} {polled : Polled S} {gate : Gate} {how : Ending} {b c d : BodyOf S} {old : List ℕ} (n : ℕ) (room buf post : List ℕ) → Draws meaning polled gate gave b c old (take n room) → n ≤ length room
     → Follows meaning gate.tripped c d → preset_of d.content ≡ preset_of c.content → ByGate polled gate how c.content d.content → left_of meaning d.content ≡ left_of meaning c.content → Takes meaning c.content d.content 0
     → Draws meaning polled gate how b d old (take n (take n room ++ (buf ++ post)))
 Draws-nothing {meaning = meaning} {c = c} {d = d} n room buf post p within follows preset by_gate left takes = Draws-trans p record {

@@ -17,10 +17,10 @@ use Rattle.rkt_message.specs.declared.chunk.ChunkRead.TheVariants as chunk_read
 abbrev pub IsAtEnd : {S : Type 0} → (S → Meaning) → BodyOf S → Type 0
 IsAtEnd meaning body = ForSome (left_of meaning body.content) (λ left. left ≡ [])
 
--- there is room for all bytes of a body, as far as a chunk may hold them, and for some of a source
+-- there is room for all bytes of a body, as far as a chunk may hold them, and for as many of a source as a chunk may hold
 abbrev pub FillsRoom : {S : Type 0} → Content S → ℕ → ℕ → Type 0
 FillsRoom (content.Sized rest size) most room = room ≡ min (length rest) most
-FillsRoom (content.Streamed s) most room = 0 < room
+FillsRoom (content.Streamed s) most room = (0 < room) × (room ≡ most)
 FillsRoom _ most room = ⊤
 
 -- this much room is no more than a chunk may hold, and there is none only where nothing is left

@@ -3,7 +3,7 @@ use Rattle.std.specs.Option.{ForSome}
 use Rattle.std.specs.Prelude.{◌≡◌, ⊤, ℕ, ◌+◌, ◌≤◌, ◌<◌, List, [], length, take, drop, Option, option_map, Result, Ok, Err}
 use Rattle.rkt_base.specs.declared.poll.Poll.{Poll}
 use Rattle.rkt_base.specs.declared.poll.Poll.TheVariants.{Ready, Pending}
-use Rattle.rkt_source.specs.Source.{Meaning, Keeps, Answers, Waits, Errs}
+use Rattle.rkt_source.specs.Source.{Meaning, Keeps, Answers, Waits, Errs, Polled}
 use Rattle.rkt_data.specs.Tap.{Ending, PollsTo}
 use Rattle.rkt_source.specs.declared.source.Gate.{Gate}
 use Rattle.rkt_source.specs.declared.source.SourceError.{SourceError}
@@ -26,14 +26,14 @@ pub record Follows {S : Type 0} (meaning : S → Meaning) (trip : Option ℕ) (b
   pub chunk : c.chunk ≡ b.chunk
 
 -- its source, where it has one, was called under this Gate alone, and its reads have ended so
-abbrev pub ByGate : {S : Type 0} → (S → Gate → Poll (Result ℕ SourceError) → S → Type 0) → Gate → Ending → Content S → Content S → Type 0
+abbrev pub ByGate : {S : Type 0} → Polled S → Gate → Ending → Content S → Content S → Type 0
 ByGate polled gate how (content.Streamed s) (content.Streamed t) = PollsTo polled gate how s t
 ByGate polled gate how _ _ = ⊤
 
--- its source, where it has one, was asked once, under this Gate, and answered so
-abbrev pub Asked : {S : Type 0} → (S → Gate → Poll (Result ℕ SourceError) → S → Type 0) → Gate → Poll (Result ℕ SourceError) → Content S → Content S → Type 0
-Asked polled gate answer (content.Streamed s) d = (t : _) × (d ≡ content.Streamed t) × polled s gate answer t
-Asked polled gate answer _ d = ⊤
+-- its source, where it has one, was asked once, under this Gate with this room, and answered so
+abbrev pub Asked : {S : Type 0} → Polled S → Gate → ℕ → Poll (Result ℕ SourceError) → Content S → Content S → Type 0
+Asked polled gate room answer (content.Streamed s) d = (t : _) × (d ≡ content.Streamed t) × polled s gate room answer t
+Asked polled gate room answer _ d = ⊤
 
 -- its source, where it has one, was not asked
 abbrev pub LeftAlone : {S : Type 0} → Content S → Content S → Type 0
@@ -67,6 +67,7 @@ Reads meaning c d old new (Ready (Ok n)) = (n ≤ length old) × (left_of meanin
     × ForSome (left_of meaning c) (λ w. (take n new ≡ take n w) × (0 < length old → n ≡ 0 → w ≡ []))
     × Takes meaning c d n
 
--- one read of a source under this Gate, which answers what the source does
-abbrev pub ReadsSource : {S : Type 0} → (S → Meaning) → (S → Gate → Poll (Result ℕ SourceError) → S → Type 0) → Gate → S → Content S → List ℕ → List ℕ → Poll (Result ℕ SourceError) → Type 0
-ReadsSource meaning polled gate s d old new answer = (t : _) × (d ≡ content.Streamed t) × polled s gate answer t × Answers (meaning s) (meaning t) old new answer
+-- one read of a source under this Gate with all the room there is, which answers what the source does
+abbrev pub ReadsSource : {S : Type 0} → (S → Meaning) → Polled S → Gate → S → Content S → List ℕ → List ℕ → Poll (Result ℕ SourceError) → Type 0
+ReadsSource meaning polled gate s d old new answer =
+    (t : _) × (d ≡ content.Streamed t) × polled s gate (length old) answer t × Answers (meaning s) (meaning t) old new answer

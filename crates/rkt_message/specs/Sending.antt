@@ -2,7 +2,7 @@
 use Rattle.std.specs.Prelude.{◌≡◌, ⊤, ℕ, ◌+◌, ◌<◌, ◌≤◌, ◌⊎◌, ◌↔◌, ◌++◌, ◌≢◌, Bool, true, false, List, [], ◌∷◌, length, Option, Result, Ok, Err}
 use Rattle.rkt_base.specs.declared.poll.Poll.{Poll}
 use Rattle.rkt_base.specs.declared.poll.Poll.TheVariants.{Ready, Pending}
-use Rattle.rkt_source.specs.Source.{Meaning}
+use Rattle.rkt_source.specs.Source.{Meaning, Polled}
 use Rattle.rkt_source.specs.declared.source.SourceError.{SourceError}
 use Rattle.rkt_message.specs.Body.{BodyOf, preset_of, size_of}
 use Rattle.rkt_source.specs.declared.source.Gate.{Gate}
@@ -139,16 +139,18 @@ pub record Exhausts {S : Type 0} (meaning : S → Meaning) (s t : Sending S) : T
 abbrev pub GivesUp : {S : Type 0} → (S → Meaning) → Sending S → Sending S → Type 0
 GivesUp meaning s t = ((e : SourceError) × StreamErrs meaning e s.response.body.content t.response.body.content) ⊎ Exhausts meaning s t
 
--- the source of the body was asked once, under this Gate, and this was its answer: as many bytes as a chunk has, none at the end,
--- Pending, and of a fault of the body Pending or a refusal; for a head, a bad one and want of memory it was not asked
-abbrev pub PieceByGate : {S : Type 0} → (S → Gate → Poll (Result ℕ SourceError) → S → Type 0) → Gate → Poll (Result Piece PieceError) → Content S → Content S → Type 0
-PieceByGate polled gate Pending c d = Asked polled gate Pending c d
-PieceByGate polled gate (Ready (Ok (Head status headers))) c d = LeftAlone c d
-PieceByGate polled gate (Ready (Ok (Chunk bytes))) c d = Asked polled gate (Ready (Ok (length bytes))) c d
-PieceByGate polled gate (Ready (Ok End)) c d = Asked polled gate (Ready (Ok 0)) c d
-PieceByGate polled gate (Ready (Err error.BadHead)) c d = LeftAlone c d
-PieceByGate polled gate (Ready (Err error.BodyFault)) c d = Asked polled gate Pending c d ⊎ ((e : SourceError) × Asked polled gate (Ready (Err e)) c d)
-PieceByGate polled gate (Ready (Err error.NoMemory)) c d = LeftAlone c d
+-- the source of the body was asked once, under this Gate with room for a chunk, and this was its answer: as many bytes as the chunk
+-- has, none at the end, Pending, and of a fault of the body Pending or a refusal; for a head, a bad one and want of memory it was
+-- not asked
+abbrev pub PieceByGate : {S : Type 0} → Polled S → Gate → ℕ → Poll (Result Piece PieceError) → Content S → Content S → Type 0
+PieceByGate polled gate room Pending c d = Asked polled gate room Pending c d
+PieceByGate polled gate room (Ready (Ok (Head status headers))) c d = LeftAlone c d
+PieceByGate polled gate room (Ready (Ok (Chunk bytes))) c d = Asked polled gate room (Ready (Ok (length bytes))) c d
+PieceByGate polled gate room (Ready (Ok End)) c d = Asked polled gate room (Ready (Ok 0)) c d
+PieceByGate polled gate room (Ready (Err error.BadHead)) c d = LeftAlone c d
+PieceByGate polled gate room (Ready (Err error.BodyFault)) c d =
+    Asked polled gate room Pending c d ⊎ ((e : SourceError) × Asked polled gate room (Ready (Err e)) c d)
+PieceByGate polled gate room (Ready (Err error.NoMemory)) c d = LeftAlone c d
 
 -- nothing more is given
 abbrev pub Stops : {S : Type 0} → Sending S → Sending S → Type 0

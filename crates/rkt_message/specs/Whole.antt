@@ -5,13 +5,12 @@ use Rattle.std.specs.Str.Lossy.{utf8_valid_len}
 use Rattle.std.specs.declared.alloc.Global.{Global}
 use Rattle.rkt_base.specs.declared.poll.Poll.{Poll}
 use Rattle.rkt_base.specs.declared.poll.Poll.TheVariants.{Ready, Pending}
-use Rattle.rkt_source.specs.Source.{Meaning}
+use Rattle.rkt_source.specs.Source.{Meaning, Polled}
 use Rattle.rkt_data.specs.Gathering.{Causes, cause_of}
-use Rattle.rkt_data.specs.Tap.{Ending}
+use Rattle.rkt_data.specs.Tap.{Ending, ended, gave}
 use Rattle.rkt_data.specs.declared.error.DataError.{DataError}
 use Rattle.rkt_data.specs.declared.error.DataError.TheVariants as error
 use Rattle.rkt_source.specs.declared.source.Gate.{Gate}
-use Rattle.rkt_source.specs.declared.source.SourceError.{SourceError}
 use Rattle.rkt_message.specs.Body.{BodyOf, left_of, lowered, preset_of}
 use Rattle.rkt_message.specs.Reading.{ByGate, Follows, StreamErrs, StreamWaits, Moves}
 use Rattle.rkt_message.specs.declared.content.Content.{Content}
@@ -38,7 +37,7 @@ abbrev pub MovesBy : {S : Type 0} → (S → Meaning) → Content S → Content 
 MovesBy meaning c d old new = (count : ℕ) × (length new ≡ length old + count) × Moves meaning c d count
 
 -- several reads under one Gate that have ended so, by which the bytes read became more
-pub record Draws {S : Type 0} (meaning : S → Meaning) (polled : S → Gate → Poll (Result ℕ SourceError) → S → Type 0) (gate : Gate) (how : Ending) (b c : BodyOf S) (old new : List ℕ) : Type 0 where
+pub record Draws {S : Type 0} (meaning : S → Meaning) (polled : Polled S) (gate : Gate) (how : Ending) (b c : BodyOf S) (old new : List ℕ) : Type 0 where
   pub follows : Follows meaning gate.tripped b c
   pub preset : preset_of c.content ≡ preset_of b.content
   pub by_gate : ByGate polled gate how b.content c.content
@@ -57,13 +56,13 @@ Stops meaning c d stop.Waiting = StreamWaits meaning c d
 
 -- how the reads have ended then
 abbrev pub stop_end : Stop → Ending
-stop_end stop.End = Ready (Ok tt)
+stop_end stop.End = ended
 stop_end (stop.Failed e) = Ready (cause_of e)
 stop_end stop.Waiting = Pending
 
 -- or went on
 abbrev pub end_if_stopped : Option Stop → Ending
-end_if_stopped None = Ready (Ok tt)
+end_if_stopped None = gave
 end_if_stopped (Some why) = stop_end why
 
 -- what a poll answers that gathers bytes: all of them

@@ -191,7 +191,7 @@ impl<S: Source> Body<S> {
         ensures preset { preset_of self.new.content ≡ preset_of self.old.content }
         ensures by_gate { ByGate S.polled gate (ending_of result) self.old.content self.new.content }
         ensures answer { Reads S.meaning self.old.content self.new.content buf.old buf.new result }
-        // A source is asked once, where the buffer takes a byte.
+        // A source is asked once with all the room, where the buffer takes a byte.
         ensures source { (s : _) → self.old.content ≡ Content.Streamed s → 0 < length buf.old → ReadsSource S.meaning S.polled gate s self.new.content buf.old buf.new result }
         // Bytes are read as many as the buffer takes.
         ensures bytes { (rest : _) (size : _) → self.old.content ≡ Content.Sized rest size

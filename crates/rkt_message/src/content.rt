@@ -131,24 +131,30 @@ impl<S: Source> Content<S> {
         }
     }
 
-    pub fn size(&mut self) -> Option<usize>
-        ensures size { result ≡ size_of self.old }
-        ensures preset { self.new ≡ resized self.old result }
+    /// The preset size, or else the number of bytes that are left.
+    pub fn known_size(&self) -> Option<usize>
+        ensures { result ≡ size_of self.now }
     {
         match self {
             Content::None => Some(0),
             Content::UnsizedNone | Content::Streamed(_) => None,
-            Content::Sized { rest, size } => {
-                let known = size.unwrap_or(rest.len());
-                *size = Some(known);
-                Some(known)
-            }
-            Content::Phantom { length, size } => {
-                let known = size.unwrap_or(*length);
-                *size = Some(known);
-                Some(known)
-            }
+            Content::Sized { rest, size } => Some(size.unwrap_or(rest.len())),
+            Content::Phantom { length, size } => Some(size.unwrap_or(*length)),
         }
+    }
+
+    /// The same, which is the preset size from then on.
+    pub fn size(&mut self) -> Option<usize>
+        ensures size { result ≡ size_of self.old }
+        ensures preset { self.new ≡ resized self.old result }
+    {
+        let known = self.known_size();
+        match self {
+            Content::Sized { size, .. } => *size = known,
+            Content::Phantom { size, .. } => *size = known,
+            Content::None | Content::UnsizedNone | Content::Streamed(_) => {}
+        }
+        known
     }
 
     /// Without its bytes.
@@ -193,7 +199,7 @@ impl<S: Source> Content<S> {
         ensures preset { preset_of self.new ≡ preset_of self.old }
         ensures by_gate { ByGate S.polled gate (ending_of result) self.old self.new }
         ensures answer { Reads S.meaning self.old self.new buf.old buf.new result }
-        // A source is asked once, where the buffer takes a byte.
+        // A source is asked once with all the room, where the buffer takes a byte.
         ensures source { (s : _) → self.old ≡ Content.Streamed s → 0 < length buf.old → ReadsSource S.meaning S.polled gate s self.new buf.old buf.new result }
         ensures bytes { (rest : _) (size : _) → self.old ≡ Content.Sized rest size
             → let count = min (length buf.old) (length rest) in
@@ -215,7 +221,7 @@ fn poll_stream<S: Source>(
     buf: &mut [u8],
 ) -> Poll<Result<usize, SourceError>>
     ensures empty { length buf.old ≡ 0 → (result ≡ Ready (Ok 0)) × (stream.new ≡ stream.old) }
-    ensures polled { 0 < length buf.old → S.polled stream.old gate result stream.new }
+    ensures polled { 0 < length buf.old → S.polled stream.old gate (length buf.old) result stream.new }
     ensures by_gate { PollsTo S.polled gate (ending_of result) stream.old stream.new }
     ensures kept { Keeps gate.tripped (S.meaning stream.old) (S.meaning stream.new) }
     ensures answer { Answers (S.meaning stream.old) (S.meaning stream.new) buf.old buf.new result }

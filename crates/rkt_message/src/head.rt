@@ -3,12 +3,9 @@ ghost use Rattle.std.specs.Fmt.{decimal};
 ghost use Rattle.std.specs.List.{list_all};
 ghost use Rattle.std.specs.Prelude.{◌≡◌, ◌++◌, [], IfOk};
 ghost use Rattle.rkt_http.specs.Headers.{fields_of};
-ghost use Rattle.rkt_message.specs.Body.{size_of};
 ghost use Rattle.rkt_message.specs.Lines.{lines_of, only_length};
 ghost use Rattle.rkt_message.specs.Sent.{has_head, head_of, is_sendable, is_token, is_value_byte, sent_headers};
 
-use crate::body::Body;
-use crate::content::Content;
 use crate::piece::Piece;
 use crate::response::Response;
 use rkt_base::{NoMemory, Seq, Text};
@@ -142,23 +139,12 @@ fn sent_headers(
     }
 }
 
-// What `Body::size` answers, without keeping it: a head that finds no memory leaves the response as it was.
-fn size_of<S: Source>(body: &Body<S>) -> Option<usize>
-    ensures { result ≡ size_of body.now.content }
-{
-    match body.content() {
-        Content::None => Some(0),
-        Content::UnsizedNone | Content::Streamed(_) => None,
-        Content::Sized { rest, size } => Some(size.unwrap_or(rest.len())),
-        Content::Phantom { length, size } => Some(size.unwrap_or(*length)),
-    }
-}
-
 /// The head of a response that can be sent.
 pub(crate) fn head_of<S: Source>(alloc: Global, response: &Response<S>) -> Result<Piece, NoMemory>
     ensures { IfOk result (λ piece. piece ≡ head_of response.now) }
 {
-    let size = size_of(response.body());
+    // The size is not kept: a head that finds no memory leaves the response as it was.
+    let size = response.body().content().known_size();
     Ok(Piece::Head {
         status: response.status().code,
         headers: sent_headers(alloc, response.headers(), size)?,

@@ -2,6 +2,7 @@
 ghost use Rattle.std.specs.Prelude.{◌≡◌, IfOk};
 
 use rkt_base::{Bytes, NoMemory, Seq, Text};
+use rkt_grammar::copy_pairs;
 use std::alloc::{AllocError, Global};
 use thiserror::Error;
 
@@ -41,17 +42,6 @@ impl From<AllocError> for PieceError {
     }
 }
 
-// A copy of names and values.
-fn copy_headers(alloc: Global, headers: &[(Text, Text)]) -> Result<Seq<(Text, Text)>, NoMemory>
-    ensures { IfOk result (λ copies. copies ≡ headers.now) }
-{
-    let mut copies = Seq::from_vec(Vec::with_capacity(alloc, headers.len())?);
-    for (name, value) in headers {
-        copies.push((name.try_clone(alloc)?, value.try_clone(alloc)?))?;
-    }
-    Ok(copies)
-}
-
 impl Piece {
     /// A copy, by an allocator that is handed in.
     pub fn try_clone(&self, alloc: Global) -> Result<Piece, NoMemory>
@@ -60,7 +50,7 @@ impl Piece {
         match self {
             Piece::Head { status, headers } => Ok(Piece::Head {
                 status: *status,
-                headers: copy_headers(alloc, headers.as_slice())?,
+                headers: Seq::from_vec(copy_pairs(alloc, headers.as_slice())?),
             }),
             Piece::Chunk(bytes) => Ok(Piece::Chunk(bytes.try_clone(alloc)?)),
             Piece::End => Ok(Piece::End),

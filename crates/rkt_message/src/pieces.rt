@@ -77,7 +77,10 @@ impl<S: Source> Pieces<S> {
         ensures turns { self.new.turns ≡ self.old.turns }
         ensures read_on { ReadOn S.meaning self.new.begun self.new.response }
         ensures reads { ReadsOnUnder S.meaning gate.tripped self.old.response self.new.response }
-        ensures by_gate { PieceByGate S.polled gate result self.old.response.body.content self.new.response.body.content }
+        // The source is asked once, with room for a whole chunk.
+        ensures by_gate { PieceByGate S.polled gate self.old.response.body.chunk result
+            self.old.response.body.content
+            self.new.response.body.content }
         ensures piece { IfReadyOk result (λ piece. Gives S.meaning self.old piece self.new) }
         // What was given so far is a front of a list that the response is sent as.
         ensures front { IfReadyOk result (λ _. IsFront S.meaning self.new) }
@@ -132,7 +135,9 @@ impl<S: Source> Pieces<S> {
         ensures turns { self.new.turns ≡ self.old.turns }
         ensures read_on { ReadOn S.meaning self.new.begun self.new.response }
         ensures reads { ReadsOnUnder S.meaning gate.tripped self.old.response self.new.response }
-        ensures by_gate { PieceByGate S.polled gate result self.old.response.body.content self.new.response.body.content }
+        ensures by_gate { PieceByGate S.polled gate self.old.response.body.chunk result
+            self.old.response.body.content
+            self.new.response.body.content }
         ensures full { IfReadyOk result (TakesFull self.old.response.body) }
         ensures answer { Answers S.meaning self.old self.new result }
     {

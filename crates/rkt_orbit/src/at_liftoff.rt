@@ -2,7 +2,7 @@
 ghost use Rattle.std.specs.Prelude.{[]};
 ghost use Rattle.rkt_router.specs.Calls.{Gives};
 ghost use Rattle.rkt_turn.specs.HandsBack.{HandsBack};
-ghost use Rattle.rkt_orbit.specs.Calls.{CalledAtLiftoff, reply_of};
+ghost use Rattle.rkt_orbit.specs.Calls.{CalledAtLiftoff, reply_of, turns_of};
 
 use crate::Called;
 use rkt_fairing::{LiftoffCallback, Parts, Slot, View};
@@ -17,11 +17,11 @@ fn lift_fairing<A: Parts, F, P: LiftoffCallback<A, F>>(
     view: &View<'_, A>,
     shutdown: &mut Shutdown<A::Reason>,
 ) -> Called
-    ensures gives { Gives P.calling tt view.now view.now.config.turns (record { fairing = fairing.old; shutdown = shutdown.old }) [] (reply_of result) (record { fairing = fairing.new; shutdown = shutdown.new }) }
+    ensures gives { Gives P.calling tt view.now (turns_of view.now) (record { fairing = fairing.old; shutdown = shutdown.old }) [] (reply_of result) (record { fairing = fairing.new; shutdown = shutdown.new }) }
     ensures hands_back { HandsBack shutdown.old shutdown.new }
 {
     let mut task = P::start(fairing, view);
-    for turn in 0..view.config.turns {
+    for turn in 0..view.config.turns.max(1) {
         match P::poll(fairing, alloc, &mut task, view, shutdown) {
             Step::Pending => {}
             Step::Done(()) => return Called::Done,

@@ -1,7 +1,7 @@
 //! One call at a shutdown, polled to its end.
 ghost use Rattle.std.specs.Prelude.{[]};
 ghost use Rattle.rkt_router.specs.Calls.{Gives};
-ghost use Rattle.rkt_orbit.specs.Calls.{CalledAtShutdown, reply_of};
+ghost use Rattle.rkt_orbit.specs.Calls.{CalledAtShutdown, reply_of, turns_of};
 
 use crate::Called;
 use rkt_fairing::{Parts, ShutdownCallback, Slot, View};
@@ -14,10 +14,10 @@ fn shut_fairing<A: Parts, F, P: ShutdownCallback<A, F>>(
     fairing: &F,
     view: &View<'_, A>,
 ) -> Called
-    ensures { Gives P.calling fairing.now view.now view.now.config.turns tt [] (reply_of result) tt }
+    ensures { Gives P.calling fairing.now view.now (turns_of view.now) tt [] (reply_of result) tt }
 {
     let mut task = P::start(fairing, view);
-    for turn in 0..view.config.turns {
+    for turn in 0..view.config.turns.max(1) {
         match P::poll(fairing, alloc, &mut task, view) {
             Step::Pending => {}
             Step::Done(()) => return Called::Done,

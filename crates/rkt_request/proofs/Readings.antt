@@ -5,7 +5,7 @@ use Rattle.rkt_base.specs.declared.poll.Poll.{Poll}
 use Rattle.rkt_base.specs.declared.poll.Poll.TheVariants.{Ready, Pending}
 use Rattle.rkt_data.specs.Body.{Body}
 use Rattle.rkt_data.specs.Gathering.{Gathering, reads_end}
-use Rattle.rkt_source.specs.Source.{Meaning}
+use Rattle.rkt_source.specs.Source.{Meaning, Polled}
 use Rattle.rkt_data.specs.Stream.{Follows, PullsAtMost}
 use Rattle.rkt_data.specs.Tap.{Tapped, SameTap, ByGate, TapWaits}
 use Rattle.rkt_data.specs.declared.error.DataError.{DataError}
@@ -17,7 +17,7 @@ use Rattle.rkt_request.specs.Guards.{Leads, IsReading, capped_guard, or_bad_requ
 use Rattle.rkt_request.specs.Seen.{Seen}
 use Rattle.rkt_request.specs.declared.from_data.GuardError.{GuardError}
 
-module _ {S : Type 0} (meaning : S → Meaning) (polled : S → Gate → Poll (Result ℕ SourceError) → S → Type 0) where
+module _ {S : Type 0} (meaning : S → Meaning) (polled : Polled S) where
   -- one poll more
   pub leads-more : (gates : List Gate) (gate : Gate) (t u v : Option (Tapped S)) → Leads meaning polled gates t u → SameTap meaning gate.tripped u v → ByGate polled gate Pending u v → Leads meaning polled (gates ++ gate ∷ []) t v
   leads-more [] gate t u v leads same by = (v, rw leads at same, rw leads at by, refl)
@@ -61,7 +61,7 @@ module _ {S : Type 0} (meaning : S → Meaning) (polled : S → Gate → Poll (R
         },
       )
 
-module _ {V S X W : Type 0} (meaning : S → Meaning) (polled : S → Gate → Poll (Result ℕ SourceError) → S → Type 0) (Answers : (S → Meaning) → Gathering S → Gathering S → Poll (Result X DataError) → Type 0) (name : List ℕ) (otherwise : ℕ) where
+module _ {V S X W : Type 0} (meaning : S → Meaning) (polled : Polled S) (Answers : (S → Meaning) → Gathering S → Gathering S → Poll (Result X DataError) → Type 0) (name : List ℕ) (otherwise : ℕ) where
   -- after the last poll
   pub capped-ends : (request : Seen V) (body : Body S) (gates : List Gate) (gate : Gate) (n : ℕ) (a b : Gathering S) (answer : Result X DataError) (outcome : Result (Guarded (Body S) X GuardError) W)
       → (capped_guard {V = V} meaning polled (Answers meaning) name otherwise).begun request body gates n a

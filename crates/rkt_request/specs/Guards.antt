@@ -6,7 +6,7 @@ use Rattle.rkt_base.specs.declared.poll.Poll.{Poll}
 use Rattle.rkt_base.specs.declared.poll.Poll.TheVariants.{Ready, Pending}
 use Rattle.rkt_data.specs.Body.{Body, opened_tap}
 use Rattle.rkt_data.specs.Gathering.{Gathering, GathersBytes, reads_end}
-use Rattle.rkt_source.specs.Source.{Meaning}
+use Rattle.rkt_source.specs.Source.{Meaning, Polled}
 use Rattle.rkt_data.specs.Stream.{Follows, PullsAtMost}
 use Rattle.rkt_data.specs.Text.{AnswersText}
 use Rattle.rkt_data.specs.Tap.{Tapped, SameTap, ByGate}
@@ -47,7 +47,7 @@ pended meaning tap = option_map_or (λ t. (meaning t.now).pended) tap 0
 abbrev pub pendings : {S : Type 0} → (S → Meaning) → Option (Tapped S) → ℕ
 pendings meaning tap = option_map_or (λ t. (meaning t.now).pendings) tap 0
 
-module _ {S : Type 0} (meaning : S → Meaning) (polled : S → Gate → Poll (Result ℕ SourceError) → S → Type 0) where
+module _ {S : Type 0} (meaning : S → Meaning) (polled : Polled S) where
   -- reads under each of these Gates in turn, the last of each Pending, lead a body's source from the first to the second
   abbrev pub Leads : List Gate → Option (Tapped S) → Option (Tapped S) → Type 0
   Leads [] t u = u ≡ t
@@ -85,7 +85,7 @@ or_bad_request (Ok x) = Success x
 or_bad_request (Err e) = Error (bad_request, Io e)
 
 -- the guard that reads a body by such a state, up to the limit of a name
-abbrev pub capped_guard : {V S X : Type 0} → (S → Meaning) → (S → Gate → Poll (Result ℕ SourceError) → S → Type 0) → (Gathering S → Gathering S → Poll (Result X DataError) → Type 0) → List ℕ → ℕ → Guarding V (Body S) X GuardError (Gathering S)
+abbrev pub capped_guard : {V S X : Type 0} → (S → Meaning) → Polled S → (Gathering S → Gathering S → Poll (Result X DataError) → Type 0) → List ℕ → ℕ → Guarding V (Body S) X GuardError (Gathering S)
 capped_guard {V} {S} {X} meaning polled Answers name otherwise = record {
   begun = λ request body gates n reading. (limit : ℕ) × IsLimit name otherwise request limit × IsReading meaning polled limit body gates n reading;
   may = λ request body gates outcome. (limit : ℕ) × IsLimit name otherwise request limit × ((answer : Result X DataError) × Ends meaning polled Answers limit body gates answer × (outcome ≡ or_bad_request answer));
@@ -93,10 +93,10 @@ capped_guard {V} {S} {X} meaning polled Answers name otherwise = record {
 }
 
 -- the guards of a text and of bytes
-abbrev pub text_guard : {V S : Type 0} → (S → Meaning) → (S → Gate → Poll (Result ℕ SourceError) → S → Type 0) → Guarding V (Body S) (Capped (String Global)) GuardError (Gathering S)
+abbrev pub text_guard : {V S : Type 0} → (S → Meaning) → Polled S → Guarding V (Body S) (Capped (String Global)) GuardError (Gathering S)
 text_guard meaning polled = capped_guard meaning polled (AnswersText meaning) (codes "string") 8192
 
-abbrev pub bytes_guard : {V S : Type 0} → (S → Meaning) → (S → Gate → Poll (Result ℕ SourceError) → S → Type 0) → Guarding V (Body S) (Capped (Vec ℕ Global)) GuardError (Gathering S)
+abbrev pub bytes_guard : {V S : Type 0} → (S → Meaning) → Polled S → Guarding V (Body S) (Capped (Vec ℕ Global)) GuardError (Gathering S)
 bytes_guard meaning polled = capped_guard meaning polled (GathersBytes meaning) (codes "bytes") 8192
 
 -- the guard that answers what this makes of another guard's outcome

@@ -70,15 +70,15 @@ impl<'a, T: Types> Model for Request<'a, T> {
 }
 
 impl<'a, T: Types> Request<'a, T> {
-    /// A request without headers.
+    /// A request without headers. It takes no memory.
     pub fn new(
         alloc: Global,
         config: &'a Config,
         managed: &'a Managed<T::Value>,
         method: Method,
         uri: Origin,
-    ) -> Result<Request<'a, T>, NoMemory>
-        ensures { IfOk result (λ request. request ≡ record {
+    ) -> Request<'a, T>
+        ensures { result ≡ record {
           config = config.now;
           managed = managed.now;
           method = method;
@@ -87,10 +87,10 @@ impl<'a, T: Types> Request<'a, T> {
           remote = None;
           headers = [];
           route = None;
-        }) }
+        } }
     {
-        let headers = RequestHeaders::new(alloc, HeaderMap::new(alloc))?;
-        Ok(Request::of_parts(config, managed, method, uri, None, None, headers))
+        let headers = RequestHeaders::none(alloc);
+        Request::of_parts(config, managed, method, uri, None, None, headers)
     }
 
     /// A request that is on no route yet.

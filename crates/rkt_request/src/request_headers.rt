@@ -10,7 +10,7 @@ ghost use Rattle.rkt_media.specs.declared.known.Known.TheVariants.{Any};
 ghost use Rattle.rkt_request.specs.Seen.{IsAccept, IsContentType, ReadAs, first_value};
 
 use rkt_base::{NoMemory, accepted};
-use rkt_http::{Accept, ContentType, Header, HeaderMap, Known, MediaType};
+use rkt_http::{Accept, ContentType, Header, HeaderMap, MediaType};
 use std::alloc::Global;
 use std::marker::Model;
 
@@ -21,7 +21,7 @@ pub(crate) struct RequestHeaders {
     map: HeaderMap,
     content_type: Option<ContentType>,
     accept: Option<Accept>,
-    any: ContentType,
+    any: MediaType,
 }
 
 impl Model for RequestHeaders {
@@ -134,17 +134,29 @@ fn is_first(headers: &HeaderMap, header: &Header, name: &str) -> bool
 }
 
 impl RequestHeaders {
+    /// No headers, which take no memory.
+    pub(crate) fn none(alloc: Global) -> RequestHeaders
+        ensures { result ≡ [] }
+    {
+        RequestHeaders {
+            alloc,
+            map: HeaderMap::new(alloc),
+            content_type: None,
+            accept: None,
+            any: MediaType::any(alloc),
+        }
+    }
+
     pub(crate) fn new(alloc: Global, map: HeaderMap) -> Result<RequestHeaders, NoMemory>
         ensures { IfOk result (λ headers. headers ≡ map) }
     {
-        let any = ContentType::known(alloc, Known::Any)?;
         let (content_type, accept) = read_firsts(alloc, &map)?;
         Ok(RequestHeaders {
             alloc,
             map,
             content_type,
             accept,
-            any,
+            any: MediaType::any(alloc),
         })
     }
 
@@ -170,7 +182,7 @@ impl RequestHeaders {
     pub(crate) fn any(&self) -> &MediaType
         ensures { result.now ≡ known_media Any }
     {
-        self.any.media_type()
+        &self.any
     }
 
     /// Adds a header behind those of its name.

@@ -1,2 +1,3 @@
+pub mod FlashJar
 pub mod FlashLemmas
 pub mod FlashReading

@@ -46,6 +46,10 @@ with_flash flashed jar = record jar { log = jar.log ++ addition (flash_cookie fl
 abbrev pub flashing : {C : Type 0} → Flashed → Lent C → Lent C
 flashing flashed lent = with_jar lent (with_flash flashed lent.kept.jar)
 
+-- what a callback leaves, but for the jar, which is as it was before
+abbrev pub LeavesJar : {C : Type 0} → (Lent C → Type 0) → Lent C → Lent C → Type 0
+LeavesJar {C} Leaves before after = (left : Lent C) × Leaves left × (after ≡ with_jar left before.kept.jar)
+
 -- digits, with or without a plus in front, that a `usize` holds the number of
 pub record SpellsUsize (text : List ℕ) (n : ℕ) : Type 0 where
   pub numeral : IsNumeral 10 (without_leading_plus text)

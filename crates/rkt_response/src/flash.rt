@@ -4,10 +4,10 @@ ghost use Rattle.rkt_cookie.specs.Cookie.{bare};
 ghost use Rattle.rkt_cookie.specs.Encoded.{encoded_text};
 ghost use Rattle.rkt_cookie.specs.Jar.{addition};
 ghost use Rattle.rkt_cookie.specs.Reading.{first_piece};
-ghost use Rattle.rkt_response.specs.Flash.{ReadsFlash, SaysFlash, flash_cookie, flash_name, flash_text, flashing, with_flash};
+ghost use Rattle.rkt_response.specs.Flash.{LeavesJar, ReadsFlash, SaysFlash, flash_cookie, flash_name, flash_text, flashing, with_flash};
 
 use crate::responder::{Responder, ResponseResult};
-use rkt_base::{NoMemory, Text};
+use rkt_base::{NoMemory, Text, Want};
 use rkt_cookie::{Cookie, CookieJar};
 use rkt_request::{Ctx, Request, Types};
 use std::alloc::Global;
@@ -117,11 +117,12 @@ impl<R: Drop> Flash<R> {
     }
 }
 
-/// The response of the responder, which runs behind the flash's cookie.
+/// The response of the responder, which runs behind the flash's cookie. Where memory runs out, the jar is as it was.
 impl<T: Types, R: Responder<T> + Drop> Responder<T> for Flash<R> {
     ghost may = { λ flash seen before answer after. R.may flash.responder seen (flashing flash.flashed before) answer after };
 
-    ghost starves = { λ flash seen before after. (after ≡ before) ⊎ R.starves flash.responder seen (flashing flash.flashed before) after };
+    ghost starves = { λ flash seen before after.
+        (after ≡ before) ⊎ LeavesJar (R.starves flash.responder seen (flashing flash.flashed before)) before after };
 
     fn respond_to(
         self,
@@ -129,7 +130,15 @@ impl<T: Types, R: Responder<T> + Drop> Responder<T> for Flash<R> {
         request: &Request<'_, T>,
         ctx: &mut Ctx<T>,
     ) -> ResponseResult<T::Stream> {
+        let changes = ctx.cookies().changes();
         self.add_to(alloc, ctx.cookies_mut())?;
-        self.into_inner().respond_to(alloc, request, ctx)
+        match self.into_inner().respond_to(alloc, request, ctx) {
+            Ok(response) => Ok(response),
+            Err(Want::Refused(status)) => Err(Want::Refused(status)),
+            Err(Want::NoMemory) => {
+                ctx.cookies_mut().take_back(changes);
+                Err(Want::NoMemory)
+            }
+        }
     }
 }

@@ -7,7 +7,7 @@ use Rattle.rkt_grammar.specs.Grammar.{is_alphanumeric}
 use Rattle.rkt_uri.specs.Origin.{Target, IsOrigin, IsTarget, SaysWhatItSpells, Spells, is_bracket, is_path_byte, query_text, spelling}
 use Rattle.rkt_uri.specs.declared.origin_place.Profile.{Profile}
 use Rattle.rkt_uri.specs.declared.origin_place.Profile.TheVariants.{Request, Route}
-use Rattle.rkt_route.specs.RouteUri.{MountedUri, SpellsMounted, LeavesMountedAt, IsRebased, mounted_at, root}
+use Rattle.rkt_route.specs.RouteUri.{MountedUri, SpellsMounted, LeavesMountedAt, IsRebased, mounted_at, path_alone, root}
 
 -- a test that passes goes on to pass where more passes
 wider : (a b more : Bool) → (a || b || false) ≡ true → (a || b || more) ≡ true
@@ -59,9 +59,23 @@ rebased said uri base text m fits is s = record {
   joined = s.joined ∙ ap (mounted_at s.base_target) (spelled_alike said Route text s.uri_target uri.unmounted s.uri_spelled (record { fits = fits; spelled = is }));
 }
 
+-- and what is mounted anew is spelled by that text
+pub rebased_spells : (uri : MountedUri) (base text : List ℕ) (m : MountedUri) → IsTarget Route uri.unmounted → text ≡ spelling uri.unmounted → IsRebased uri base m → SpellsMounted base text m
+rebased_spells uri base text m fits is r = record {
+  base_target = r.base;
+  uri_target = uri.unmounted;
+  base_spelled = r.spelled;
+  uri_spelled = record { fits = fits; spelled = is };
+  joined = r.joined;
+}
+
 -- the root is a base
 pub root_spelled : Spells Request (codes "/") root
 root_spelled = record { fits = record { begins = ([], refl); path = (refl, tt); query = tt }; spelled = refl }
 
 pub leaves_below_root : (uri : List ℕ) (at : ℕ) → LeavesMountedAt (codes "/") uri at → LeavesAt (IsOrigin Route) uri at
 leaves_below_root uri at leaves = elim leaves [ inl of_base ↦ absurd (of_base.outside (root, root_spelled)) | inr of_uri ↦ of_uri.1 ]
+
+-- what is spelled is spelled without its query too
+pub path_alone_fits : (profile : Profile) (target : Target) → IsTarget profile target → IsTarget profile (path_alone target)
+path_alone_fits profile target fits = record { begins = fits.begins; path = fits.path; query = tt }

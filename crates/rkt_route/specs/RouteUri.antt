@@ -72,8 +72,9 @@ query_weight (segment ∷ segments) = weight (color_of (segment ∷ segments))
 abbrev pub default_rank : Target → ℤ
 default_rank origin = pos 3 -ℤ pos (4 * weight (color_of (path_segments origin)) + query_weight (query_segments origin))
 
--- what is mounted has a spelling, and the parts that are kept beside the URI are those of it
+-- the base and what is mounted there have spellings, and the parts that are kept beside the URI are those of it
 pub record IsRead (uri : MountedUri) (segments : List Segment) (fields : List (List ℕ × List ℕ)) (rank : ℤ) : Type 0 where
+  pub base_fits : IsTarget Request uri.base
   pub unmounted_fits : IsTarget Route uri.unmounted
   pub segments_are : segments ≡ path_segments uri.origin
   pub fields_are : fields ≡ static_fields uri.origin

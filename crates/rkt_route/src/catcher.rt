@@ -2,10 +2,11 @@ ghost use Rattle.std.specs.Prelude.{◌≡◌, Some, None, Ok, IfOk, IfSome, cod
 ghost use Rattle.std.specs.Fn.{FnOnceTakesAt, FnOnceReturnsAt};
 ghost use Rattle.rkt_base.specs.Want.{IfRefused, GivesUnlessNoMemory};
 ghost use Rattle.rkt_grammar.specs.Grammar.{LeavesAt};
-ghost use Rattle.rkt_uri.specs.Origin.{IsOrigin, Spells, Target, normalized};
+ghost use Rattle.rkt_uri.specs.Origin.{IsOrigin};
 ghost use Rattle.rkt_route.specs.Catcher.{IsErrorCode, catcher_at_root, catcher_of_info, IsMovedTo};
-ghost use Rattle.rkt_route.specs.RouteUri.{path_alone, root};
+ghost use Rattle.rkt_route.specs.RouteUri.{root};
 
+use crate::Base;
 use rkt_base::{NoMemory, Text, Want};
 use rkt_http::{InvalidUri, Origin, Profile};
 use std::alloc::{AllocError, Global};
@@ -32,7 +33,7 @@ pub enum Catching<C> {
 #[derive(Drop)]
 pub struct Catcher<C> {
     pub name: Option<Text>,
-    pub base: Origin,
+    pub base: Base,
     pub code: Option<u16>,
     pub handler: Catching<C>,
 }
@@ -56,24 +57,14 @@ fn bad_code(code: Option<u16>) -> Option<BadCode>
     }
 }
 
-/// The origin `/`, which is read unless memory runs out.
-fn root(alloc: Global) -> Result<Origin, NoMemory>
-    ensures { IfOk result (λ o. o ≡ root) }
+/// The base `/`, which is read unless memory runs out.
+fn root(alloc: Global) -> Result<Base, NoMemory>
+    ensures { IfOk result (λ b. b ≡ root) }
 {
-    match Origin::parse(alloc, "/") {
+    match Base::parse(alloc, "/") {
         Ok(root) => Ok(root),
         Err(_) => Err(AllocError),
     }
-}
-
-/// The base that a text spells, without its query.
-fn read_base(alloc: Global, text: &str) -> Result<Origin, Want<InvalidUri>>
-    ensures accepted { IfOk result (λ o. (b : Target) × Spells Profile.Request text.now b × (o ≡ normalized (path_alone b))) }
-    ensures refused { IfRefused result (λ e. LeavesAt (IsOrigin Profile.Request) text.now e.at) }
-{
-    let mut base = Origin::parse(alloc, text)?;
-    base.clear_query();
-    Ok(base.into_normalized(alloc)?)
 }
 
 impl<C: Drop> Catcher<C> {
@@ -131,12 +122,12 @@ impl<C: Drop> Catcher<C> {
         // A refusal names the place where the mapper's text leaves the grammar, so that a base is never refused.
         ensures refused { IfRefused result (λ e. (text : _) × FnOnceReturnsAt F.FnOnce mapper self.base (Ok text) × LeavesAt (IsOrigin Profile.Request) (string_bytes text) e.at) }
     {
-        let Ok(text) = mapper(&self.base) else {
+        let Ok(text) = mapper(self.base.origin()) else {
             // By calls, in which that is proved once for its type.
             drop(self);
             return Err(Want::NoMemory);
         };
-        match read_base(alloc, text.as_str()) {
+        match Base::parse_normal(alloc, text.as_str()) {
             Ok(base) => {
                 drop(replace(&mut self.base, base));
                 Ok(self)

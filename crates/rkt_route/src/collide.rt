@@ -89,6 +89,6 @@ impl<C> Collide for Catcher<C> {
     ghost collides = { CatchersCollide };
 
     fn collides_with(&self, other: &Catcher<C>) -> bool {
-        self.code == other.code && self.base.segments() == other.base.segments()
+        self.code == other.code && self.base.origin().segments() == other.base.origin().segments()
     }
 }

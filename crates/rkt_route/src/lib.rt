@@ -1,6 +1,7 @@
 //! Routes and catchers: where they are mounted, what they are made of, and which of them collide.
 #![tactic(auto)]
 
+mod base;
 pub mod catcher;
 mod collide;
 mod collisions;
@@ -9,6 +10,7 @@ pub mod route;
 mod route_uri;
 mod segment;
 
+pub use base::Base;
 pub use catcher::{BadCode, Catcher, Catching};
 pub use collide::Collide;
 pub use collisions::{Collisions, colliding_pairs};

@@ -142,7 +142,8 @@ impl RouteUri {
         unmounted: Origin,
         origin: Origin,
     ) -> Result<RouteUri, NoMemory>
-        requires { IsTarget Profile.Route unmounted }
+        requires base_fits { IsTarget Profile.Request base }
+        requires uri_fits { IsTarget Profile.Route unmounted }
         ensures { IfOk result (λ u. u ≡ record { base = normalized base; unmounted = normalized unmounted; origin = normalized origin }) }
     {
         let Ok(base) = base.into_normalized(alloc) else {
@@ -205,7 +206,8 @@ impl RouteUri {
         unmounted: Origin,
         origin: Origin,
     ) -> Result<RouteUri, NoMemory>
-        requires { IsTarget Profile.Route unmounted }
+        requires base_fits { IsTarget Profile.Request base }
+        requires uri_fits { IsTarget Profile.Route unmounted }
         ensures { IfOk result (λ u. u ≡ record { base = base; unmounted = unmounted; origin = origin }) }
     {
         let parts = read_parts(alloc, &origin)?;
@@ -249,7 +251,9 @@ impl RouteUri {
 
     /// The base, which has no query.
     pub fn base_origin(&self) -> &Origin
-        ensures { result.now ≡ self.now.base }
+        ensures value { result.now ≡ self.now.base }
+        // It is one that was read as a base.
+        ensures fits { IsTarget Profile.Request self.now.base }
     {
         &self.base
     }

@@ -15,7 +15,7 @@ use Rattle.rkt_router.specs.declared.turn.Final.TheVariants as final
 
 -- every Gate fits the rule that says nothing
 pub any_gate_fits : (gate : Gate) → GateFits any_gate gate
-any_gate_fits gate = record { moment = tt; delays = tt; trip = λ same. absurd (true≢false same) }
+any_gate_fits gate = record { moment = tt; delays = tt; trip = λ same. absurd (true≢false same); shown = tt }
 
 -- a fact of a call that was not starved, made of another
 pub OnceOver-map : {O : Type 0} (reply : Final O) {P Q : Type 0} → (P → Q) → OnceOver reply P → OnceOver reply Q

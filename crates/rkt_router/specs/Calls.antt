@@ -1,7 +1,7 @@
 -- One call of a callback, from its start to its end: the Gates that it is polled under, what it gives, and what each of its
 -- turns makes of it.
 use Rattle.std.specs.Prelude.{◌≡◌, ◌≢◌, ◌≤◌, ◌<◌, ◌++◌, ◌∷◌, ◌⊎◌, [], ℕ, List, Bool, true, false, Option, None, IfSome, IsNone, length, ⊤}
-use Rattle.std.specs.List.{All}
+use Rattle.std.specs.List.{All, IsAmong}
 use Rattle.rkt_source.specs.declared.source.Gate.{Gate}
 use Rattle.rkt_router.specs.Calling.{Calling}
 use Rattle.rkt_router.specs.declared.step.Step.{Step}
@@ -19,10 +19,12 @@ pub record GateRule : Type 0 where
   pub delays : Option (ℕ × ℕ)
   -- whether the word of a trip may be shown
   pub may_trip : Bool
+  -- the Gates themselves, where they are told
+  pub shown : Option (List Gate)
 
 -- the rule that every Gate fits
 abbrev pub any_gate : GateRule
-any_gate = record { window = None; delays = None; may_trip = true }
+any_gate = record { window = None; delays = None; may_trip = true; shown = None }
 
 -- a moment is in a window, where there is one
 abbrev pub InWindow : Option (ℕ × ℕ) → ℕ → Type 0
@@ -33,6 +35,7 @@ pub record GateFits (rule : GateRule) (gate : Gate) : Type 0 where
   pub moment : InWindow rule.window gate.moment
   pub delays : IfSome rule.delays (λ d. (gate.grace ≡ d.0) × (gate.mercy ≡ d.1))
   pub trip : rule.may_trip ≡ false → IsNone gate.tripped
+  pub shown : IfSome rule.shown (λ gates. IsAmong gates gate)
 
 -- a fact of a call that was not starved
 abbrev pub OnceOver : {O : Type 0} → Final O → Type 0 → Type 0
@@ -57,11 +60,17 @@ module _ {Self Handed Held Answer Task : Type 0} (C : Calling Self Handed Held A
     -- it may answer Fault, or be Pending at its last turn
     pub cause : C.may_fault callback handed before ⊎ (turns ≤ C.pendings callback handed before)
 
+  -- a call may be left off where there is no memory, and this is what it leaves
+  pub record Starves (before : Held) (gates : List Gate) (after : Held) : Type 0 where
+    pub task : Task
+    pub pended : ℕ
+    pub begun : C.begun callback handed task before after gates pended
+
   -- what a whole call gives, polled under these Gates
   abbrev pub Gives : ℕ → Held → List Gate → Final Answer → Held → Type 0
   Gives turns before gates (Done answer) after = C.may callback handed before gates answer after
   Gives turns before gates FailedTurn after = Fails turns before gates after
-  Gives turns before gates Starved after = ⊤
+  Gives turns before gates Starved after = Starves before gates after
 
   -- a call is under way after n turns, each of them Pending, and another turn is left
   pub record GoesOn (turns : ℕ) (before : Held) (gates : List Gate) (task : Task) (now : Held) (n : ℕ) : Type 0 where

@@ -1,5 +1,5 @@
 -- The page that answers for a status where no catcher of the application does. S is the type of streams.
-use Rattle.std.specs.Prelude.{◌≡◌, ℕ, List, [], ◌∷◌, Bool, Option, Some, None, codes, if◌then◌else◌}
+use Rattle.std.specs.Prelude.{◌≡◌, ℕ, List, [], ◌∷◌, Bool, Option, Some, codes, length, if◌then◌else◌}
 use Rattle.rkt_media.specs.Accept.{Weighed}
 use Rattle.rkt_http.specs.DefaultPage.{html_page, json_page}
 use Rattle.rkt_http.specs.Headers.{Group}
@@ -9,12 +9,12 @@ use Rattle.rkt_message.specs.Body.{body_of}
 use Rattle.rkt_message.specs.Response.{ResponseOf}
 use Rattle.rkt_message.specs.declared.content.Content.TheVariants.{Sized}
 
--- a body of one type
+-- a body of one type, with its size
 abbrev pub typed : {S : Type 0} → ℕ → List ℕ → List ℕ → ResponseOf S
 typed code content_type body = record {
   status = Some code;
   headers = record { name = codes "Content-Type"; values = content_type ∷ [] } ∷ [];
-  body = body_of (Sized body None);
+  body = body_of (Sized body (Some (length body)));
 }
 
 -- whether the media type that these headers prefer is JSON; where they accept none, they prefer any

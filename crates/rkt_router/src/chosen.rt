@@ -10,7 +10,8 @@ use rkt_request::{Request, Types};
 fn catches<C, T: Types>(catcher: &Catcher<C>, status: Status, request: &Request<'_, T>) -> bool
     ensures { IsTrue result ↔ Catches catcher.now status.code request.now }
 {
-    is_for(catcher.code, status.code) && catcher.base.segments().prefix_of(request.uri().segments())
+    let base = catcher.base.origin();
+    is_for(catcher.code, status.code) && base.segments().prefix_of(request.uri().segments())
 }
 
 fn is_for(code: Option<u16>, status: u16) -> bool
@@ -26,7 +27,10 @@ fn is_for(code: Option<u16>, status: u16) -> bool
 fn outranks<C>(one: &Catcher<C>, other: &Catcher<C>) -> bool
     ensures { IsTrue result ↔ Outranks one.now other.now }
 {
-    let (count, other_count) = (one.base.segments().len(), other.base.segments().len());
+    let (count, other_count) = (
+        one.base.origin().segments().len(),
+        other.base.origin().segments().len(),
+    );
     other_count < count || (count == other_count && one.code.is_some() && other.code.is_none())
 }
 

@@ -20,7 +20,7 @@ pub use handler::{CatchHandler, Handler};
 pub use outcome::RouteOutcome;
 pub use page::default_handler;
 pub use rkt_route::{
-    BadCode, Catcher, Catching, Collide, Collisions, Color, Route, RouteUri, Segment, Sentry,
+    BadCode, Base, Catcher, Catching, Collide, Collisions, Color, Route, RouteUri, Segment, Sentry,
 };
 pub use router::Router;
 pub use step::Step;

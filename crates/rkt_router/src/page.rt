@@ -9,7 +9,7 @@ use rkt_request::{Request, Types};
 use rkt_source::Source;
 use std::alloc::Global;
 
-/// A body of this type.
+/// A body of this type, with its size.
 fn typed<S: Source>(
     alloc: Global,
     status: Status,
@@ -21,7 +21,7 @@ fn typed<S: Source>(
     let mut response = Response::new(alloc);
     response.set_status(status);
     response.adjoin_raw_header("Content-Type", content_type)?;
-    response.set_sized_body(None, body.into_bytes());
+    response.set_sized_body(Some(body.len()), body.into_bytes());
     Ok(response)
 }
 

@@ -134,7 +134,11 @@ impl<H: Drop, C: Drop, S: Drop> Router<H, C, S> {
         ensures err { OnErr result (self.new ≡ self.old) }
     {
         // With this room the insertion below cannot fail.
-        self.order.reserve(1)?;
+        if let Err(error) = self.order.reserve(1) {
+            // By a call, in which that is proved once for its type.
+            drop(route);
+            return Err(error);
+        }
         let position = self.routes.len();
         self.routes.push(route)?;
         let place = place_behind(

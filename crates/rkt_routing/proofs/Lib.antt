@@ -1,4 +1,5 @@
 pub mod Endings
+pub mod InOrder
 pub mod Routes
 pub mod Statuses
 pub mod Steps

@@ -11,3 +11,4 @@ pub mod Routed
 pub mod RoutedLaws
 pub mod Stands
 pub mod Table
+pub mod WalkOrder

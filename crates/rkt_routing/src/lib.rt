@@ -3,6 +3,7 @@
 #![tactic(auto)]
 
 mod catching;
+mod laws;
 mod progress;
 mod recording;
 mod routing;
@@ -11,6 +12,7 @@ mod stage;
 mod table;
 mod trying;
 
+pub use laws::walks_are_in_order;
 pub use progress::Progress;
 pub use recording::recorded;
 pub use routing::{Routed, RoutingOf};

@@ -19,7 +19,7 @@ use Rattle.rkt_data.specs.declared.capped.Capped.{Capped}
 use Rattle.rkt_data.specs.declared.error.DataError.{DataError}
 use Rattle.rkt_data.specs.declared.error.DataError.TheVariants as error
 use Rattle.rkt_request.specs.Guards.{read_of}
-use Rattle.rkt_source.specs.Source.{Meaning}
+use Rattle.rkt_source.specs.Source.{Meaning, Polled}
 use Rattle.rkt_source.specs.declared.source.Gate.{Gate}
 use Rattle.rkt_source.specs.declared.source.SourceError.{SourceError}
 use Rattle.rkt_source.specs.declared.source.SourceError.TheVariants as source_error
@@ -39,11 +39,11 @@ pub record IsTold {S : Type 0} (meaning : S → Meaning) : Type 0 where
 -- how a source is read, whose shutdown is told so
 pub record Reading (S : Type 0) : Type 1 where
   pub shuts : S → Poll (Unit {0}) → S → Type 0
-  pub polled : S → Gate → Poll (Result ℕ SourceError) → S → Type 0
+  pub polled : Polled S
 
 -- and how it is read where it may be cut off
-abbrev pub reads_cut : {S : Type 0} → Reading S → Cancellable S → Gate → Poll (Result ℕ SourceError) → Cancellable S → Type 0
-reads_cut reading s gate answer t = ReadsCut reading.shuts reading.polled s gate answer t
+abbrev pub reads_cut : {S : Type 0} → Reading S → Polled (Cancellable S)
+reads_cut reading = ReadsCut reading.shuts reading.polled
 
 -- a body's bytes are those of it once it is opened
 opened_whole : {X : Type 0} (meaning : X → Meaning) (complete : Bool) (held w : List ℕ) (tap : Option (Tapped X)) → (IsTrue complete → ForSome (body meaning held tap) (λ all. held ≡ all)) → body meaning held tap ≡ Some w

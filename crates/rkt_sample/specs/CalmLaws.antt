@@ -13,6 +13,7 @@ use Rattle.rkt_cancel.specs.declared.stage.Stage.{Stage}
 use Rattle.rkt_cancel.specs.declared.stage.Stage.TheVariants.{Active, Grace, Mercy, Gone}
 use Rattle.rkt_data.specs.Tap.{Polls, PollsTo}
 use Rattle.rkt_router.specs.Calls.{GateFits, GateRule, InWindow}
+use Rattle.rkt_source.specs.Source.{Polled, ReadOnce}
 use Rattle.rkt_source.specs.declared.source.Gate.{Gate}
 use Rattle.rkt_source.specs.declared.source.SourceError.{SourceError}
 use Rattle.rkt_sample.specs.Calm.{IsCalm, IsWithinGrace, KeepsOpen, StillOpen}
@@ -137,10 +138,10 @@ pub last_open : (gates : List Gate) (gate : Gate) (s : Stage) → KeepsOpen (gat
 last_open [] gate s goes = goes.0
 last_open (first ∷ gates) gate s goes = before_one first gate s goes.0 (last_open gates gate (advanced first s) goes.1)
 
-module _ {S : Type 0} (shuts : S → Poll (Unit {0}) → S → Type 0) (polled : S → Gate → Poll (Result ℕ SourceError) → S → Type 0) (gate : Gate) where
+module _ {S : Type 0} (shuts : S → Poll (Unit {0}) → S → Type 0) (polled : Polled S) (gate : Gate) where
   -- how a source is read that may be cut off
-  abbrev pub Cut : Cancellable S → Gate → Poll (Result ℕ SourceError) → Cancellable S → Type 0
-  Cut s g answer t = ReadsCut shuts polled s g answer t
+  abbrev pub Cut : Polled (Cancellable S)
+  Cut = ReadsCut shuts polled
 
   not_closed_at : (t : Stage) (io : S) (after : Cancellable S) (refusal : Poll Refused) → is_open t ≡ true → ClosedAt shuts gate t io after refusal → ⊥
   not_closed_at Active io after refusal goes closed = closed
@@ -148,12 +149,12 @@ module _ {S : Type 0} (shuts : S → Poll (Unit {0}) → S → Type 0) (polled :
   not_closed_at (Mercy saw cut) io after refusal goes closed = false≢true goes
   not_closed_at (Gone saw cut) io after refusal goes closed = false≢true goes
 
-  read_open : (answer : Poll (Result ℕ SourceError)) (s t : Cancellable S) → is_open (advanced gate s.stage) ≡ true → Cut s gate answer t → t.stage ≡ advanced gate s.stage
-  read_open answer s t goes read = ⊎_elim (λ through. through.1) (λ refused. absurd (not_closed_at (advanced gate s.stage) s.io t refused.0 goes refused.1)) read
+  read_open : (answer : Poll (Result ℕ SourceError)) (s t : Cancellable S) → is_open (advanced gate s.stage) ≡ true → ReadOnce Cut gate answer s t → t.stage ≡ advanced gate s.stage
+  read_open answer s t goes read = ⊎_elim (λ through. through.1) (λ refused. absurd (not_closed_at (advanced gate s.stage) s.io t refused.0 goes refused.1)) read.2
 
   polls_open : {s t : Cancellable S} → Polls Cut gate s t → is_open (advanced gate s.stage) ≡ true → is_open (advanced gate t.stage) ≡ true
   polls_open Polls.none goes = goes
-  polls_open (Polls.more {t = t} {u = u} earlier read) goes =
+  polls_open (Polls.more {t = t} {u = u} earlier some read) goes =
       let here = polls_open earlier goes in
       subst (λ (stage : Stage). is_open (advanced gate stage) ≡ true) (sym (read_open _ t u here read)) (again_open gate t.stage here)
 

@@ -1,16 +1,14 @@
 -- The lines that belong to the request before them.
-use Rattle.std.proofs.Common.{zero, suc, ◌≡◌, ◌<◌, ◌≤◌, ◌+◌, ◌-◌, ◌⊎◌, inl, inr, ◌++◌, ◌&&◌, ℕ, List, [], ◌∷◌, Bool, true, false, get_or, length, take, drop, refl, ap, ◌∙◌, sym, subst, arith}
+use Rattle.std.proofs.Common.{zero, suc, ◌≡◌, ◌<◌, ◌≤◌, ◌+◌, ◌⊎◌, inl, inr, ◌++◌, ◌&&◌, ℕ, List, [], ◌∷◌, Bool, true, false, get_or, length, take, drop, refl, ap, ◌∙◌, sym, subst, arith}
 use Rattle.std.specs.List.{list_all, prefix_len, take_while}
 use Rattle.std.proofs.lemmas.List.Sums.{prefix_len-le-length, prefix_len_is, prefix_len_passes}
-use Rattle.std.specs.Prelude.{slice_index_or, slice_set}
 use Rattle.std.specs.Str.{IsUtf8}
 use Rattle.std.proofs.lemmas.Bool.{false≢true}
 use Rattle.std.proofs.lemmas.Bool.Decides.{nat_tests}
 use Rattle.std.proofs.lemmas.Str.{IsUtf8-from_ascii}
 use Rattle.rkt_grammar.specs.Grammar.{is_token_byte}
-use Rattle.rkt_script.proofs.Requests.{all_of_word, ascii_of_all, first_of_both}
-use Rattle.rkt_script.specs.Script.{IsHeader, IsPiece, IsRequest, header_of, is_capital, is_word, with_last}
-use Rattle.rkt_script.specs.declared.script.ScriptRequest.{ScriptRequest}
+use Rattle.rkt_script.proofs.Requests.{all_of_word, ascii_of_all}
+use Rattle.rkt_script.specs.Script.{IsHeader, is_word}
 
 -- a word is what passes its test in front of a byte that does not
 module _ (test : ℕ → Bool) (b : ℕ) (stops : test b ≡ false) (rest : List ℕ) where
@@ -102,66 +100,16 @@ word_of : (test : ℕ → Bool) (word : List ℕ) → 0 < length word → list_a
 word_of test [] some all = absurd (omega (arith, some))
 word_of test (b ∷ word) some all = grind (arith, nat_tests, all)
 
-behind_name : (name value : List ℕ) → drop (length name + 2) (name ++ 58 ∷ 32 ∷ value) ≡ value
-behind_name [] value = refl
-behind_name (b ∷ name) value = let more : suc (length name) + 2 ≡ suc (length name + 2) = omega arith in rw more (behind_name name value)
-
-behind_field : (name value : List ℕ) → drop (length name + 4) (58 ∷ 32 ∷ (name ++ 58 ∷ 32 ∷ value)) ≡ value
-behind_field name value = let more : length name + 4 ≡ suc (suc (length name + 2)) = omega arith in rw more (behind_name name value)
-
 -- what was cut so is a name and a value
-pub field_read : (content text name rest value : List ℕ) → content ≡ 58 ∷ 32 ∷ text → name ≡ take_while is_token_byte text → text ≡ name ++ rest → rest ≡ 58 ∷ 32 ∷ value → 0 < length name
-    → IsHeader content name value × (header_of content ≡ (name, value))
+pub field_read : (content text name rest value : List ℕ) → content ≡ 58 ∷ 32 ∷ text → name ≡ take_while is_token_byte text → text ≡ name ++ rest → rest ≡ 58 ∷ 32 ∷ value → 0 < length name → IsHeader content name value
 field_read content text name rest value begins token parts behind some =
     let text_is : text ≡ name ++ 58 ∷ 32 ∷ value = parts ∙ ap (λ (r : List ℕ). name ++ r) behind in
     let all : list_all is_token_byte name ≡ true = subst (λ (word : List ℕ). list_all is_token_byte word ≡ true) (sym token) (run_passes text) in
-    let whole : content ≡ 58 ∷ 32 ∷ (name ++ 58 ∷ 32 ∷ value) = begins ∙ ap (λ (t : List ℕ). 58 ∷ 32 ∷ t) text_is in
-    let first : take_while is_token_byte (drop 2 content) ≡ name = ap (λ (c : List ℕ). take_while is_token_byte (drop 2 c)) begins ∙ sym token in
-    let second : drop (length name + 4) content ≡ value = ap (drop (length name + 4)) whole ∙ behind_field name value in (
-      record { spelled = whole; token = word_of is_token_byte name some all },
-      ap (λ (word : List ℕ). (word, drop (length word + 4) content)) first ∙ ap (λ (v : List ℕ). (name, v)) second,
-    )
+    record { spelled = begins ∙ ap (λ (t : List ℕ). 58 ∷ 32 ∷ t) text_is; token = word_of is_token_byte name some all }
 
 -- a text that is cut behind its longest token
 pub token_run : (text : List ℕ) (n : ℕ) → n ≤ length text → ((k : ℕ) → k < n → is_token_byte (get_or text k 0) ≡ true) → (n < length text → is_token_byte (get_or text n 0) ≡ false) → take n text ≡ take_while is_token_byte text
 token_run text n within runs stops = ap (λ (m : ℕ). take m text) (sym (prefix_len_is is_token_byte text n 0 within runs stops))
-
--- the last request changed is the list with another one in its place
-last_set : (change : ScriptRequest → ScriptRequest) (requests : List ScriptRequest) (last new : ScriptRequest) → 0 < length requests → last ≡ slice_index_or requests (length requests - 1) last → new ≡ change last
-    → slice_set requests (length requests - 1) new ≡ with_last change requests
-last_set change [] last new some is made = absurd (omega (arith, some))
-last_set change (request ∷ []) last new some is made =
-    let none : length (request ∷ []) - 1 ≡ 0 = omega arith in
-    let same : last ≡ request = subst (λ (n : ℕ). last ≡ slice_index_or (request ∷ []) n last) none is in
-    subst (λ (n : ℕ). slice_set (request ∷ []) n new ≡ change request ∷ []) (sym none) (ap (λ (r : ScriptRequest). r ∷ []) (made ∙ ap change same))
-last_set change (request ∷ other ∷ others) last new some is made =
-    let step : length (request ∷ other ∷ others) - 1 ≡ suc (length (other ∷ others) - 1) = omega arith in
-    let there = subst (λ (n : ℕ). last ≡ slice_index_or (request ∷ other ∷ others) n last) step is in
-    subst (λ (n : ℕ). slice_set (request ∷ other ∷ others) n new ≡ request ∷ with_last change (other ∷ others)) (sym step)
-    (ap (λ (rs : List ScriptRequest). request ∷ rs) (last_set change (other ∷ others) last new (omega arith) there made))
-
-pub last_changed : (change : ScriptRequest → ScriptRequest) (requests : List ScriptRequest) (count : ℕ) (last new : ScriptRequest) → count ≡ length requests → 0 < count → last ≡ slice_index_or requests (count - 1) last
-    → new ≡ change last → slice_set requests (count - 1) new ≡ with_last change requests
-last_changed change requests count last new same some is made =
-    subst (λ (n : ℕ). slice_set requests (n - 1) new ≡ with_last change requests) (sym same)
-    (last_set change requests last new (omega (arith, same, some)) (subst (λ (n : ℕ). last ≡ slice_index_or requests (n - 1) last) same is) made)
-
--- what begins with no capital is no request
-pub no_request : (b : ℕ) (bs method target : List ℕ) → is_capital b ≡ false → ¬ IsRequest (b ∷ bs) method target
-no_request b bs [] target other request = false≢true request.letters
-no_request b bs (c ∷ method) target other request =
-    let same : b ≡ c = cc request.spelled in
-    false≢true (sym other ∙ ap is_capital same ∙ first_of_both (is_capital c) (list_all is_capital method) (all_of_word is_capital (c ∷ method) request.letters))
-
-first_byte : (b c : ℕ) (bs cs : List ℕ) → b ∷ bs ≡ c ∷ cs → b ≡ c
-first_byte b c bs cs same = cc same
-
--- by its first byte a line is no header, or no piece of a body
-pub header_byte : (b : ℕ) (bs name value : List ℕ) → IsHeader (b ∷ bs) name value → b ≡ 58
-header_byte b bs name value header = first_byte b 58 bs _ header.spelled
-
-pub piece_byte : (b : ℕ) (bs bytes : List ℕ) → IsPiece (b ∷ bs) bytes → b ≡ 61
-piece_byte b bs bytes piece = first_byte b 61 bs _ piece
 
 -- one more byte of a token
 pub next_token : (text : List ℕ) (n : ℕ) → ((k : ℕ) → k < n → is_token_byte (get_or text k 0) ≡ true) → is_token_byte (get_or text n 0) ≡ true → (k : ℕ) → k < n + 1 → is_token_byte (get_or text k 0) ≡ true

@@ -1,66 +1,77 @@
 -- What the lines of a script offer, line by line.
-use Rattle.std.proofs.Common.{suc, ◌≡◌, ◌∙◌, ◌⊎◌, inl, inr, ℕ, List, [], ◌∷◌, Bool, true, false, Option, Some, None, codes, take, refl, ap, arith, sym}
-use Rattle.std.specs.Prelude.{fold}
-use Rattle.std.specs.List.{before_first, position_or_len}
+use Rattle.std.proofs.Common.{suc, ◌≡◌, ◌-◌, ◌∙◌, ◌⊎◌, inl, inr, ℕ, List, [], ◌∷◌, Bool, true, false, Option, Some, None, length, take, ap, arith, sym, subst}
+use Rattle.std.specs.List.{position_or_len}
 use Rattle.std.specs.Option.{is_some, option_map}
 use Rattle.std.proofs.lemmas.Bool.{false≢true}
-use Rattle.std.proofs.lemmas.Slice.Eq.{bytes_eq-Decides}
-use Rattle.rkt_script.specs.Script.{IsContent, add_line, content_of, is_shutdown}
+use Rattle.rkt_script.proofs.Reader.{adds_once}
+use Rattle.rkt_script.specs.Script.{Adds, AddsWithin, Lead, OffersOnce, content_of, is_shutdown, lines_of, offering}
 use Rattle.rkt_script.specs.declared.script.ScriptRequest.{ScriptRequest}
+use Rattle.rkt_script.specs.declared.script.TheConstants.{SCRIPT_LIMIT}
+
+-- lines lead from some requests to one list of them
+pub lead_once : (room : ℕ) (before : List ScriptRequest) (lines : List (List ℕ)) (one other : List ScriptRequest) → Lead room before lines one → Lead room before lines other → other ≡ one
+lead_once room before [] one other is is' = is' ∙ sym is
+lead_once room before (line ∷ lines) one other is is' =
+    let same : is'.0 ≡ is.0 = adds_once before (content_of line) is.0 is'.0 is.1.1 is'.1.1 in
+    lead_once (room - length line) is.0 lines one other is.2 (subst (λ (rs : List ScriptRequest). Lead (room - length line) rs lines other) same is'.2)
+
+pub offers_one : OffersOnce
+offers_one script one other is is' = lead_once SCRIPT_LIMIT [] (offering (lines_of script)) one other is is'
 
 -- a line that is a `shutdown`
 abbrev pub ends : List ℕ → Bool
 ends line = is_shutdown (content_of line)
 
-abbrev pub behind_line : List ScriptRequest → List ℕ → List ScriptRequest
-behind_line requests line = add_line requests (content_of line)
+-- What is offered, by what was offered before the first `shutdown`, if there was one, or else by the requests so far and by the
+-- lines that are left.
+abbrev pub OffersSo : Option (List ScriptRequest) → ℕ → List ScriptRequest → List (List ℕ) → List ScriptRequest → Type 0
+OffersSo None room before lines after = Lead room before (offering lines) after
+OffersSo (Some offered) room before lines after = after ≡ offered
 
--- what is offered, by what was offered before the first `shutdown`, if there was one, or else by the requests so far and by the
--- lines that are left
-abbrev pub offers : Option (List ScriptRequest) → List ScriptRequest → List (List ℕ) → List ScriptRequest
-offers None requests lines = fold behind_line requests (before_first ends lines)
-offers (Some offered) requests lines = offered
+offering_more : (line : List ℕ) (lines : List (List ℕ)) → ends line ≡ false → offering (line ∷ lines) ≡ line ∷ offering lines
+offering_more line lines is = let more : position_or_len ends (line ∷ lines) ≡ suc (position_or_len ends lines) = rw is (omega arith) in ap (λ (n : ℕ). take n (line ∷ lines)) more
 
-before_more : (line : List ℕ) (lines : List (List ℕ)) → ends line ≡ false → before_first ends (line ∷ lines) ≡ line ∷ before_first ends lines
-before_more line lines is = let more : position_or_len ends (line ∷ lines) ≡ suc (position_or_len ends lines) = rw is (omega arith) in ap (λ (n : ℕ). take n (line ∷ lines)) more
-
-before_end : (line : List ℕ) (lines : List (List ℕ)) → ends line ≡ true → before_first ends (line ∷ lines) ≡ []
-before_end line lines is = let none : position_or_len ends (line ∷ lines) ≡ 0 = rw is (omega arith) in ap (λ (n : ℕ). take n (line ∷ lines)) none
-
-offers_more : (offered : Option (List ScriptRequest)) (requests : List ScriptRequest) (line : List ℕ) (lines : List (List ℕ)) → ends line ≡ false → offers offered (behind_line requests line) lines ≡ offers offered requests (line ∷ lines)
-offers_more None requests line lines is = rw (before_more line lines is) refl
-offers_more (Some offered) requests line lines is = refl
-
-is_word : (line : List ℕ) → ends line ≡ true → content_of line ≡ codes "shutdown"
-is_word line is = grind (arith, bytes_eq-Decides, is)
+offering_end : (line : List ℕ) (lines : List (List ℕ)) → ends line ≡ true → offering (line ∷ lines) ≡ []
+offering_end line lines is = let none : position_or_len ends (line ∷ lines) ≡ 0 = rw is (omega arith) in ap (λ (n : ℕ). take n (line ∷ lines)) none
 
 -- a `shutdown` leaves no request, and may stand anywhere
-leaves_none : (requests : List ScriptRequest) (line : List ℕ) → ends line ≡ true → behind_line requests line ≡ []
-leaves_none requests line is = rw (is_word line is) refl
+may_stand : (requests : List ScriptRequest) (line : List ℕ) → ends line ≡ true → Adds requests (content_of line) []
+may_stand requests line is = Adds.shutdown is
 
-may_stand : (requests : List ScriptRequest) (line : List ℕ) → ends line ≡ true → IsContent requests (content_of line)
-may_stand requests line is = inr (inr (inl is))
+leaves_none : (requests left : List ScriptRequest) (line : List ℕ) (next : List ScriptRequest) → ends line ≡ true → Adds left (content_of line) next → Adds requests (content_of line) next
+leaves_none requests left line next is adds = subst (Adds requests (content_of line)) (adds_once left (content_of line) next [] adds (may_stand left line is)) (may_stand requests line is)
 
 -- A line before which what is offered was told, and the requests were put by, where it is the first `shutdown`: it is read as it
 -- would have been behind the requests.
 pub record Tells (before after : Option (List ScriptRequest)) (requests left : List ScriptRequest) (line : List ℕ) : Type 0 where
-  pub good : IsContent left (content_of line) → IsContent requests (content_of line)
-  pub bad : IsContent requests (content_of line) → IsContent left (content_of line)
-  pub read : behind_line left line ≡ behind_line requests line
-  pub offers : (lines : List (List ℕ)) → offers after (behind_line requests line) lines ≡ offers before requests (line ∷ lines)
+  pub good : (next : List ScriptRequest) → Adds left (content_of line) next → Adds requests (content_of line) next
+  pub bad : (next : List ScriptRequest) → Adds requests (content_of line) next → Adds left (content_of line) next
+  pub offers : (room : ℕ) (next : List ScriptRequest) (lines : List (List ℕ)) (offered : List ScriptRequest) → AddsWithin room requests line next → OffersSo after (room - length line) next lines offered
+      → OffersSo before room requests (line ∷ lines) offered
 
 pub ended : {X : Type 0} (f : X → List ScriptRequest) (before after : Option X) (x : X) (requests left : List ScriptRequest) (line : List ℕ) → is_some before ≡ false → ends line ≡ true → after ≡ Some x → f x ≡ requests
     → Tells (option_map f before) (option_map f after) requests left line
 ended f (Some y) after x requests left line none is told same = absurd (false≢true (sym none))
 ended f None after x requests left line none is told same = record {
-  good = λ _. may_stand requests line is;
-  bad = λ _. may_stand left line is;
-  read = leaves_none left line is ∙ sym (leaves_none requests line is);
-  offers = λ lines. rw told (same ∙ sym (ap (fold behind_line requests) (before_end line lines is)));
+  good = λ next adds. leaves_none requests left line next is adds;
+  bad = λ next adds. leaves_none left requests line next is adds;
+  offers = λ room next lines offered adds offers.
+      let here : offered ≡ requests = (rw told at offers) ∙ same in
+      subst (λ (ls : List (List ℕ)). Lead room requests ls offered) (sym (offering_end line lines is)) here;
 }
+
+more_offers : {X : Type 0} (f : X → List ScriptRequest) (before : Option X) (requests : List ScriptRequest) (line : List ℕ) → (is_some before ≡ true) ⊎ (ends line ≡ false)
+    → (room : ℕ) (next : List ScriptRequest) (lines : List (List ℕ)) (offered : List ScriptRequest) → AddsWithin room requests line next → OffersSo (option_map f before) (room - length line) next lines offered
+    → OffersSo (option_map f before) room requests (line ∷ lines) offered
+more_offers f (Some y) requests line why room next lines offered adds offers = offers
+more_offers f None requests line (inl some) room next lines offered adds offers = absurd (false≢true some)
+more_offers f None requests line (inr other) room next lines offered adds offers =
+    subst (λ (ls : List (List ℕ)). Lead room requests ls offered) (sym (offering_more line lines other)) (next, adds, offers)
 
 pub goes_on : {X : Type 0} (f : X → List ScriptRequest) (before after : Option X) (requests left : List ScriptRequest) (line : List ℕ) → (is_some before ≡ true) ⊎ (ends line ≡ false) → after ≡ before → left ≡ requests
     → Tells (option_map f before) (option_map f after) requests left line
-goes_on f (Some y) after requests left line why told same = record { good = λ is. rw (sym same) is; bad = λ is. rw same is; read = rw same refl; offers = λ lines. rw told refl }
-goes_on f None after requests left line (inl some) told same = absurd (false≢true some)
-goes_on f None after requests left line (inr other) told same = record { good = λ is. rw (sym same) is; bad = λ is. rw same is; read = rw same refl; offers = λ lines. rw told (offers_more None requests line lines other) }
+goes_on f before after requests left line why told same = record {
+  good = λ next adds. rw (sym same) adds;
+  bad = λ next adds. rw same adds;
+  offers = λ room next lines offered adds offers. more_offers f before requests line why room next lines offered adds (rw told at offers);
+}

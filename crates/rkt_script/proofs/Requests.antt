@@ -1,11 +1,14 @@
 -- A request is text, and is cut at its first space.
-use Rattle.std.proofs.Common.{zero, suc, ◌≡◌, ◌<◌, ◌+◌, ◌==◌, ℕ, List, [], ◌∷◌, ◌++◌, Bool, true, false, ◌&&◌, None, length, not, take, drop, add-one, refl, ap, ◌∙◌, sym, subst, arith}
+use Rattle.std.proofs.Common.{zero, suc, ◌≡◌, ◌<◌, ◌+◌, ◌==◌, ℕ, List, [], ◌∷◌, ◌++◌, Bool, true, false, ◌&&◌, length, not, take, drop, add-one, refl, ap, ◌∙◌, sym, subst, arith}
 use Rattle.std.specs.List.{list_all, before_first, after_first, position_or_len}
 use Rattle.std.specs.Str.{IsAscii, IsUtf8}
 use Rattle.std.proofs.lemmas.Bool.{false≢true}
 use Rattle.std.proofs.lemmas.Bool.Decides.{nat_tests}
 use Rattle.std.proofs.lemmas.Str.{IsAscii-append, IsUtf8-from_ascii}
-use Rattle.rkt_script.specs.Script.{is_capital, is_visible, is_space, is_word, IsRequest, head_of}
+use Rattle.rkt_script.specs.Script.{is_capital, is_visible, is_word, IsRequest}
+
+abbrev pub is_space : ℕ → Bool
+is_space b = b == 32
 
 -- both tests pass
 pub first_of_both : (a b : Bool) → (a && b) ≡ true → a ≡ true
@@ -83,8 +86,3 @@ space_within (b ∷ word) rest = by_test (b == 32) refl (space_within word rest)
 -- a request has a space
 pub request_within : (content method target : List ℕ) → IsRequest content method target → position_or_len is_space content < length content
 request_within content method target request = subst (λ (t : List ℕ). position_or_len is_space t < length t) (sym request.spelled) (space_within method target)
-
-pub head_of-request : (content method target : List ℕ) → IsRequest content method target → head_of content ≡ record { method = method; target = target; headers = []; remote = None }
-head_of-request content method target request =
-    let cut = request_cut content method target request in
-    rw (cut.0, cut.1) refl

@@ -7,11 +7,9 @@ use Rattle.std.proofs.lemmas.Grind.{common_steps}
 use Rattle.std.specs.Option.{ForSome, IsSome, option_map}
 use Rattle.std.specs.Bool.{IsTrue}
 use Rattle.rkt_source.specs.Sink.{SinkMeaning, Gains}
-use Rattle.rkt_source.specs.Source.{Meaning, Keeps, Gives}
+use Rattle.rkt_source.specs.Source.{Meaning, Keeps, Gives, Polled}
 use Rattle.std.specs.Result.{IsErrAnd}
-use Rattle.rkt_base.specs.declared.poll.Poll.{Poll}
 use Rattle.rkt_source.specs.declared.source.Gate.{Gate}
-use Rattle.rkt_source.specs.declared.source.SourceError.{SourceError}
 use Rattle.rkt_script.specs.Streams.{Reads, ReadsAs, ReadsOn}
 use Rattle.rkt_script.specs.declared.stream.StreamError.{StreamError}
 use Rattle.rkt_script.specs.declared.stream.StreamError.TheVariants.{NoMemory}
@@ -77,6 +75,6 @@ gains_more a b c bytes at n first second =
     rw (take-add at n bytes) (option_gains a.held b.held c.held (take at bytes) (take n (drop at bytes)) first second)
 
 -- where memory was wanting, no read was refused
-pub no_memory_reads : {S X : Type 0} (polled : S → Gate → Poll (Result ℕ SourceError) → S → Type 0) (gate : Gate) (answer : Result X StreamError) (s t : S) → IsErrAnd answer (λ e. e ≡ NoMemory) → ReadsOn polled gate s t → ReadsAs polled gate answer s t
+pub no_memory_reads : {S X : Type 0} (polled : Polled S) (gate : Gate) (answer : Result X StreamError) (s t : S) → IsErrAnd answer (λ e. e ≡ NoMemory) → ReadsOn polled gate s t → ReadsAs polled gate answer s t
 no_memory_reads polled gate (Ok x) s t h r = absurd h
 no_memory_reads polled gate (Err e) s t h r = rw h r

@@ -1,10 +1,10 @@
 -- Scripts: the requests that the program is asked to serve, a line each.
-use Rattle.std.specs.Prelude.{◌≡◌, ◌≤◌, ◌<◌, ◌⊎◌, ℕ, ◌+◌, ◌-◌, ◌==◌, ◌&&◌, List, [], ◌∷◌, ◌++◌, Bool, true, IsTrue, if◌then◌else◌, codes, drop, fold, length, take, slice_index, nat_le, not, None}
-use Rattle.std.specs.List.{onto_first, list_all, before_first, after_first, take_while}
+use Rattle.std.specs.Prelude.{◌≡◌, ◌≤◌, ◌⊎◌, ℕ, ◌+◌, ◌-◌, ◌==◌, ◌&&◌, List, [], ◌∷◌, ◌++◌, Bool, true, IsTrue, if◌then◌else◌, codes, length, take, slice_index, nat_le, not, None}
+use Rattle.std.specs.List.{onto_first, list_all, before_first}
 use Rattle.std.specs.Str.{bytes_eq}
 use Rattle.rkt_grammar.specs.Grammar.{is_token_byte}
-use Rattle.rkt_request.specs.declared.head.Head.{Head}
 use Rattle.rkt_script.specs.declared.script.ScriptRequest.{ScriptRequest}
+use Rattle.rkt_script.specs.declared.script.TheConstants.{SCRIPT_LIMIT}
 
 -- the lines of a script, each with the line feed at its end; a last one may have none
 abbrev pub lines_of : List ℕ → List (List ℕ)
@@ -19,7 +19,9 @@ without_last line = take (length line - 1) line
 
 -- a line without its line feed, and without a carriage return before that
 abbrev pub content_of : List ℕ → List ℕ
-content_of line = if ends_in 10 line then (if ends_in 13 (without_last line) then without_last (without_last line) else without_last line) else line
+content_of line = if ends_in 10 line
+    then (if ends_in 13 (without_last line) then without_last (without_last line) else without_last line)
+    else line
 
 -- a line that is skipped: an empty one, or one that begins with a number sign
 abbrev pub is_skipped : List ℕ → Bool
@@ -56,67 +58,64 @@ IsPiece content bytes = content ≡ codes "= " ++ bytes
 abbrev pub is_shutdown : List ℕ → Bool
 is_shutdown content = bytes_eq content (codes "shutdown")
 
--- what a line may have behind these requests, which stand behind the last `shutdown`: it is skipped, or it is a request, or a
--- `shutdown`, or it belongs to the last one
-abbrev pub IsContent : List ScriptRequest → List ℕ → Type 0
-IsContent requests content = IsTrue (is_skipped content)
-    ⊎ (((method : List ℕ) × (target : List ℕ) × IsRequest content method target)
-    ⊎ (IsTrue (is_shutdown content)
-    ⊎ ((0 < length requests) × (((name : List ℕ) × (value : List ℕ) × IsHeader content name value) ⊎ ((bytes : List ℕ) × IsPiece content bytes)))))
-
-abbrev pub is_space : ℕ → Bool
-is_space b = b == 32
-
--- the head of a request: its method stands before the first space, and its target behind it
-abbrev pub head_of : List ℕ → Head
-head_of content = record { method = before_first is_space content; target = after_first is_space content; headers = []; remote = None }
-
--- the name and the value of a header line: the token behind the first colon, and what stands behind the second
-abbrev pub header_of : List ℕ → List ℕ × List ℕ
-header_of content = (take_while is_token_byte (drop 2 content), drop (length (take_while is_token_byte (drop 2 content)) + 4) content)
-
--- the bytes of a piece of a body
-abbrev pub piece_of : List ℕ → List ℕ
-piece_of content = drop 2 content
+-- a request as it is asked first: with no header, and nothing in its body
+abbrev pub asking : List ℕ → List ℕ → ScriptRequest
+asking method target =
+    record { head = record { method = method; target = target; headers = []; remote = None }; body = [] }
 
 -- a request with one more header, and with more bytes at the end of its body
-abbrev pub with_header : List ℕ × List ℕ → ScriptRequest → ScriptRequest
-with_header header request = record request { head = record request.head { headers = request.head.headers ++ header ∷ [] } }
+abbrev pub with_header : List ℕ → List ℕ → ScriptRequest → ScriptRequest
+with_header name value request =
+    record request { head = record request.head { headers = request.head.headers ++ (name, value) ∷ [] } }
 
 abbrev pub with_piece : List ℕ → ScriptRequest → ScriptRequest
 with_piece bytes request = record request { body = request.body ++ bytes }
 
--- the last of the requests changed so, where there is one
-abbrev pub with_last : (ScriptRequest → ScriptRequest) → List ScriptRequest → List ScriptRequest
-with_last change [] = []
-with_last change (request ∷ []) = change request ∷ []
-with_last change (request ∷ other ∷ others) = request ∷ with_last change (other ∷ others)
+-- What a line of the grammar makes of the requests before it: it is skipped, or it asks one more, or it adds to the last one,
+-- or it leaves none for the lines behind it to add to.
+pub data Adds : List ScriptRequest → List ℕ → List ScriptRequest → Type 0 where
+  skipped : {requests : List ScriptRequest} {content : List ℕ}
+      → IsTrue (is_skipped content) → Adds requests content requests
+  request : {requests : List ScriptRequest} {content : List ℕ} (method target : List ℕ)
+      → IsRequest content method target → Adds requests content (requests ++ asking method target ∷ [])
+  header : {content : List ℕ} (before : List ScriptRequest) (last : ScriptRequest) (name value : List ℕ)
+      → IsHeader content name value → Adds (before ++ last ∷ []) content (before ++ with_header name value last ∷ [])
+  piece : {content : List ℕ} (before : List ScriptRequest) (last : ScriptRequest) (bytes : List ℕ)
+      → IsPiece content bytes → Adds (before ++ last ∷ []) content (before ++ with_piece bytes last ∷ [])
+  shutdown : {requests : List ScriptRequest} {content : List ℕ}
+      → IsTrue (is_shutdown content) → Adds requests content []
 
--- the requests behind one more line, which tells by its first byte what it is; a `shutdown` leaves none
-abbrev pub add_line : List ScriptRequest → List ℕ → List ScriptRequest
-add_line requests [] = requests
-add_line requests (b ∷ bs) =
-    if b == 35 then requests else (
-    if b == 58 then with_last (with_header (header_of (b ∷ bs))) requests else (
-    if b == 61 then with_last (with_piece (piece_of (b ∷ bs))) requests else (
-    if b == 115 then [] else requests ++ (record { head = head_of (b ∷ bs); body = [] }) ∷ [])))
+-- the same of a line with its end, where this many bytes of the script may still come
+abbrev pub AddsWithin : ℕ → List ScriptRequest → List ℕ → List ScriptRequest → Type 0
+AddsWithin room before line after = (length line ≤ room) × Adds before (content_of line) after
 
--- what the lines offer, in order: the requests before the first `shutdown`
-abbrev pub requests_of : List (List ℕ) → List ScriptRequest
-requests_of lines = fold (λ requests line. add_line requests (content_of line)) [] (before_first (λ line. is_shutdown (content_of line)) lines)
+-- lines of the grammar lead from some requests to others
+abbrev pub Lead : ℕ → List ScriptRequest → List (List ℕ) → List ScriptRequest → Type 0
+Lead room before [] after = after ≡ before
+Lead room before (line ∷ lines) after =
+    (next : List ScriptRequest) × AddsWithin room before line next × Lead (room - length line) next lines after
 
--- a line is of the grammar behind these requests, where this many bytes of the script may still come
-abbrev pub IsGood : ℕ → List ScriptRequest → List ℕ → Type 0
-IsGood room requests line = (length line ≤ room) × IsContent requests (content_of line)
-
--- each line is, behind these requests and those of the lines before it
+-- every line is of the grammar
 abbrev pub AreGood : ℕ → List ScriptRequest → List (List ℕ) → Type 0
-AreGood room requests [] = Unit {0}
-AreGood room requests (line ∷ lines) = IsGood room requests line × AreGood (room - length line) (add_line requests (content_of line)) lines
+AreGood room before lines = (after : List ScriptRequest) × Lead room before lines after
 
 -- the line with this number is the first that is not, where the first line has the number `from`
 abbrev pub IsFirstBad : ℕ → ℕ → List ScriptRequest → List (List ℕ) → ℕ → Type 0
-IsFirstBad from room requests [] number = ⊥
-IsFirstBad from room requests (line ∷ lines) number =
-    ((number ≡ from) × ¬ IsGood room requests line)
-    ⊎ (IsGood room requests line × IsFirstBad (from + 1) (room - length line) (add_line requests (content_of line)) lines number)
+IsFirstBad from room before [] number = ⊥
+IsFirstBad from room before (line ∷ lines) number =
+    ((number ≡ from) × ((next : List ScriptRequest) → ¬ AddsWithin room before line next))
+    ⊎ ((next : List ScriptRequest) × AddsWithin room before line next
+    × IsFirstBad (from + 1) (room - length line) next lines number)
+
+-- the lines before the first `shutdown`
+abbrev pub offering : List (List ℕ) → List (List ℕ)
+offering lines = before_first (λ line. is_shutdown (content_of line)) lines
+
+-- a script offers these requests, in order: those to which its lines before the first `shutdown` lead
+abbrev pub Offers : List ℕ → List ScriptRequest → Type 0
+Offers script requests = Lead SCRIPT_LIMIT [] (offering (lines_of script)) requests
+
+-- one script offers one list of requests
+abbrev pub OffersOnce : Type 0
+OffersOnce = (script : List ℕ) (requests requests' : List ScriptRequest)
+    → Offers script requests → Offers script requests' → requests' ≡ requests

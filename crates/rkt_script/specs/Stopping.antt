@@ -3,7 +3,7 @@ use Rattle.std.specs.Prelude.{◌≡◌, ◌≤◌, ℕ, List, [], ◌∷◌, So
 use Rattle.std.specs.List.{AllByRecursion}
 use Rattle.rkt_uri.specs.Origin.{Spells, Target, segments_of}
 use Rattle.rkt_uri.specs.declared.origin_place.Profile.TheVariants.{Request}
-use Rattle.rkt_script.specs.Script.{lines_of, requests_of}
+use Rattle.rkt_script.specs.Script.{Offers}
 use Rattle.rkt_script.specs.declared.script.ScriptRequest.{ScriptRequest}
 
 -- the request is for `/stop`: its target spells an origin whose path has the one decoded segment `stop`
@@ -27,7 +27,7 @@ pub record MayServe (requests : List ScriptRequest) (n : ℕ) : Type 0 where
 
 -- so many may be of what a script offers
 abbrev pub IsCount : List ℕ → ℕ → Type 0
-IsCount script n = MayServe (requests_of (lines_of script)) n
+IsCount script n = (requests : List ScriptRequest) × Offers script requests × MayServe requests n
 
 -- The word that `/stop` tells in the exchange of a request, where it was this one in the exchange before. From the first request
 -- for `/stop` on it is 2, that of the reason of the second launch; until then it is none, 0.

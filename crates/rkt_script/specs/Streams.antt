@@ -5,7 +5,7 @@ use Rattle.rkt_base.specs.Counts.{Rose}
 use Rattle.rkt_base.specs.declared.poll.Poll.{Poll}
 use Rattle.rkt_base.specs.declared.poll.Poll.TheVariants.{Ready, Pending}
 use Rattle.rkt_source.specs.Sink.{SinkMeaning, Gains, RefusesPiece}
-use Rattle.rkt_source.specs.Source.{Meaning}
+use Rattle.rkt_source.specs.Source.{Meaning, Polled, ReadOnce}
 use Rattle.rkt_source.specs.declared.sink.SinkError.{SinkError}
 use Rattle.rkt_source.specs.declared.sink.SinkError.TheVariants as sink_error
 use Rattle.rkt_source.specs.declared.source.Gate.{Gate}
@@ -34,34 +34,34 @@ IsReadTo most before after = IsAtEnd after ⊎ (after.taken ≡ before.taken + m
 abbrev pub GainsFront : SinkMeaning → SinkMeaning → List ℕ → Type 0
 GainsFront before after bytes = (n : ℕ) × Gains before after (take n bytes)
 
--- the sink has taken all of these bytes, or it refused and has taken some front of them
-abbrev pub GainsUnlessRefused : SinkMeaning → SinkMeaning → List ℕ → Type 0
-GainsUnlessRefused before after bytes = Gains before after bytes ⊎ (Rose before.faults after.faults × GainsFront before after bytes)
-
 -- any number of reads under this Gate that were Pending lead from the first to the second
-pub data Awaits {S : Type 0} (polled : S → Gate → Poll (Result ℕ SourceError) → S → Type 0) (gate : Gate) : S → S → Type 0 where
+pub data Awaits {S : Type 0} (polled : Polled S) (gate : Gate) : S → S → Type 0 where
   none : {s : S} → Awaits polled gate s s
-  more : {s t u : S} → Awaits polled gate s t → polled t gate Pending u → Awaits polled gate s u
+  more : {s t u : S} → Awaits polled gate s t → ReadOnce polled gate Pending t u → Awaits polled gate s u
 
 -- a read under this Gate, which is made again while it is Pending, is answered so
-abbrev pub AnswersRead : {S : Type 0} → (S → Gate → Poll (Result ℕ SourceError) → S → Type 0) → Gate → Result ℕ SourceError → S → S → Type 0
-AnswersRead polled gate answer s t = (r : _) × Awaits polled gate s r × polled r gate (Ready answer) t
+abbrev pub AnswersRead : {S : Type 0} → Polled S → Gate → Result ℕ SourceError → S → S → Type 0
+AnswersRead polled gate answer s t = (r : _) × Awaits polled gate s r × ReadOnce polled gate (Ready answer) r t
 
 -- one read, by what is told of it
-abbrev pub ReadsOnce : {S : Type 0} → (S → Gate → Poll (Result ℕ SourceError) → S → Type 0) → Gate → Result ℕ StreamError → S → S → Type 0
+abbrev pub ReadsOnce : {S : Type 0} → Polled S → Gate → Result ℕ StreamError → S → S → Type 0
 ReadsOnce polled gate (Ok n) s t = AnswersRead polled gate (Ok n) s t
 ReadsOnce polled gate (Err error.Fault) s t = AnswersRead polled gate (Err source_error.SourceFault) s t
 ReadsOnce polled gate (Err error.NoMemory) s t = ⊥
 
 -- any number of such reads, each of which gave bytes or the end, lead from the first to the second
-pub data ReadsOn {S : Type 0} (polled : S → Gate → Poll (Result ℕ SourceError) → S → Type 0) (gate : Gate) : S → S → Type 0 where
+pub data ReadsOn {S : Type 0} (polled : Polled S) (gate : Gate) : S → S → Type 0 where
   none : {s : S} → ReadsOn polled gate s s
   more : {s t u : S} {n : ℕ} → ReadsOn polled gate s t → AnswersRead polled gate (Ok n) t u → ReadsOn polled gate s u
 
+-- such reads, and then one that the source refused
+abbrev pub ReadsUntil : {S : Type 0} → Polled S → Gate → S → S → Type 0
+ReadsUntil polled gate s t = (r : _) × ReadsOn polled gate s r × AnswersRead polled gate (Err source_error.SourceFault) r t
+
 -- what an answer tells of the reads: none but the last was refused, and a fault is that one's
-abbrev pub ReadsAs : {S X : Type 0} → (S → Gate → Poll (Result ℕ SourceError) → S → Type 0) → Gate → Result X StreamError → S → S → Type 0
+abbrev pub ReadsAs : {S X : Type 0} → Polled S → Gate → Result X StreamError → S → S → Type 0
 ReadsAs polled gate (Ok x) s t = ReadsOn polled gate s t
-ReadsAs polled gate (Err error.Fault) s t = (r : _) × ReadsOn polled gate s r × AnswersRead polled gate (Err source_error.SourceFault) r t
+ReadsAs polled gate (Err error.Fault) s t = ReadsUntil polled gate s t
 ReadsAs polled gate (Err error.NoMemory) s t = ReadsOn polled gate s t
 
 -- any number of writes, each of which was Pending or took some bytes of the front of its piece, lead from the first to the
@@ -80,3 +80,22 @@ abbrev pub WritesAs : {K X : Type 0} → (K → List ℕ → Poll (Result ℕ Si
 WritesAs written (Ok x) k bytes l = WritesOn written k bytes l
 WritesAs written (Err error.Fault) k bytes l = WritesUntil written sink_error.SinkFault k bytes l
 WritesAs written (Err error.NoMemory) k bytes l = WritesUntil written sink_error.NoMemory k bytes l
+
+module _ {K : Type 0} (meaning : K → SinkMeaning) (written : K → List ℕ → Poll (Result ℕ SinkError) → K → Type 0) where
+  -- a sink has taken all of these bytes, and refused none of the writes
+  abbrev pub Takes : K → List ℕ → K → Type 0
+  Takes before bytes after = Gains (meaning before) (meaning after) bytes × WritesOn written before bytes after
+
+  -- a sink has taken some front of these bytes, and then refused what was left
+  abbrev pub Refuses : K → List ℕ → K → Type 0
+  Refuses before bytes after = Rose (meaning before).faults (meaning after).faults
+      × GainsFront (meaning before) (meaning after) bytes × WritesUntil written sink_error.SinkFault before bytes after
+
+  -- a sink has taken some front of these bytes, and then found no memory for what was left
+  abbrev pub RunsOut : K → List ℕ → K → Type 0
+  RunsOut before bytes after = GainsFront (meaning before) (meaning after) bytes
+      × WritesUntil written sink_error.NoMemory before bytes after
+
+  -- it has taken all of them, unless it refused
+  abbrev pub TakesUnlessRefused : K → List ℕ → K → Type 0
+  TakesUnlessRefused before bytes after = Takes before bytes after ⊎ Refuses before bytes after

@@ -7,8 +7,8 @@ mod stopping;
 mod stream;
 mod words;
 
-pub use laws::sets_once;
+pub use laws::{offers_once, sets_once};
 pub use script::{BadLine, SCRIPT_LIMIT, ScriptRequest, parse_script};
 pub use stopping::before_stop;
-pub use stream::{StreamError, read_all, write_all};
+pub use stream::{GATE, StreamError, read_all, write_all};
 pub use words::{NoCommand, USAGE, read_command};

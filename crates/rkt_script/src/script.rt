@@ -1,9 +1,12 @@
 //! Reads a script.
-ghost use Rattle.std.specs.Prelude.{◌≡◌, ◌<◌, ◌∷◌, ◌++◌, [], List, ℕ, None, IfOk, IfSome, IfNone, IsTrue, OnOk, codes, length};
+ghost use Rattle.std.specs.Prelude.{◌≡◌, ◌<◌, ◌∷◌, ◌++◌, [], List, ℕ, IfOk, IfSome, IfNone, IsTrue, OnOk, length};
 ghost use Rattle.std.specs.List.{list_all, take_while};
 ghost use Rattle.rkt_base.specs.Want.{IfRefused};
 ghost use Rattle.rkt_grammar.specs.Grammar.{is_token_byte};
-ghost use Rattle.rkt_script.specs.Script.{AreGood, IsContent, IsFirstBad, IsHeader, IsPiece, IsRequest, add_line, content_of, head_of, header_of, is_capital, is_shutdown, is_visible, is_word, lines_of, requests_of, with_header, with_last, with_piece, piece_of};
+ghost use Rattle.rkt_script.specs.Script.{Adds, AreGood, IsFirstBad, IsHeader, IsPiece, IsRequest, Offers};
+ghost use Rattle.rkt_script.specs.Script.{content_of, is_capital, is_shutdown, is_visible, is_word, lines_of};
+ghost use Rattle.rkt_script.specs.Script.{with_header, with_piece};
+ghost use Rattle.rkt_script.specs.declared.script.ScriptRequest.{ScriptRequest as SeenRequest};
 
 use rkt_base::{Bytes, NoMemory, Seq, Text, Want};
 use rkt_grammar::is_token_byte;
@@ -95,7 +98,6 @@ fn is_target(text: &str) -> bool
 // The words of a request line.
 fn read_words(content: &[u8]) -> Option<(&str, &str)>
     ensures read { IfSome result (λ words. IsRequest content.now words.0.now words.1.now) }
-    ensures head { IfSome result (λ words. head_of content.now ≡ record { method = words.0.now; target = words.1.now; headers = []; remote = None }) }
     ensures refused { IfNone result ((method target : List ℕ) → ¬ IsRequest content.now method target) }
 {
     let Ok(text) = str::from_utf8(content) else {
@@ -117,8 +119,7 @@ fn read_request(
     requests: &mut Vec<ScriptRequest>,
     content: &[u8],
 ) -> Result<(), Want<BadContent>>
-    ensures good { OnOk result ((method : List ℕ) × (target : List ℕ) × IsRequest content.now method target) }
-    ensures read { OnOk result (requests.new.items ≡ requests.old.items ++ (record { head = head_of content.now; body = [] }) ∷ []) }
+    ensures read { OnOk result (Adds requests.old.items content.now requests.new.items) }
     ensures refused { IfRefused result (λ _. (method target : List ℕ) → ¬ IsRequest content.now method target) }
 {
     let Some((method, target)) = read_words(content) else {
@@ -164,7 +165,6 @@ fn behind(mark: u8, text: &[u8]) -> Option<&[u8]>
 // The name and the value of a header line.
 fn read_field(content: &[u8]) -> Option<(&str, &[u8])>
     ensures read { IfSome result (λ field. IsHeader content.now field.0.now field.1.now) }
-    ensures field { IfSome result (λ field. header_of content.now ≡ (field.0.now, field.1.now)) }
     ensures refused { IfNone result ((name value : List ℕ) → ¬ IsHeader content.now name value) }
 {
     let text = behind(b':', content)?;
@@ -182,7 +182,7 @@ fn push_header(
     name: &str,
     value: &[u8],
 ) -> Result<(), NoMemory>
-    ensures { OnOk result (request.new ≡ with_header (name.now, value.now) request.old) }
+    ensures { OnOk result (request.new ≡ with_header name.now value.now request.old) }
 {
     let name = Text::new(alloc, name)?;
     let value = Bytes::from_vec(value.to_vec(alloc)?);
@@ -195,9 +195,7 @@ fn read_header(
     requests: &mut Vec<ScriptRequest>,
     content: &[u8],
 ) -> Result<(), Want<BadContent>>
-    ensures some { OnOk result (0 < length requests.old.items) }
-    ensures good { OnOk result ((name : List ℕ) × (value : List ℕ) × IsHeader content.now name value) }
-    ensures read { OnOk result (requests.new.items ≡ with_last (with_header (header_of content.now)) requests.old.items) }
+    ensures read { OnOk result (Adds requests.old.items content.now requests.new.items) }
     ensures refused { IfRefused result (λ _. 0 < length requests.old.items → (name value : List ℕ) → ¬ IsHeader content.now name value) }
 {
     let Some((name, value)) = read_field(content) else {
@@ -224,9 +222,7 @@ fn read_piece(
     requests: &mut Vec<ScriptRequest>,
     content: &[u8],
 ) -> Result<(), Want<BadContent>>
-    ensures some { OnOk result (0 < length requests.old.items) }
-    ensures good { OnOk result ((bytes : List ℕ) × IsPiece content.now bytes) }
-    ensures read { OnOk result (requests.new.items ≡ with_last (with_piece (piece_of content.now)) requests.old.items) }
+    ensures read { OnOk result (Adds requests.old.items content.now requests.new.items) }
     ensures refused { IfRefused result (λ _. 0 < length requests.old.items → (bytes : List ℕ) → ¬ IsPiece content.now bytes) }
 {
     let Some(bytes) = behind(b'=', content) else {
@@ -246,8 +242,7 @@ fn is_shutdown(content: &[u8]) -> bool
 
 // Leaves no request for the lines behind a `shutdown`.
 fn read_shutdown(requests: &mut Vec<ScriptRequest>, content: &[u8]) -> Result<(), Want<BadContent>>
-    ensures good { OnOk result (IsTrue (is_shutdown content.now)) }
-    ensures read { OnOk result (requests.new.items ≡ []) }
+    ensures read { OnOk result (Adds requests.old.items content.now requests.new.items) }
     ensures refused { IfRefused result (λ _. ¬ IsTrue (is_shutdown content.now)) }
 {
     if !is_shutdown(content) {
@@ -263,9 +258,8 @@ fn read_line(
     requests: &mut Vec<ScriptRequest>,
     content: &[u8],
 ) -> Result<(), Want<BadContent>>
-    ensures good { OnOk result (IsContent requests.old.items content.now) }
-    ensures read { OnOk result (requests.new.items ≡ add_line requests.old.items content.now) }
-    ensures refused { IfRefused result (λ _. ¬ IsContent requests.old.items content.now) }
+    ensures read { OnOk result (Adds requests.old.items content.now requests.new.items) }
+    ensures refused { IfRefused result (λ _. (next : List SeenRequest) → ¬ Adds requests.old.items content.now next) }
 {
     match content {
         [] | [b'#', ..] => Ok(()),
@@ -279,7 +273,7 @@ fn read_line(
 /// The requests that a script offers, in order. Those behind its first `shutdown` are read, and not offered.
 pub fn parse_script(alloc: Global, script: &[u8]) -> Result<Vec<ScriptRequest>, Want<BadLine>>
     ensures good { IfOk result (λ requests. AreGood SCRIPT_LIMIT [] (lines_of script.now)) }
-    ensures requests { IfOk result (λ requests. requests.items ≡ requests_of (lines_of script.now)) }
+    ensures requests { IfOk result (λ requests. Offers script.now requests.items) }
     ensures line { IfRefused result (λ bad. IsFirstBad 1 SCRIPT_LIMIT [] (lines_of script.now) bad.number) }
 {
     let mut offered = None;

@@ -27,8 +27,8 @@ impl From<AllocError> for StreamError {
     }
 }
 
-// The program's own source is never cut off.
-const GATE: Gate = Gate {
+/// The Gate of every read: the program's own source is never cut off.
+pub const GATE: Gate = Gate {
     moment: 0,
     tripped: None,
     grace: 0,

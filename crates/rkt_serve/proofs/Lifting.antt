@@ -12,7 +12,7 @@ use Rattle.rkt_orbit.specs.declared.called.Called.{Called}
 use Rattle.rkt_turn.specs.HandsBackLaws.{hands_back_more}
 use Rattle.rkt_serve.specs.Left.{IsLeft}
 use Rattle.rkt_serve.specs.Lifted.{LiftsOff, IsLifted}
-use Rattle.rkt_worker.specs.View.{view_of}
+use Rattle.rkt_lifecycle.specs.View.{view_of}
 use Rattle.rkt_serve.specs.declared.error.LaunchedOf.{LaunchedOf}
 use Rattle.rkt_turn.specs.HandsBack.{HandsBack}
 use Rattle.rkt_turn.specs.Shutdown.{Handle}

@@ -8,7 +8,7 @@ use Rattle.rkt_orbit.specs.Lifts.{Lifts}
 use Rattle.rkt_orbit.specs.declared.called.Called.{Called}
 use Rattle.rkt_turn.specs.HandsBack.{HandsBack}
 use Rattle.rkt_turn.specs.Shutdown.{Handle}
-use Rattle.rkt_worker.specs.View.{view_of}
+use Rattle.rkt_lifecycle.specs.View.{view_of}
 
 -- F is the type of fairings, H that of handlers, K that of catchers' handlers, N that of what sentries ask, V that of managed
 -- values

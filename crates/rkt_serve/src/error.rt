@@ -30,7 +30,7 @@ pub enum ErrorKindOf<M, L, C> {
     },
     /// The listener failed, or an exchange was abandoned. What was begun is closed and handed back.
     Shutdown(M),
-    /// There was no memory. What was begun is closed and handed back; it is lost only where nothing was begun.
+    /// There was no memory. What is kept is closed and handed back.
     NoMemory {
         kept: Option<M>,
     },

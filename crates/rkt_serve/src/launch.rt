@@ -21,18 +21,18 @@ ghost use Rattle.rkt_orbit.specs.Lifts.{Lifts};
 ghost use Rattle.rkt_orbit.specs.declared.called.Called.{Called};
 ghost use Rattle.rkt_link.specs.Listener.{IsFresh, Settled};
 ghost use Rattle.rkt_worker.specs.Serving.{serving};
-ghost use Rattle.rkt_worker.specs.View.{view_of};
+ghost use Rattle.rkt_lifecycle.specs.View.{view_of};
 ghost use Rattle.rkt_worker.specs.Waiting.{MayAbandon};
 
 use crate::{Clock, Error, ErrorKindOf, Launched, LaunchedOf, Link, Listener};
 use rkt_base::{NoMemory, Seq, Want};
 use rkt_board::{Book, Closed, ClosedOf, Event, Mark};
 use rkt_life::{App, Build, Fairing, Ignite, Orbit, Rocket, Tables};
-use rkt_orbit::{Called, down_room};
+use rkt_orbit::Called;
 use rkt_request::{ConfigTable, Types};
 use rkt_sentinel::Aborts;
 use rkt_turn::{Reason, Shutdown};
-use rkt_worker::{lift_tables, serve_to_close};
+use rkt_worker::serve_to_close;
 use std::alloc::Global;
 use std::sync::Wait;
 use std::thread::Threads;
@@ -84,6 +84,9 @@ pub trait Launch<A: App>: Sized {
         // The rocket's handle has seen the word of the Trip, and one that had seen a word before admits nothing.
         ensures word { IfOk result (λ l. ForSome (trip_of l.history.events) (λ trip. l.rocket.handle.seen ≡ trip.0)) }
         ensures still { IfOk result (λ l. 0 < seen self → admitted l.history.events ≡ 0) }
+        // The handle comes back with a word only where there is a Trip; so there is one where it had seen a word before.
+        ensures tripped { IfOk result (λ l. 0 < l.rocket.handle.seen → list_any is_trip l.history.events ≡ true) }
+        ensures trips { IfOk result (λ l. 0 < seen self → list_any is_trip l.history.events ≡ true) }
         ensures ends { IfOk result (λ l. EachEndsOnce l.history.events) }
         ensures entries { IfOk result (λ l. (k : ℕ) → k < admitted l.history.events
             → HasEntry (serving A.Fairing.Requests.calling A.Fairing.Responses.calling A.Handler.calling A.Catch.calling A.Source.meaning A.Stream.meaning L.Link.meaning (C.meaning clock).window) l.rocket.tables (L.meaning l.listener).given l.history.events k) }
@@ -102,6 +105,8 @@ pub trait Launch<A: App>: Sized {
         ensures kept_goes_on { IfErr result (λ e. IfWanting e (λ l. GoesOn (L.meaning l.listener) l.history.events)) }
         ensures kept_word { IfErr result (λ e. IfKept e (λ l. ForSome (trip_of l.history.events) (λ trip. l.rocket.handle.seen ≡ trip.0))) }
         ensures kept_still { IfErr result (λ e. IfKept e (λ l. 0 < seen self → admitted l.history.events ≡ 0)) }
+        ensures kept_tripped { IfErr result (λ e. IfKept e (λ l. 0 < l.rocket.handle.seen → list_any is_trip l.history.events ≡ true)) }
+        ensures kept_trips { IfErr result (λ e. IfKept e (λ l. 0 < seen self → list_any is_trip l.history.events ≡ true)) }
         ensures kept_window { IfErr result (λ e. IfKept e (λ l. (C.meaning l.clock).window ≡ (C.meaning clock).window)) }
         // It fails only where it does not ignite, where its listener has failed or an exchange was abandoned, or for want of memory.
         ensures refused { IfErr result (λ e. IfUnlit e (λ fault. refuses self fault)) }
@@ -138,9 +143,9 @@ fn begin<A: App, K: Link>(
     ensures handle { IfOk result (λ begun. HandsBack handle.old handle.new) }
 {
     let book = Book::new(alloc)?;
-    let room = down_room(alloc, &tables.fairings)?;
+    let room = tables.down_room(alloc)?;
     let shutdown = handle.split()?;
-    let calls = lift_tables::<A>(alloc, tables, handle)?;
+    let calls = tables.liftoff::<A>(alloc, handle)?;
     Ok(Begun {
         book,
         room,
@@ -153,7 +158,8 @@ fn begin<A: App, K: Link>(
 #[tactic(auto, using(crate::proofs::Handles::rejoined, rkt_turn::specs::HandsBackLaws::hands_back_same))]
 fn with_back<W: Reason>(mut handle: Shutdown<W>, back: Option<Shutdown<W>>) -> Shutdown<W>
     requires wire { IfSome back (λ other. other.wire ≡ handle.wire) }
-    ensures { HandsBack handle result }
+    ensures back { HandsBack handle result }
+    ensures unseen { handle.seen ≡ 0 → IfSome back (λ other. other.seen ≡ 0) → result.seen ≡ 0 }
 {
     if let Some(other) = back {
         handle.rejoin(other);
@@ -167,7 +173,8 @@ fn rejoined<L, C, W: Reason, R>(
     back: Option<Shutdown<W>>,
 ) -> ClosedOf<L, C, Shutdown<W>, R>
     requires wire { IfSome back (λ other. other.wire ≡ closed.handle.wire) }
-    ensures { (handle : Handle) × HandsBack closed.handle handle × (result ≡ record closed { handle = handle }) }
+    ensures { (handle : Handle) × HandsBack closed.handle handle × (result ≡ record closed { handle = handle })
+        × (closed.handle.seen ≡ 0 → IfSome back (λ other. other.seen ≡ 0) → handle.seen ≡ 0) }
 {
     let ClosedOf {
         listener,
@@ -203,6 +210,11 @@ fn answered<A: App, L: Listener, C: Clock>(
     ensures kept_none_abandoned { IfErr result (λ e. IfWanting e (λ l. list_any is_abandoned closed.history.events ≡ false)) }
     ensures kept_goes_on { IfErr result (λ e. IfWanting e (λ l. (closed.over ≡ false) × (list_any is_trip closed.history.events ≡ false))) }
     ensures shutdown { IfErr result (λ e. IfShutdown e (λ l. (closed.faulted ≡ true) ⊎ (list_any is_abandoned closed.history.events ≡ true))) }
+    // Where the handle has seen a word only with a Trip, so has that which comes back.
+    ensures tripped { (0 < closed.handle.seen → list_any is_trip closed.history.events ≡ true)
+        → IfOk result (λ l. 0 < l.rocket.handle.seen → list_any is_trip l.history.events ≡ true) }
+    ensures kept_tripped { (0 < closed.handle.seen → list_any is_trip closed.history.events ≡ true)
+        → IfErr result (λ e. IfKept e (λ l. 0 < l.rocket.handle.seen → list_any is_trip l.history.events ≡ true)) }
     ensures lit { IfErr result (λ e. IsLit e) }
 {
     let over = closed.is_over();

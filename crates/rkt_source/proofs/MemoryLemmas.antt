@@ -41,12 +41,12 @@ source_answers_by false s t old new answer e within h = rw (h.2, h.0, h.1) (omeg
 pub source_answers : (s t : SourceInMemory) (old new : List ℕ) (answer : Result ℕ SourceError) → (s.at ≤ length s.bytes) × (1 ≤ s.chunk) → ReadsNext s t old new answer → Answers (source_meaning s) (source_meaning t) old new (Ready answer)
 source_answers s t old new answer within h = source_answers_by (is_listed s.fails s.calls) s t old new answer refl within h
 
-counts_by : (b : Bool) (s t : SourceInMemory) (old new : List ℕ) (answer : Result ℕ SourceError) → 0 < length old → ReadsUnless b s t old new answer → CountsUnless b s (Ready answer) t
-counts_by true s t old new answer some h = (h.0, ap Ready h.2)
-counts_by false s t old new answer some h = (length old, some, h.0, ap Ready h.2)
+counts_by : (b : Bool) (s t : SourceInMemory) (old new : List ℕ) (answer : Result ℕ SourceError) → ReadsUnless b s t old new answer → CountsUnless b s (length old) (Ready answer) t
+counts_by true s t old new answer h = (h.0, ap Ready h.2)
+counts_by false s t old new answer h = (h.0, ap Ready h.2)
 
-pub reads_counted : (s t : SourceInMemory) (old new : List ℕ) (answer : Result ℕ SourceError) → 0 < length old → ReadsNext s t old new answer → ReadsCounted s (Ready answer) t
-reads_counted s t old new answer some h = counts_by (is_listed s.fails s.calls) s t old new answer some h
+pub reads_counted : (s t : SourceInMemory) (old new : List ℕ) (answer : Result ℕ SourceError) → ReadsNext s t old new answer → ReadsCounted s (length old) (Ready answer) t
+reads_counted s t old new answer h = counts_by (is_listed s.fails s.calls) s t old new answer h
 
 sink_keeps_by : (b : Bool) (s t : SinkInMemory) (piece : List ℕ) (answer : Result ℕ SinkError) → s.faults ≤ t.faults → WritesUnless b s t piece answer → SinkKeeps (sink_meaning s) (sink_meaning t)
 sink_keeps_by true s t piece answer later h = rw h.0 (record { never_faults = refl; pendings = refl; faults = rw h.0 at later; pended = omega arith })

@@ -1,5 +1,5 @@
 -- What the objects in memory keep, and what one call of them does.
-use Rattle.std.specs.Prelude.{◌≡◌, ℕ, ◌+◌, ◌-◌, ◌<◌, ◌^◌, ◌++◌, Bool, true, false, List, length, take, drop, min, Some, nat_eq, Result, Ok, Err}
+use Rattle.std.specs.Prelude.{◌≡◌, ℕ, ◌+◌, ◌-◌, ◌^◌, ◌++◌, Bool, true, false, List, length, take, drop, min, Some, nat_eq, Result, Ok, Err}
 use Rattle.std.specs.List.{list_any}
 use Rattle.rkt_base.specs.declared.poll.Poll.{Poll}
 use Rattle.rkt_base.specs.declared.poll.Poll.TheVariants.{Ready, Pending}
@@ -56,16 +56,15 @@ ReadsUnless false s t old new answer =
 abbrev pub ReadsNext : SourceInMemory → SourceInMemory → List ℕ → List ℕ → Result ℕ SourceError → Type 0
 ReadsNext s t old new answer = ReadsUnless (is_listed s.fails s.calls) s t old new answer
 
-abbrev pub CountsUnless : Bool → SourceInMemory → Poll (Result ℕ SourceError) → SourceInMemory → Type 0
-CountsUnless true s answer t = (t ≡ record s { calls = counted s.calls; faults = counted s.faults }) × (answer ≡ Ready (Err SourceFault))
-CountsUnless false s answer t =
-    (room : ℕ) × (0 < room) × (t ≡ record s { at = s.at + length (next_bytes s room); calls = counted s.calls })
-    × (answer ≡ Ready (Ok (length (next_bytes s room))))
+abbrev pub CountsUnless : Bool → SourceInMemory → ℕ → Poll (Result ℕ SourceError) → SourceInMemory → Type 0
+CountsUnless true s room answer t =
+    (t ≡ record s { calls = counted s.calls; faults = counted s.faults }) × (answer ≡ Ready (Err SourceFault))
+CountsUnless false s room answer t =
+    (t ≡ record s { at = s.at + length (next_bytes s room); calls = counted s.calls }) × (answer ≡ Ready (Ok (length (next_bytes s room))))
 
--- a read into a buffer of some room: how many bytes it gives, which are the next ones, or a fault where the call's number is
--- listed
-abbrev pub ReadsCounted : SourceInMemory → Poll (Result ℕ SourceError) → SourceInMemory → Type 0
-ReadsCounted s answer t = CountsUnless (is_listed s.fails s.calls) s answer t
+-- a read with this much room: how many bytes it gives, which are the next ones, or a fault where the call's number is listed
+abbrev pub ReadsCounted : SourceInMemory → ℕ → Poll (Result ℕ SourceError) → SourceInMemory → Type 0
+ReadsCounted s room answer t = CountsUnless (is_listed s.fails s.calls) s room answer t
 
 abbrev pub WritesUnless : Bool → SinkInMemory → SinkInMemory → List ℕ → Result ℕ SinkError → Type 0
 WritesUnless true s t piece answer = (t ≡ record s { calls = counted s.calls; faults = counted s.faults }) × (answer ≡ Err SinkFault)

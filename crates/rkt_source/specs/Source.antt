@@ -36,12 +36,13 @@ pub record Keeps (trip : Option ℕ) (m n : Meaning) : Type 0 where
   pub still_warned : IsTrue m.warned → IsTrue n.warned
   pub still_shut : IsTrue m.shut → IsTrue n.shut
 
--- the source was read once under this Gate, with this answer; where that is no error and no Pending, it may have been left
--- alone
-abbrev pub LeftOrRead : {S : Type 0} → (S → Gate → Poll (Result ℕ SourceError) → S → Type 0) → Gate → Poll (Result ℕ SourceError) → S → S → Type 0
-LeftOrRead polled gate Pending s t = polled s gate Pending t
-LeftOrRead polled gate (Ready (Ok n)) s t = (t ≡ s) ⊎ polled s gate (Ready (Ok n)) t
-LeftOrRead polled gate (Ready (Err e)) s t = polled s gate (Ready (Err e)) t
+-- of a source before a read into a buffer of this length, the Gate that it was shown, the answer, and the source after it
+abbrev pub Polled : Type 0 → Type 1
+Polled S = S → Gate → ℕ → Poll (Result ℕ SourceError) → S → Type 0
+
+-- the source was read once under this Gate with this answer, into a buffer of some length
+abbrev pub ReadOnce : {S : Type 0} → Polled S → Gate → Poll (Result ℕ SourceError) → S → S → Type 0
+ReadOnce polled gate answer s t = (room : ℕ) × (0 < room) × polled s gate room answer t
 
 -- the bytes that a source has still to give
 abbrev pub left_of : Meaning → Option (List ℕ)

@@ -82,7 +82,7 @@ impl Source for MemorySource {
 
     ghost meaning = { source_meaning };
 
-    ghost polled = { λ s _ answer t. ReadsCounted s answer t };
+    ghost polled = { λ s _ room answer t. ReadsCounted s room answer t };
 
     fn poll_read(&mut self, _gate: Gate, buf: &mut [u8]) -> Poll<Result<usize, SourceError>> {
         if buf.is_empty() {

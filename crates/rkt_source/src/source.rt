@@ -43,14 +43,14 @@ pub trait Source: Shut {
     /// What contracts see of a source.
     ghost meaning: { Self → Meaning };
 
-    /// Of the source before a read into a buffer that is not empty, the Gate that it was shown, the answer, and the source
-    /// after it.
-    ghost polled: { Self → Gate → Poll (Result ℕ SourceError) → Self → Type 0 };
+    /// Of the source before a read into a buffer of this length, which is not 0, the Gate that it was shown, the answer, and
+    /// the source after it.
+    ghost polled: { Self → Gate → ℕ → Poll (Result ℕ SourceError) → Self → Type 0 };
 
     /// Reads the next bytes into the front of a buffer and answers how many; 0 is the end, where the buffer is not
     /// empty.
     fn poll_read(&mut self, gate: Gate, buf: &mut [u8]) -> Poll<Result<usize, SourceError>>
-        ensures polled { 0 < length buf.old → polled self.old gate result self.new }
+        ensures polled { 0 < length buf.old → polled self.old gate (length buf.old) result self.new }
         ensures kept { Keeps gate.tripped (meaning self.old) (meaning self.new) }
         ensures answer { Answers (meaning self.old) (meaning self.new) buf.old buf.new result }
         ensures empty { length buf.old ≡ 0 → (result ≡ Poll.Ready (Ok 0)) × (self.new ≡ self.old) };

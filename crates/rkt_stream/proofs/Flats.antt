@@ -8,9 +8,10 @@ use Rattle.rkt_base.specs.declared.poll.Poll.{Poll}
 use Rattle.rkt_base.specs.declared.poll.Poll.TheVariants.{Ready, Pending}
 use Rattle.rkt_source.specs.declared.source.Gate.{Gate}
 use Rattle.rkt_source.specs.declared.source.SourceError.{SourceError}
-use Rattle.rkt_stream.specs.Flat.{Running, told_left, all_left, told_waits, bytes_left, GivesFresh, Goes, Advances, ReadsItem}
+use Rattle.rkt_source.specs.declared.source.SourceError.TheVariants.{SourceFault, Gone, TimedOut}
+use Rattle.rkt_stream.specs.Flat.{Running, told_left, all_left, told_waits, bytes_left, GivesFresh, Goes, Advances, ReadsItem, Refuses}
 use Rattle.rkt_stream.specs.Flow.{Flow, Flows, GivesOf, Shifts}
-use Rattle.rkt_source.specs.Source.{Meaning, Keeps, Answers, left_of, both}
+use Rattle.rkt_source.specs.Source.{Meaning, Polled, Keeps, Answers, left_of, both}
 use Rattle.rkt_source.proofs.Sources.{mapped}
 
 -- nothing is in front
@@ -173,8 +174,8 @@ module _ {S I : Type 0} (flow : S → Flow I) (meaning : I → Meaning) (may : S
       rw h.0 (λ r e. m.bytes r e, omega (arith, before, low, high))
 
 -- the source that is read was read once more
-pub ReadsItem-read : {S I : Type 0} (polled : I → Gate → Poll (Result ℕ SourceError) → I → Type 0) (may : S → I → Type 0) (gate : Gate) (answer : Poll (Result ℕ SourceError)) (a : Running S I) (x y : I) → (a.item ≡ Some x) ⊎ may a.stream x → polled x gate answer y → ReadsItem polled may gate answer a (Some y)
-ReadsItem-read polled may gate answer a x y origin h = λ z e. let same : y ≡ z = cc in (x, origin, subst (polled x gate answer) same h)
+pub ReadsItem-read : {S I : Type 0} (polled : Polled I) (may : S → I → Type 0) (gate : Gate) (room : ℕ) (answer : Poll (Result ℕ SourceError)) (a : Running S I) (x y : I) → (a.item ≡ Some x) ⊎ may a.stream x → polled x gate room answer y → ReadsItem polled may gate room answer a (Some y)
+ReadsItem-read polled may gate room answer a x y origin h = λ z e. let same : y ≡ z = cc in (x, origin, subst (polled x gate room answer) same h)
 
 -- the first k of the bytes that were left were given
 pub split_more : (w given rest : List ℕ) (taken k : ℕ) (left : Option (List ℕ)) → w ≡ given ++ rest → length given ≡ taken → k ≤ length rest → left ≡ Some (drop k rest)
@@ -186,3 +187,9 @@ split_more w given rest taken k left parts count fits told = (
   parts ∙ ap (λ l. given ++ l) (sym (take-append-drop k rest)) ∙ sym (append_assoc given (take k rest) (drop k rest)),
   length-append given (take k rest) ∙ omega (arith, count, length-take-le k rest fits),
 )
+
+-- a refusal that is no fault
+pub refused_by : {I : Type 0} (meaning : I → Meaning) (polled : Polled I) (gate : Gate) (room : ℕ) (item : Option I) (e : SourceError) → (e ≡ SourceFault → ⊥) → Refuses meaning polled gate room item e → Refuses meaning polled gate room item Gone ⊎ Refuses meaning polled gate room item TimedOut
+refused_by meaning polled gate room item SourceFault other h = absurd (other refl)
+refused_by meaning polled gate room item Gone other h = inl h
+refused_by meaning polled gate room item TimedOut other h = inr h

@@ -6,9 +6,7 @@ use Rattle.std.proofs.Common.{◌≡◌, ℕ, ◌+◌, ◌≤◌, ◌<◌, ◌++
 use Rattle.std.specs.declared.alloc.Global.{Global}
 use Rattle.std.proofs.lemmas.List.{nil_from_length, take-append-le}
 use Rattle.rkt_base.specs.declared.poll.Poll.TheVariants.{Ready, Pending}
-use Rattle.rkt_base.specs.declared.poll.Poll.{Poll}
-use Rattle.rkt_source.specs.declared.source.Gate.{Gate}
-use Rattle.rkt_stream.specs.Flow.{Asked, AskedOf, Flow, Flows, Waited, Shifts}
+use Rattle.rkt_stream.specs.Flow.{Flow, Flows, Waited, Shifts}
 use Rattle.rkt_stream.specs.Joining.{Parts, NextBytes, joined}
 
 Waited-trans : {X : Type 0} {m n o : Flow X} → Waited m n → Waited n o → Waited m o
@@ -79,8 +77,3 @@ NextBytes-waits {m = m} {n = n} {o = o} p h =
     let low = h.2 in
     let high = h.3 in
     (ap (λ f. f.pendings) h.0 ∙ bound, ap joined h.0 ∙ p.same, omega (arith, later, low), omega (arith, high, bound))
-
--- a stream that was left alone
-pub AskedOf-refl : {T X : Type 0} (polled : T → Gate → Poll (Option X) → T → Type 0) (gate : Gate) (t : Option T) → AskedOf polled gate t t
-AskedOf-refl polled gate None = tt
-AskedOf-refl polled gate (Some t) = Asked.none

@@ -1,11 +1,9 @@
 -- What a source means that gives one source's bytes, and then another's.
 use Rattle.std.specs.Option.{ForSome}
-use Rattle.std.specs.Prelude.{◌≡◌, ◌≢◌, ℕ, ◌+◌, ◌-◌, ◌≤◌, ◌⊎◌, ◌&&◌, ◌||◌, ◌++◌, Bool, true, false, List, length, drop, Option, None, Some, Result, Ok}
+use Rattle.std.specs.Prelude.{◌≡◌, ◌≢◌, ℕ, ◌+◌, ◌-◌, ◌≤◌, ◌⊎◌, ◌&&◌, ◌||◌, ◌++◌, Bool, true, false, List, length, drop, Option, None, Some, Ok}
 use Rattle.rkt_base.specs.declared.poll.Poll.{Poll}
 use Rattle.rkt_base.specs.declared.poll.Poll.TheVariants.{Ready, Pending}
-use Rattle.rkt_source.specs.Source.{Meaning}
-use Rattle.rkt_source.specs.declared.source.Gate.{Gate}
-use Rattle.rkt_source.specs.declared.source.SourceError.{SourceError}
+use Rattle.rkt_source.specs.Source.{Meaning, Polled}
 
 pub record Chained (T U : Type 0) : Type 0 where
   pub first : T
@@ -39,17 +37,18 @@ abbrev pub InTurn : Bool → ℕ → Meaning → Meaning → Type 0
 InTurn false skipped m n = n.taken ≡ skipped
 InTurn true skipped m n = (skipped ≤ n.taken) × ForSome m.whole (λ w. m.taken ≡ length w)
 
-module _ {T U : Type 0} (first : T → Gate → Poll (Result ℕ SourceError) → T → Type 0) (second : U → Gate → Poll (Result ℕ SourceError) → U → Type 0) where
+module _ {T U : Type 0} (first : Polled T) (second : Polled U) where
   -- once the first is over the second is asked alone; until then the first is, and where it gives nothing the second too
-  abbrev pub AsksInTurn : Bool → Chained T U → Gate → Poll (Result ℕ SourceError) → Chained T U → Type 0
-  AsksInTurn true a gate answer b = (b ≡ record a { second = b.second }) × second a.second gate answer b.second
-  AsksInTurn false a gate answer b =
-      ((b ≡ record a { first = b.first }) × first a.first gate answer b.first × (answer ≢ Ready (Ok 0)))
-      ⊎ ((b ≡ record a { first = b.first; second = b.second; over = true }) × first a.first gate (Ready (Ok 0)) b.first × second a.second gate answer b.second)
+  abbrev pub AsksInTurn : Bool → Polled (Chained T U)
+  AsksInTurn true a gate room answer b = (b ≡ record a { second = b.second }) × second a.second gate room answer b.second
+  AsksInTurn false a gate room answer b =
+      ((b ≡ record a { first = b.first }) × first a.first gate room answer b.first × (answer ≢ Ready (Ok 0)))
+      ⊎ ((b ≡ record a { first = b.first; second = b.second; over = true })
+      × first a.first gate room (Ready (Ok 0)) b.first × second a.second gate room answer b.second)
 
-  -- one read under this Gate, which answers as the last that it asked
-  abbrev pub ReadsChained : Chained T U → Gate → Poll (Result ℕ SourceError) → Chained T U → Type 0
-  ReadsChained a gate answer b = AsksInTurn a.over a gate answer b
+  -- one read under this Gate, which answers as the last that it asked; each was asked with all the room
+  abbrev pub ReadsChained : Polled (Chained T U)
+  ReadsChained a gate room answer b = AsksInTurn a.over a gate room answer b
 
 abbrev pub SamePlace : {T U : Type 0} → Chained T U → Chained T U → Type 0
 SamePlace a b = (b.skipped ≡ a.skipped) × (b.over ≡ a.over)

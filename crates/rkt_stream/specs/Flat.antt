@@ -1,12 +1,12 @@
 -- What a source means that joins the bytes of the sources that a stream gives.
 use Rattle.std.specs.List.{sum_by}
 use Rattle.std.specs.Option.{ForSome}
-use Rattle.std.specs.Prelude.{◌≡◌, ℕ, ◌+◌, ◌-◌, ◌*◌, ◌<◌, ◌≤◌, ◌⊎◌, ◌||◌, ◌++◌, Bool, false, IsTrue, List, [], ◌∷◌, length, take, drop, Option, None, Some, IsSome, Result, Ok, Err}
+use Rattle.std.specs.Prelude.{◌≡◌, ◌≢◌, ℕ, ◌+◌, ◌-◌, ◌*◌, ◌<◌, ◌≤◌, ◌⊎◌, ◌||◌, ◌++◌, Bool, false, IsTrue, List, [], ◌∷◌, length, take, drop, Option, None, Some, IsSome, Result, Ok, Err}
 use Rattle.rkt_base.specs.Poll.{IfReadyErr}
 use Rattle.rkt_base.specs.declared.poll.Poll.{Poll}
 use Rattle.rkt_base.specs.declared.poll.Poll.TheVariants.{Ready, Pending}
-use Rattle.rkt_stream.specs.Flow.{Flow, Asked}
-use Rattle.rkt_source.specs.Source.{Meaning, Errs, left_of, both}
+use Rattle.rkt_stream.specs.Flow.{Flow}
+use Rattle.rkt_source.specs.Source.{Meaning, Polled, Errs, left_of, both}
 use Rattle.rkt_source.specs.declared.source.Gate.{Gate}
 use Rattle.rkt_source.specs.declared.source.SourceError.{SourceError}
 use Rattle.rkt_source.specs.declared.source.SourceError.TheVariants.{SourceFault, Gone, TimedOut}
@@ -115,22 +115,54 @@ module _ {S I : Type 0} (flow : S → Flow I) (meaning : I → Meaning) where
   Advances a b old new (Ready (Ok k)) = (k ≤ length old) × ForSome (bytes_left a) (λ r. (take k new ≡ take k r) × (k ≤ length r) × (bytes_left b ≡ Some (drop k r)) × (k ≡ 0 → r ≡ []))
   Advances a b old new (Ready (Err e)) = ForSome (bytes_left a) (λ r. bytes_left b ≡ Some r)
 
--- the source that is read now is the one before or one that the stream gave, read once under this Gate with this answer
-abbrev pub ReadsItem : {S I : Type 0} → (I → Gate → Poll (Result ℕ SourceError) → I → Type 0) → (S → I → Type 0) → Gate → Poll (Result ℕ SourceError) → Running S I → Option I → Type 0
-ReadsItem polled may_give gate answer a item = ForSome item (λ y. (x : _) × ((a.item ≡ Some x) ⊎ may_give a.stream x) × polled x gate answer y)
+-- the source that is read now is the one before or one that the stream gave, read once under this Gate with this room and answer
+abbrev pub ReadsItem : {S I : Type 0} → Polled I → (S → I → Type 0) → Gate → ℕ → Poll (Result ℕ SourceError) → Running S I → Option I
+    → Type 0
+ReadsItem polled may_give gate room answer a item =
+    ForSome item (λ y. (x : _) × ((a.item ≡ Some x) ⊎ may_give a.stream x) × polled x gate room answer y)
 
 -- the source that is read now has refused a read under this Gate with this error
-abbrev pub Refuses : {I : Type 0} → (I → Meaning) → (I → Gate → Poll (Result ℕ SourceError) → I → Type 0) → Gate → Option I → SourceError → Type 0
-Refuses meaning polled gate item e = (x : _) × (y : _) × (item ≡ Some y) × polled x gate (Ready (Err e)) y × Errs e (meaning x) (meaning y)
+abbrev pub Refuses : {I : Type 0} → (I → Meaning) → Polled I → Gate → ℕ → Option I → SourceError → Type 0
+Refuses meaning polled gate room item e =
+    (x : _) × (y : _) × (item ≡ Some y) × polled x gate room (Ready (Err e)) y × Errs e (meaning x) (meaning y)
+
+-- steps of a read with this room that has given nothing yet: the source that is read has answered that it is at its end, and is
+-- let go, or the stream has given the next one
+pub data Passed {S I : Type 0} (asked : S → Gate → Poll (Option I) → S → Type 0) (polled : Polled I) (gate : Gate) (room : ℕ)
+    : Running S I → Running S I → Type 0 where
+  none : {a : Running S I} → Passed asked polled gate room a a
+  ended : {a : Running S I} {s : S} {x y : I} → Passed asked polled gate room a (record { stream = s; item = Some x })
+      → polled x gate room (Ready (Ok 0)) y → Passed asked polled gate room a (record { stream = s; item = None })
+  given : {a : Running S I} {s t : S} {x : I} → Passed asked polled gate room a (record { stream = s; item = None })
+      → asked s gate (Ready (Some x)) t → Passed asked polled gate room a (record { stream = t; item = Some x })
+
+module _ {S I : Type 0} (asked : S → Gate → Poll (Option I) → S → Type 0) (polled : Polled I) (gate : Gate) (room : ℕ) where
+  -- the stream has no source more, or was Pending
+  abbrev pub StreamSays : S → Poll (Result ℕ SourceError) → S → Type 0
+  StreamSays s Pending t = asked s gate Pending t
+  StreamSays s (Ready (Ok n)) t = (n ≡ 0) × asked s gate (Ready None) t
+  StreamSays s (Ready (Err e)) t = ⊥
+
+  -- the last step: the source that is read answers so, and is not at its end, or without one the stream
+  abbrev pub LastOf : S → Option I → Poll (Result ℕ SourceError) → Running S I → Type 0
+  LastOf s (Some x) answer b = (y : I) × (b ≡ record { stream = s; item = Some y }) × polled x gate room answer y × (answer ≢ Ready (Ok 0))
+  LastOf s None answer b = (t : S) × (b ≡ record { stream = t; item = None }) × StreamSays s answer t
+
+  -- the sources are read one after another, each but the last to its end
+  abbrev pub ReadsInTurn : Running S I → Poll (Result ℕ SourceError) → Running S I → Type 0
+  ReadsInTurn a answer b = (m : Running S I) × Passed asked polled gate room a m × LastOf m.stream m.item answer b
 
 -- one read under this Gate, which the stream is shown too: an error is that of the source that is read; a fault is counted, and
 -- that a source is shut is kept, only where that source refused
-pub record ReadsFlat {S I : Type 0} (meaning : I → Meaning) (asked : S → Gate → Poll (Option I) → S → Type 0) (polled : I → Gate → Poll (Result ℕ SourceError) → I → Type 0) (may_give : S → I → Type 0) (a : Flat S I) (gate : Gate) (answer : Poll (Result ℕ SourceError)) (b : Flat S I) : Type 0 where
-  pub stream : Asked asked gate a.running.stream b.running.stream
-  pub item : ReadsItem polled may_give gate answer a.running b.running.item
-  pub refuses : IfReadyErr answer (Refuses meaning polled gate b.running.item)
-  pub faults : (b.faults ≡ a.faults) ⊎ ((b.faults ≡ a.faults + 1) × Refuses meaning polled gate b.running.item SourceFault)
-  pub refused : (b.refused ≡ a.refused) ⊎ (Refuses meaning polled gate b.running.item Gone ⊎ Refuses meaning polled gate b.running.item TimedOut)
+pub record ReadsFlat {S I : Type 0} (meaning : I → Meaning) (asked : S → Gate → Poll (Option I) → S → Type 0) (polled : Polled I)
+    (may_give : S → I → Type 0) (a : Flat S I) (gate : Gate) (room : ℕ) (answer : Poll (Result ℕ SourceError)) (b : Flat S I)
+    : Type 0 where
+  pub in_turn : ReadsInTurn asked polled gate room a.running answer b.running
+  pub item : ReadsItem polled may_give gate room answer a.running b.running.item
+  pub refuses : IfReadyErr answer (Refuses meaning polled gate room b.running.item)
+  pub faults : (b.faults ≡ a.faults) ⊎ ((b.faults ≡ a.faults + 1) × Refuses meaning polled gate room b.running.item SourceFault)
+  pub refused : (b.refused ≡ a.refused)
+      ⊎ (Refuses meaning polled gate room b.running.item Gone ⊎ Refuses meaning polled gate room b.running.item TimedOut)
 
 -- the source that is read is shut down, where there is one
 abbrev pub ShutsItem : {S I : Type 0} → (I → Poll (Unit {0}) → I → Type 0) → Option I → Flat S I → Poll (Unit {0}) → Flat S I → Type 0

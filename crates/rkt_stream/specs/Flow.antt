@@ -38,17 +38,16 @@ GivesOf before now Pending = (x : _) → now x → before x
 GivesOf before now (Ready None) = (x : _) → now x → before x
 GivesOf before now (Ready (Some item)) = before item × ((x : _) → now x → before x)
 
--- any number of polls under this Gate lead from the first to the second
-pub data Asked {T X : Type 0} (polled : T → Gate → Poll (Option X) → T → Type 0) (gate : Gate) : T → T → Type 0 where
-  none : {t : T} → Asked polled gate t t
-  more : {t u v : T} {answer : Poll (Option X)} → Asked polled gate t u → polled u gate answer v → Asked polled gate t v
+-- polls under this Gate, each of which gave an item that is passed over, lead from the first to the second
+pub data Passes {T X : Type 0} (polled : T → Gate → Poll (Option X) → T → Type 0) (is_passed : X → Type 0) (gate : Gate)
+    : T → T → Type 0 where
+  none : {t : T} → Passes polled is_passed gate t t
+  more : {t u v : T} {item : X} → Passes polled is_passed gate t u → is_passed item → polled u gate (Ready (Some item)) v
+      → Passes polled is_passed gate t v
 
--- the stream, where there is one, was asked under this Gate alone
-abbrev pub AskedOf : {T X : Type 0} → (T → Gate → Poll (Option X) → T → Type 0) → Gate → Option T → Option T → Type 0
-AskedOf polled gate None None = Unit {0}
-AskedOf polled gate None (Some u) = ⊥
-AskedOf polled gate (Some t) None = ⊥
-AskedOf polled gate (Some t) (Some u) = Asked polled gate t u
+-- behind such items the stream has answered so
+abbrev pub AsksOn : {T X : Type 0} → (T → Gate → Poll (Option X) → T → Type 0) → (X → Type 0) → Gate → T → Poll (Option X) → T → Type 0
+AsksOn polled is_passed gate t answer v = (u : _) × Passes polled is_passed gate t u × polled u gate answer v
 
 -- items of two lists in turn, the first list's first; it ends where the one whose turn it is has none
 abbrev pub alternate : {X : Type 0} → List X → List X → List X

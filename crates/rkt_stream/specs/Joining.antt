@@ -1,12 +1,14 @@
 -- What a source means that joins the bytes of a stream's items.
 use Rattle.std.specs.List.{flat_map}
 use Rattle.std.specs.Option.{ForSome}
-use Rattle.std.specs.Prelude.{◌≡◌, ℕ, ◌<◌, ◌≤◌, ◌++◌, true, false, List, [], length, min, Option, None, Some, option_map, Vec}
+use Rattle.std.specs.Prelude.{◌≡◌, ℕ, ◌+◌, ◌<◌, ◌≤◌, ◌++◌, Bool, true, false, nat_eq, List, [], length, drop, min, Option, None, Some, option_map, Result, Ok, Vec}
 use Rattle.std.specs.declared.alloc.Global.{Global}
 use Rattle.rkt_base.specs.declared.poll.Poll.{Poll}
 use Rattle.rkt_base.specs.declared.poll.Poll.TheVariants.{Ready, Pending}
-use Rattle.rkt_stream.specs.Flow.{Flow, Waited}
-use Rattle.rkt_source.specs.Source.{Meaning}
+use Rattle.rkt_stream.specs.Flow.{Flow, Waited, AsksOn}
+use Rattle.rkt_source.specs.Source.{Meaning, Polled}
+use Rattle.rkt_source.specs.declared.source.Gate.{Gate}
+use Rattle.rkt_source.specs.declared.source.SourceError.{SourceError}
 
 pub record Joining (T : Type 0) : Type 0 where
   -- the stream as it is now, and as it was handed in, where there is one
@@ -59,6 +61,36 @@ NextBytes m n (Ready (Some v)) = Waited m n × (0 < length v.items) × ForSome (
 abbrev pub Fills : {T : Type 0} → (T → Flow (Vec ℕ Global)) → Joining T → Joining T → Poll (Unit {0}) → Type 0
 Fills flow a b Pending = (pended_of flow a.stream < pended_of flow b.stream) × (pended_of flow b.stream ≤ pendings_of flow a.stream)
 Fills flow a b (Ready r) = (length b.piece ≡ 0 → ForSome (joined_of flow b.begun) (λ w. b.taken ≡ length w))
+
+-- an item without bytes
+abbrev pub IsEmpty : Vec ℕ Global → Type 0
+IsEmpty item = item.items ≡ []
+
+-- what a stream has answered becomes the piece: the bytes of its item, of which there are some, or none
+abbrev pub FillsWith : Poll (Option (Vec ℕ Global)) → List ℕ → Poll (Unit {0}) → Type 0
+FillsWith Pending piece filled = (piece ≡ []) × (filled ≡ Pending)
+FillsWith (Ready None) piece filled = (piece ≡ []) × (filled ≡ Ready tt)
+FillsWith (Ready (Some item)) piece filled = (piece ≡ item.items) × (0 < length piece) × (filled ≡ Ready tt)
+
+module _ {T : Type 0} (polled : T → Gate → Poll (Option (Vec ℕ Global)) → T → Type 0) (gate : Gate) where
+  -- where the piece is used up the stream, if there is one, is asked under this Gate for an item that has bytes
+  abbrev pub FillsUp : Bool → Option T → Joining T → Poll (Unit {0}) → Joining T → Type 0
+  FillsUp false stream a filled b = (b ≡ a) × (filled ≡ Ready tt)
+  FillsUp true None a filled b = (b ≡ a) × (filled ≡ Ready tt)
+  FillsUp true (Some t) a filled b = (answer : Poll (Option (Vec ℕ Global))) × (u : T)
+      × AsksOn polled IsEmpty gate t answer u × (b ≡ record a { stream = Some u; piece = b.piece }) × FillsWith answer b.piece filled
+
+-- the next bytes of the piece are given, as many as there is room for
+abbrev pub GivesPiece : {T : Type 0} → ℕ → Joining T → Poll (Unit {0}) → Poll (Result ℕ SourceError) → Joining T → Type 0
+GivesPiece room a Pending answer b = (b ≡ a) × (answer ≡ Pending)
+GivesPiece room a (Ready filled) answer b =
+    let count = min room (length a.piece) in
+    (b ≡ record a { piece = drop count a.piece; taken = a.taken + count }) × (answer ≡ Ready (Ok count))
+
+-- a read with this much room: bytes of the piece, and where it is used up of the stream's next item that has some
+abbrev pub ReadsJoined : {T : Type 0} → (T → Gate → Poll (Option (Vec ℕ Global)) → T → Type 0) → Polled (Joining T)
+ReadsJoined {T} polled a gate room answer b = (m : Joining T) × (filled : Poll (Unit {0}))
+    × FillsUp polled gate (nat_eq (length a.piece) 0) a.stream a filled m × GivesPiece room m filled answer b
 
 -- what no step of a read changes
 pub record SameJoining {T : Type 0} (flow : T → Flow (Vec ℕ Global)) (a b : Joining T) : Type 0 where

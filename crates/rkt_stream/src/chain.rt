@@ -69,7 +69,7 @@ impl<T: Source, U: Source> Source for Chain<T, U> {
 
     ghost meaning = { λ c. chained_meaning c.over c.skipped (T.meaning c.first) (U.meaning c.second) };
 
-    ghost polled = { λ c gate answer d. ReadsChained T.polled U.polled c gate answer d };
+    ghost polled = { ReadsChained T.polled U.polled };
 
     fn poll_read(&mut self, gate: Gate, buf: &mut [u8]) -> Poll<Result<usize, SourceError>> {
         if buf.is_empty() {

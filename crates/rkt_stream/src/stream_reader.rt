@@ -1,9 +1,9 @@
 //! The bytes of a stream's items as a source.
 ghost use Rattle.std.specs.Option.{ForSome};
-ghost use Rattle.std.specs.Prelude.{◌≡◌, ◌+◌, ◌++◌, drop, length, min, take};
+ghost use Rattle.std.specs.Prelude.{◌≡◌, ◌+◌, ◌++◌, ◌==◌, drop, length, min, take};
 ghost use Rattle.rkt_base.specs.declared.poll.Poll.TheVariants.{Ready};
-ghost use Rattle.rkt_stream.specs.Flow.{Asked};
-ghost use Rattle.rkt_stream.specs.Joining.{NextBytes};
+ghost use Rattle.rkt_stream.specs.Flow.{AsksOn};
+ghost use Rattle.rkt_stream.specs.Joining.{IsEmpty, NextBytes};
 
 use crate::piece::Piece;
 use crate::stream::Stream;
@@ -34,8 +34,7 @@ impl<T: Stream<Item = Vec<u8>>> Model for StreamReader<T> {
 
 impl<T: Stream<Item = Vec<u8>>> StreamReader<T> {
     ghost use Rattle.std.specs.Prelude.{[], None, Some};
-    ghost use Rattle.rkt_stream.specs.Flow.{AskedOf};
-    ghost use Rattle.rkt_stream.specs.Joining.{Fills, SameJoining, joined_of};
+    ghost use Rattle.rkt_stream.specs.Joining.{Fills, FillsUp, SameJoining, joined_of};
 
     pub fn new(stream: T) -> StreamReader<T>
         ensures { result ≡ record { stream = Some stream; begun = Some stream; piece = []; taken = 0 } }
@@ -66,7 +65,7 @@ impl<T: Stream<Item = Vec<u8>>> StreamReader<T> {
         ensures same { SameJoining T.flow self.old self.new }
         ensures taken { self.new.taken ≡ self.old.taken }
         ensures fills { Fills T.flow self.old self.new result }
-        ensures asked { AskedOf T.polled gate self.old.stream self.new.stream }
+        ensures asked { FillsUp T.polled gate (length self.old.piece == 0) self.old.stream self.old result self.new }
     {
         if !self.piece.is_empty() {
             return Poll::Ready(());
@@ -87,9 +86,8 @@ impl<T: Stream<Item = Vec<u8>>> StreamReader<T> {
     // Copies the next bytes of the last item.
     fn give(&mut self, buf: &mut [u8]) -> usize
         ensures same { SameJoining T.flow self.old self.new }
-        ensures stream { self.new.stream ≡ self.old.stream }
+        ensures given { self.new ≡ record self.old { piece = drop result self.old.piece; taken = self.old.taken + result } }
         ensures count { result ≡ min (length buf.old) (length self.old.piece) }
-        ensures taken { self.new.taken ≡ self.old.taken + result }
         ensures bytes { ForSome (joined_of T.flow self.old.begun) (λ w. take result buf.new ≡ take result (drop self.old.taken w)) }
     {
         let count = self.piece.give(buf);
@@ -101,7 +99,7 @@ impl<T: Stream<Item = Vec<u8>>> StreamReader<T> {
 // The next item that is not empty, or None at the end.
 fn next_bytes<T: Stream<Item = Vec<u8>>>(stream: &mut T, gate: Gate) -> Poll<Option<Vec<u8>>>
     ensures next { NextBytes (T.flow stream.old) (T.flow stream.new) result }
-    ensures asked { Asked T.polled gate stream.old stream.new }
+    ensures asked { AsksOn T.polled IsEmpty gate stream.old result stream.new }
 {
     loop {
         match stream.poll_next(gate) {
@@ -126,13 +124,12 @@ impl<T: Stream<Item = Vec<u8>>> Shut for StreamReader<T> {
 
 impl<T: Stream<Item = Vec<u8>>> Source for StreamReader<T> {
     ghost use Rattle.std.specs.Prelude.{refl};
-    ghost use Rattle.rkt_stream.specs.Flow.{AskedOf};
-    ghost use Rattle.rkt_stream.specs.Joining.{joining_meaning};
+    ghost use Rattle.rkt_stream.specs.Joining.{ReadsJoined, joining_meaning};
     ghost use Rattle.rkt_stream.specs.JoiningLaws.{pended_within};
 
     ghost meaning = { λ r. joining_meaning T.flow r };
 
-    ghost polled = { λ s gate _ t. AskedOf T.polled gate s.stream t.stream };
+    ghost polled = { ReadsJoined T.polled };
 
     fn poll_read(&mut self, gate: Gate, buf: &mut [u8]) -> Poll<Result<usize, SourceError>> {
         if buf.is_empty() {

@@ -1,7 +1,8 @@
 -- The entries of one pass, beginnings of one list, and how often a number stands in a list or among the passes.
-use Rattle.std.proofs.Common.{◌≡◌, ◌≢◌, ℕ, zero, suc, ◌+◌, ◌-◌, ◌<◌, ◌≤◌, Bool, length-append, eqb, true, false, cond, ltb, List, [], ◌∷◌, ◌++◌, drop, length, set, sym, refl, ap, ◌∙◌, subst, inl, inr, ⊎_elim, arith, eq-eqb, ne_eqb, append_assoc}
+use Rattle.std.proofs.Common.{◌≡◌, ◌≢◌, ℕ, zero, suc, ◌+◌, ◌-◌, ◌<◌, ◌≤◌, Bool, length-append, eqb, true, false, cond, ltb, List, [], ◌∷◌, ◌++◌, drop, length, map, set, sym, refl, ap, ◌∙◌, subst, inl, inr, ⊎_elim, arith, eq-eqb, ne_eqb, append_assoc}
 use Rattle.std.proofs.lemmas.List.Elements.{filter-append}
-use Rattle.std.proofs.lemmas.List.{append-nil, nil_from_length}
+use Rattle.std.specs.List.{range_with_len}
+use Rattle.std.proofs.lemmas.List.{append-nil, map-append, nil_from_length}
 use Rattle.std.proofs.Math.Seq.{drop-append_seam, drop-length}
 use Rattle.std.proofs.lemmas.Bool.{ltb-true, ltb-false}
 use mathlib.Core.Logic.{dite}
@@ -11,13 +12,22 @@ use lib.ListN.{get_elem?}
 use Rattle.atomic_table.proofs.Lists.{at_set}
 use Rattle.rkt_turn.specs.declared.known.Known.{Known}
 use Rattle.rkt_turn.specs.Booked.{StartsWith, InOneOrder, longer, of, AreOf, Adds}
-use Rattle.rkt_turn.specs.Known.{one, times, without, has, count, joined, joined_all, HaveSeen}
+use Rattle.rkt_turn.specs.declared.known.Returned.{Returned}
+use Rattle.rkt_turn.specs.Known.{last_number, one, times, without, has, count, drawn, another, split_off, given_back, joined, joined_all, HasRoom, HaveSeen}
 
 pub one_same : (n : ℕ) → one n n ≡ 1
 one_same n = ap (λ b. cond b 1 0) (eq-eqb n n refl)
 
 pub one_else : (n k : ℕ) → n ≢ k → one n k ≡ 0
 one_else n k ne = ap (λ b. cond b 1 0) (ne_eqb n k ne)
+
+pub map_twice : {X Y Z : Type 0} (g : Y → Z) (f : X → Y) (xs : List X) → map g (map f xs) ≡ map (λ x. g (f x)) xs
+map_twice g f [] = refl
+map_twice g f (x ∷ xs) = ap (λ ys. g (f x) ∷ ys) (map_twice g f xs)
+
+range_more : (a n : ℕ) → range_with_len a (suc n) ≡ range_with_len a n ++ (a + n) ∷ []
+range_more a zero = ap (λ (k : ℕ). k ∷ []) (omega arith)
+range_more a (suc n) = ap (λ ks. a ∷ ks) (range_more (a + 1) n ∙ ap (λ (k : ℕ). range_with_len (a + 1) n ++ k ∷ []) (omega arith))
 
 module _ {E : Type 0} (number : E → ℕ) where
   pub of_other : (n k : ℕ) (es : List E) → AreOf number n es → n ≢ k → of number k es ≡ []
@@ -109,6 +119,34 @@ module _ {N E : Type 0} where
   pub joined_all_last : (v w : Known N E) (ws : List (Known N E)) → joined_all v (ws ++ w ∷ []) ≡ joined_all (joined v w) ws
   joined_all_last v w [] = refl
   joined_all_last v w (u ∷ us) = ap (λ x. joined x u) (joined_all_last v w us)
+
+  -- what comes back of these passes
+  pub joined_back : (v : Known N E) (ws : List (Known N E)) → (joined_all v ws).back ≡ map given_back ws ++ v.back
+  joined_back v [] = refl
+  joined_back v (w ∷ ws) = ap (λ (rs : List (Returned E)). given_back w ∷ rs) (joined_back v ws)
+
+  pub joined_mine : (v : Known N E) (ws : List (Known N E)) → (joined_all v ws).mine ≡ v.mine
+  joined_mine v [] = refl
+  joined_mine v (w ∷ ws) = joined_mine v ws
+
+  pub drawn_name : (n : ℕ) (v : Known N E) → (drawn n v).name ≡ v.name
+  drawn_name zero v = refl
+  drawn_name (suc n) v = drawn_name n v
+
+  -- the numbers are given one after another
+  pub drawn_next : (n : ℕ) (v : Known N E) → HasRoom n v → (drawn n v).next ≡ v.next + n
+  drawn_next zero v room = omega arith
+  drawn_next (suc n) v room =
+      let k : ℕ = v.next in let j : ℕ = (drawn n v).next in let l : k + suc n ≤ last_number = room in
+      let now : j ≡ k + n = drawn_next n v (omega arith) in
+      ap (λ b. cond b last_number (j + 1)) (ne_eqb j last_number (λ e. omega arith)) ∙ omega arith
+
+  pub split_numbers : (n : ℕ) (v : Known N E) → HasRoom n v → map (λ (w : Known N E). w.number) (split_off n v) ≡ range_with_len v.next n
+  split_numbers zero v room = refl
+  split_numbers (suc n) v room =
+      let k : ℕ = v.next in let l : k + suc n ≤ last_number = room in let fewer : HasRoom n v = omega arith in
+      map-append (λ (w : Known N E). w.number) (split_off n v) (another (drawn n v) ∷ [])
+      ∙ ((λ i. split_numbers n v fewer i ++ drawn_next n v fewer i ∷ []) ∙ sym (range_more k n))
 
   pub seen_last : (list : List E) (w : Known N E) (ws : List (Known N E)) → HaveSeen list ws → StartsWith list w.seen → HaveSeen list (ws ++ w ∷ [])
   seen_last list w [] h s = (s, tt)

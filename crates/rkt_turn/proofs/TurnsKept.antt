@@ -155,6 +155,26 @@ module _ {S N E : Type 0} (name_of : S → N) (entries : S → List E) (legal : 
   away_at s o list (some j) id v e at p = let same : j ≡ id = some-injective j id e in let is : v ≡ p.0 = some-injective v p.0 (sym at ∙ (ap (get_elem? s.views) (sym same) ∙ p.1)) in
       (p.5, ap (λ (d : K). d.base) is ∙ p.6)
 
+  -- the pass of the number 0 is the first
+  is_first : (s : St) (r : Rule s) (id : ℕ) (v : K) → get_elem? s.views id ≡ some v → v.spent ≡ false → v.number ≡ 0 → (id ≡ r.first) × (v ≡ r.lead)
+  is_first s r id v at live null = dite (ℕ_discrete id r.first)
+      (λ e. (e, some-injective v r.lead (sym at ∙ (ap (get_elem? s.views) e ∙ r.leads))))
+      (λ ne. absurd (apart s r id r.first v r.lead ne at r.leads live r.head.1 (subst (λ (k : ℕ). k < last_number) (sym null) (omega arith)) (null ∙ sym r.head.0)))
+
+  -- where the first pass has none out, the list has of each number what it and those that came back entered
+  has_all : (s : St) (r : Rule s) (id : ℕ) (v : K) → get_elem? s.views id ≡ some v → v.spent ≡ false → v.number ≡ 0 → v.out ≡ [] → HasAll number (all_passes v) r.list
+  has_all s r id v at live null none_out n l =
+      let fit = r.each id v at live in
+      let who = is_first s r id v at live null in
+      let out_is : r.lead.out ≡ [] = ap (λ (z : K). z.out) (sym who.1) ∙ none_out in
+      let back_is : r.lead.back ≡ v.back = ap (λ (z : K). z.back) (sym who.1) in
+      let behind : List E = mine_of n v.back in
+      dite (ℕ_discrete n v.number)
+      (λ e. let small : v.number < last_number = subst (λ (i : ℕ). i < last_number) e l in
+      ap (λ i. of number i r.list) e ∙ (fit.own small ∙ sym (ap (λ b. cond b v.mine behind) (eq-eqb n v.number e))))
+      (λ ne. let o : ℕ = one n 0 in let u : o ≡ 0 = one_else n 0 (λ z. ne (z ∙ sym null)) in let none : o + 0 ≡ 0 = omega arith in
+      r.others n l (ap (λ o. times n (0 ∷ o)) out_is ∙ none) ∙ (ap (mine_of n) back_is ∙ sym (ap (λ b. cond b v.mine behind) (ne_eqb n v.number ne))))
+
   pub takes_it : (slots id : ℕ) (me : M) (n : ℕ) → me.0.spent ≡ false → me.0.opened ≡ true → n ≡ me.0.number + 1
       → Allows Rule slots id me 0 (λ x. either (eqb x 0) n x) (taken name_of entries legal kept number (step slots 0 0 n none) me)
   takes_it slots id me n live begun_too is s r _ at _ = let x : ℕ = word s in let v : K = me.0 in dite (ℕ_discrete x 0)
@@ -173,6 +193,7 @@ module _ {S N E : Type 0} (name_of : S → N) (entries : S → List E) (legal : 
               keeps = it.5;
               began = subst (λ (l : List E). StartsWith l v.seen) same fit.began;
               own = λ l. ap (of number v.number) (sym same) ∙ fit.own l;
+              alone = λ null none_out. subst (HasAll number (all_passes v)) same (has_all s r id v at live null none_out);
             },
             λ i. (entered v (same i), (0, it.1 i) ∷ me.1),
           ),
@@ -279,12 +300,6 @@ module _ {S N E : Type 0} (name_of : S → N) (entries : S → List E) (legal : 
     others = λ n _ _. refl;
     fresh = λ n a _. ((let x : ℕ = one n 0 in let h : x ≡ 0 = one_else n 0 (λ e. omega arith) in let g : x + 0 ≡ 0 = omega arith in g), refl);
   }
-
-  -- the pass of the number 0 is the first
-  is_first : (s : St) (r : Rule s) (id : ℕ) (v : K) → get_elem? s.views id ≡ some v → v.spent ≡ false → v.number ≡ 0 → (id ≡ r.first) × (v ≡ r.lead)
-  is_first s r id v at live null = dite (ℕ_discrete id r.first)
-      (λ e. (e, some-injective v r.lead (sym at ∙ (ap (get_elem? s.views) e ∙ r.leads))))
-      (λ ne. absurd (apart s r id r.first v r.lead ne at r.leads live r.head.1 (subst (λ (k : ℕ). k < last_number) (sym null) (omega arith)) (null ∙ sym r.head.0)))
 
   -- the state stays where it is, if the pass that has the turn stays as it was
   stays_placed : (s : St) (o : Bool) (list : List E) (views' : List K) → ((j : ℕ) (d : K) → get_elem? s.views j ≡ some d → d.turn ≡ true → get_elem? views' j ≡ some d)
@@ -395,7 +410,7 @@ module _ {S N E : Type 0} (name_of : S → N) (entries : S → List E) (legal : 
 
   -- the last state: the first pass has every other pass back
   pub closes : (id : ℕ) (v : K) (ws : List ℕ) (xs : List (Option S)) → v.spent ≡ false → v.number ≡ 0 → v.turn ≡ false → v.opened ≡ true → v.out ≡ []
-      → Final (Seen Rule id v) ws xs → (x : S) × (get_elem? xs 0 ≡ some (Some x)) × Took name_of entries legal kept number v x × HasAll number (all_passes v) (entries x)
+      → Final (Seen Rule id v) ws xs → (x : S) × (get_elem? xs 0 ≡ some (Some x)) × Took name_of entries legal kept number v x
   closes id v ws xs live null idle begun_too none_out f = let s : St = f.0 in let r = f.1.0 in let at = f.1.1 in let fit = r.each id v at live in let who = is_first s r id v at live null in
       let out_is : r.lead.out ≡ [] = ap (λ (z : K). z.out) (sym who.1) ∙ none_out in let home = home_at s r.opened r.list r.holder (nobody s r id v out_is at live idle r.holder r.placed) r.placed in
       let it = shown r.opened r.list home.1.0 (sym fit.open_too ∙ begun_too) home.1.2 in let same : r.list ≡ entries it.0 = sym it.3 in (
@@ -407,9 +422,6 @@ module _ {S N E : Type 0} (name_of : S → N) (entries : S → List E) (legal : 
           keeps = it.5;
           began = subst (λ (l : List E). StartsWith l v.seen) same fit.began;
           own = λ l. ap (of number v.number) (sym same) ∙ fit.own l;
+          alone = λ _ none. subst (HasAll number (all_passes v)) same (has_all s r id v at live null none);
         },
-        λ n l. let back_is : r.lead.back ≡ v.back = ap (λ (z : K). z.back) (sym who.1) in dite (ℕ_discrete n v.number)
-            (λ e. ap (of number n) (sym same) ∙ (ap (λ i. of number i r.list) e ∙ (fit.own (subst (λ (i : ℕ). i < last_number) e l) ∙ sym (ap (λ b. cond b v.mine (mine_of n v.back)) (eq-eqb n v.number e)))))
-            (λ ne. let none : times n (0 ∷ []) ≡ 0 = (let o : ℕ = one n 0 in let u : o ≡ 0 = one_else n 0 (λ z. ne (z ∙ sym null)) in let g : o + 0 ≡ 0 = omega arith in g) in
-            ap (of number n) (sym same) ∙ (r.others n l (ap (λ o. times n (0 ∷ o)) out_is ∙ none) ∙ (ap (mine_of n) back_is ∙ sym (ap (λ b. cond b v.mine (mine_of n v.back)) (ne_eqb n v.number ne))))),
       )

@@ -1,5 +1,5 @@
 -- What a pass knows, and how a call changes it.
-use Rattle.std.specs.Prelude.{◌≡◌, ℕ, zero, suc, ◌+◌, ◌<◌, ◌==◌, false, true, if◌then◌else◌, List, [], ◌∷◌, ◌++◌, drop, length, Some, None, ⊤}
+use Rattle.std.specs.Prelude.{◌≡◌, ℕ, zero, suc, ◌+◌, ◌<◌, ◌≤◌, ◌==◌, false, true, if◌then◌else◌, List, [], ◌∷◌, ◌++◌, drop, length, Some, None, ⊤}
 use Rattle.atomic_table.specs.declared.shared.Seat.{Seat}
 use Rattle.rkt_turn.specs.declared.known.Known.{Known}
 use Rattle.rkt_turn.specs.declared.known.Returned.{Returned}
@@ -63,6 +63,10 @@ module _ {N E : Type 0} where
   abbrev pub drawn : ℕ → Known N E → Known N E
   drawn zero v = v
   drawn (suc n) v = drew (drawn n v)
+
+  -- so many numbers are left below the last one
+  abbrev pub HasRoom : ℕ → Known N E → Type 0
+  HasRoom count v = v.next + count ≤ last_number
 
   -- the passes that get these numbers, in order
   abbrev pub split_off : ℕ → Known N E → List (Known N E)

@@ -1,12 +1,21 @@
 -- What a pass knows, and whose pass it is.
-use Rattle.std.specs.Prelude.{◌≡◌, true, false, []}
+use Rattle.std.specs.Prelude.{◌≡◌, ℕ, true, false, []}
 use Rattle.rkt_turn.specs.declared.known.Known.{Known}
+use Rattle.rkt_turn.specs.declared.known.Returned.{Returned}
 use Rattle.rkt_turn.specs.declared.pass.PassOf.{PassOf}
 use Rattle.rkt_turn.specs.declared.turnstile.Turnstile.{Turnstile}
+use Rattle.rkt_turn.specs.Known.{given_back}
 
 module _ {S N E : Type 0} where
   abbrev pub known : PassOf S N E → Known N E
   known pass = pass.seat.me.0
+
+  abbrev pub number_of : PassOf S N E → ℕ
+  number_of pass = (known pass).number
+
+  -- its number and its entries, as they come back when it is joined
+  abbrev pub returned : PassOf S N E → Returned E
+  returned pass = given_back (known pass)
 
   -- the turnstile made the pass
   abbrev pub IsPassOf : Turnstile S N E → PassOf S N E → Type 0

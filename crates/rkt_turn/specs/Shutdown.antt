@@ -1,7 +1,7 @@
 -- What contracts see of a handle.
 use Rattle.rkt_base.specs.declared.poll.Poll.{Poll}
 use Rattle.rkt_base.specs.declared.poll.Poll.TheVariants.{Ready, Pending}
-use Rattle.std.specs.Prelude.{◌≡◌, ◌<◌, zero, suc, ℕ}
+use Rattle.std.specs.Prelude.{zero, suc, ℕ}
 use Rattle.atomic_table.specs.Seated.{TableId}
 
 pub record Handle : Type 0 where
@@ -15,13 +15,6 @@ pub record Handle : Type 0 where
 -- a handle that has not looked at its wire
 abbrev pub fresh : TableId → Handle
 fresh wire = record { wire = wire; seen = 0; looked = 0 }
-
--- the word that stands after a notification: the one that was found or, where none was, one that the reason says
-pub record Stands (allowed says : ℕ → Type 0) (word : ℕ) : Type 0 where
-  -- 0 where no word stood
-  pub found : ℕ
-  pub earlier : 0 < found → (word ≡ found) × allowed found
-  pub own : found ≡ 0 → says word
 
 -- ready where a word was seen
 abbrev pub polled : ℕ → Poll (Unit {0})

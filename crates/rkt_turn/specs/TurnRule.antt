@@ -7,7 +7,7 @@ use Rattle.atomic_table.specs.Table.{State, Me, Step}
 use Rattle.atomic_table.specs.declared.shared.Seat.{Seat}
 use Rattle.rkt_turn.specs.declared.known.Known.{Known}
 use Rattle.rkt_turn.specs.Booked.{StartsWith, InOneOrder, of}
-use Rattle.rkt_turn.specs.Known.{HasMine, last_number, times, mine_of, entered, gave, compared, count, view}
+use Rattle.rkt_turn.specs.Known.{HasMine, HasAll, all_passes, last_number, times, mine_of, entered, gave, compared, count, view}
 
 module _ {S N E : Type 0} where
   -- a pass has its number and the next one at hand, and holds the emptied slot in a turn
@@ -76,6 +76,8 @@ module _ {S N E : Type 0} where
       pub keeps : kept x
       pub began : StartsWith (entries x) v.seen
       pub own : HasMine number v (entries x)
+      -- of the first pass with none out: the list has what it and the joined ones entered, and nobody adds to that
+      pub alone : v.number ≡ 0 → v.out ≡ [] → HasAll number (all_passes v) (entries x)
 
     -- taking the turn: where the word was 0, the state is here
     abbrev pub taken : Step (Option S) → Sat S N E → ℕ → Sat S N E → Type 0

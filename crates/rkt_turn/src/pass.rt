@@ -1,7 +1,8 @@
 //! What a thread enters with.
-ghost use Rattle.std.specs.Prelude.{◌≡◌, ◌+◌, ◌-◌, ◌≤◌, ◌<◌, true, false, [], ◌∷◌, if◌then◌else◌, None, length, map, All, vec_len, IfOk, IfErr};
+ghost use Rattle.std.specs.Prelude.{◌≡◌, ◌+◌, ◌-◌, ◌≤◌, ◌<◌, true, false, [], ◌∷◌, ◌++◌, if◌then◌else◌, None, length, map, All, vec_len, IfOk, IfErr};
+ghost use Rattle.std.specs.List.{range_with_len};
 ghost use Rattle.rkt_turn.specs.Booked.{InOneOrder, StartsWith};
-ghost use Rattle.rkt_turn.specs.Known.{last_number, view, drew, drawn, another, split_off, joined, joined_all, HaveSeen};
+ghost use Rattle.rkt_turn.specs.Known.{last_number, view, drew, drawn, another, split_off, joined, joined_all, HasRoom, HaveSeen};
 ghost use Rattle.rkt_turn.specs.TurnRule.{Tied};
 
 use crate::booked::Booked;
@@ -62,7 +63,7 @@ impl<S, N, E> PassOf<S, N, E> {
 }
 
 impl<S: Booked> PassOf<S, S::Name, S::Entry> {
-    ghost use Rattle.rkt_turn.specs.Pass.{known, IsPassOf, IsSameLock, IsIdle, IsFirst, IsNew};
+    ghost use Rattle.rkt_turn.specs.Pass.{known, number_of, returned, IsPassOf, IsSameLock, IsIdle, IsFirst, IsNew};
 
     /// A pass with the next number. At the last one, 2^64 - 2, that is given each time.
     pub fn split(&mut self, turnstile: &Turnstile<S>) -> Pass<S>
@@ -115,6 +116,12 @@ impl<S: Booked> PassOf<S, S::Name, S::Entry> {
         ensures view { IfOk result (λ _. known self.new ≡ drawn count (known self.old)) }
         ensures mine { (known self.new).mine ≡ (known self.old).mine }
         ensures others { IfOk result (λ ps. map known ps.items ≡ split_off count (known self.old)) }
+        // No two of them have one number, and none the last one, as long as there are so many numbers.
+        ensures numbers { IfOk result (λ ps. HasRoom count (known self.old)
+            → map number_of ps.items ≡ range_with_len (known self.old).next count) }
+        ensures next { IfOk result (λ ps. HasRoom count (known self.old)
+            → (known self.new).next ≡ (known self.old).next + count) }
+        ensures names { IfOk result (λ ps. All (λ p. (known p).name ≡ (known self.old).name) ps.items) }
         ensures new { IfOk result (λ ps. All (λ p. IsNew turnstile.now p) ps.items) }
         ensures len { IfOk result (λ ps. vec_len ps ≡ count) }
         ensures out { IfOk result (λ _. length (known self.new).out ≡ length (known self.old).out + count) }
@@ -136,6 +143,9 @@ impl<S: Booked> PassOf<S, S::Name, S::Entry> {
         ensures own { IsSameLock self.old self.new }
         ensures first { IsFirst self.new × IsIdle self.new }
         ensures view { known self.new ≡ joined_all (known self.old) (map known passes.items) }
+        // What came back by then is what each of them entered under its number, and what had come back before.
+        ensures back { (known self.new).back ≡ map returned passes.items ++ (known self.old).back }
+        ensures mine { (known self.new).mine ≡ (known self.old).mine }
         ensures out { length (known self.new).out ≡ length (known self.old).out - vec_len passes }
         ensures none_out { length (known self.old).out ≡ vec_len passes → (known self.new).out ≡ [] }
         // This pass has then seen all that each of them has.

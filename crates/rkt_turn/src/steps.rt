@@ -1,7 +1,7 @@
 //! The steps of a turn lock, on the seat of a pass.
 ghost use Rattle.std.specs.Prelude.{◌≡◌, ◌≤◌, ◌-◌, length, true, false, [], ◌∷◌, Some, None, IfSome, IfNone};
 ghost use Rattle.rkt_turn.specs.Booked.{InOneOrder, StartsWith};
-ghost use Rattle.rkt_turn.specs.Known.{AddsOwn, last_number, entered, gave, drew, another, joined, view, HasAll, all_passes};
+ghost use Rattle.rkt_turn.specs.Known.{AddsOwn, last_number, entered, gave, drew, another, joined, view};
 ghost use Rattle.rkt_turn.specs.TurnRule.{Took};
 
 use crate::booked::Booked;
@@ -185,7 +185,6 @@ pub(crate) fn finish<S: Booked>(
     requires opened { (view seat).opened ≡ true }
     requires out { (view seat).out ≡ [] }
     ensures took { Took S.name S.entries S.legal S.keeps S.number (view seat) result }
-    ensures all { HasAll S.number (all_passes (view seat)) (S.entries result) }
 {
     let mut closed = table.close_with(seat);
     let slot = closed.take(0);

@@ -75,6 +75,9 @@ impl<S: Booked> Turnstile<S> {
         ensures keeps { S.keeps (state_of result) }
         ensures seen { StartsWith (S.entries (state_of result)) (known pass.old).seen }
         ensures mine { HasMine S.number (known pass.old) (S.entries (state_of result)) }
+        // The first pass, with none out, finds what it and the joined ones entered: nobody else adds any more.
+        ensures alone { IsFirst pass.old → (known pass.old).out ≡ []
+            → HasAll S.number (all_passes (known pass.old)) (S.entries (state_of result)) }
     {
         let state = steps::take(
             rt,

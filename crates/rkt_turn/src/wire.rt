@@ -72,7 +72,7 @@ impl<R: Reason> TripWire<R> {
 }
 
 impl<R: Reason> Shutdown<R> {
-    ghost use Rattle.rkt_turn.specs.Shutdown.{polled, Stands};
+    ghost use Rattle.rkt_turn.specs.Shutdown.{polled};
 
     /// The word that this handle has seen, or 0. It makes no load.
     pub fn seen(&self) -> u64
@@ -119,7 +119,7 @@ impl<R: Reason> Shutdown<R> {
     }
 
     /// Trips the wire, if nobody has. Afterwards this handle has seen the word that stands. A reason that has no word changes
-    /// nothing.
+    /// nothing, and where the handle has then seen none, the reason had none.
     pub fn notify(&mut self, reason: R)
         ensures wire { self.new.wire ≡ self.old.wire }
         ensures again { 0 < self.old.seen → self.new ≡ self.old }
@@ -127,7 +127,7 @@ impl<R: Reason> Shutdown<R> {
 
         ensures seen { R.stops reason → 0 < self.new.seen }
         ensures allowed { 0 < self.new.seen → R.allowed self.new.seen }
-        ensures stands { self.old.seen ≡ 0 → Stands R.allowed (R.says reason) self.new.seen }
+        ensures unseen { self.new.seen ≡ 0 → R.says reason 0 }
         ensures unchanged { ((word : ℕ) → R.says reason word → word ≡ 0) → self.new ≡ self.old }
     {
         let new = reason.word();

@@ -10,7 +10,7 @@ use Rattle.rkt_data.specs.Tap.{Tapped, TapWaits}
 use Rattle.rkt_router.specs.Callbacks.{RequestAt}
 use Rattle.rkt_lifecycle.specs.Answers.{Answers, Outgoing, Pends as AnswerPends}
 use Rattle.rkt_lifecycle.specs.Asks.{Asks, Pends as AskPends}
-use Rattle.rkt_lifecycle.specs.Peeks.{Reads, cuts, waits_of}
+use Rattle.rkt_lifecycle.specs.Peeks.{cuts, waits_of}
 use Rattle.rkt_lifecycle.specs.Relations.{Relations, callbacks}
 use Rattle.rkt_lifecycle.specs.Stands.{ExchangeGives, SeenPhase, WaitsIn}
 use Rattle.rkt_lifecycle.specs.Tables.{SeenTables, table_of}
@@ -25,7 +25,7 @@ use Rattle.rkt_routing.specs.Stands.{EndsWith, WaitsAt}
 use Rattle.rkt_routing.specs.declared.stage.Live.{Live}
 use Rattle.rkt_routing.specs.declared.stage.Stage.{Stage}
 use Rattle.rkt_routing.specs.declared.stage.Stage.TheVariants as stage
-use Rattle.rkt_source.specs.Source.{Meaning}
+use Rattle.rkt_source.specs.Source.{Meaning, Polled}
 use Rattle.rkt_source.specs.declared.source.Gate.{Gate}
 use Rattle.rkt_worker.specs.Waiting.{MayPend, MayBePending}
 
@@ -61,7 +61,7 @@ module _ {V S C R F FTask GTask H HTask K KTask N : Type 0} (rel : Relations V (
   tap_waits (Some t) None waits = absurd waits
   tap_waits (Some t) (Some u) waits = inr (inr (inr (inr (t.now.io, omega (arith, waits.0, waits.1)))))
 
-  module _ (shuts : S → Poll (Unit {0}) → S → Type 0) (polled : Reads S) (first : Beginning V (Body (Cancellable S)) C) where
+  module _ (shuts : S → Poll (Unit {0}) → S → Type 0) (polled : Polled S) (first : Beginning V (Body (Cancellable S)) C) where
     phase_waits : (gate : Gate) (now : SeenPhase V (Body (Cancellable S)) C R F FTask GTask H HTask K KTask N) → WaitsIn rel first tables (waits_of sources shuts polled) gate now → MayBePending rel sources tables
     phase_waits gate (phase.Peeking peeking) waits = tap_waits waits.0.tap peeking.body.tap waits.2.stops
     phase_waits gate (phase.Asking asks) waits = asks_wait waits.0 gate asks asks.next waits.1

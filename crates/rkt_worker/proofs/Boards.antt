@@ -1,12 +1,17 @@
 -- What is known of an exchange on a board.
-use Rattle.std.proofs.Common.{◌≡◌, ◌≤◌, ◌∙◌, ℕ, true, List, [], ◌∷◌, Option, Some, None, ap, subst, arith}
+use Rattle.std.proofs.Common.{◌≡◌, ◌<◌, ◌≤◌, ◌∙◌, ◌++◌, inl, inr, ℕ, Bool, true, false, List, [], ◌∷◌, Option, Some, None, refl, ap, sym, subst, arith}
 use Rattle.std.proofs.lemmas.Grind.{common_steps}
 use Rattle.std.proofs.lemmas.Bool.Decides.{nat_tests}
-use Rattle.std.specs.Prelude.{IfNone, IfSome, IsSomeAnd}
+use Rattle.std.specs.Prelude.{IfNone, IfSome, IsNone, IsSomeAnd}
 use Rattle.std.specs.List.{list_any, All}
 use Rattle.std.proofs.lemmas.List.Elements.{All-weaker}
-use Rattle.rkt_board.specs.Events.{admits_until}
-use Rattle.rkt_board.specs.Turns.{ShowsTrip}
+use Rattle.rkt_board.proofs.Pushes.{any_push, map_push}
+use Rattle.rkt_board.specs.Events.{admits_until, is_trip}
+use Rattle.rkt_board.specs.Marks.{events}
+use Rattle.rkt_board.specs.Turns.{mark, ClosesAs, DownsAs, ShowsTrip, TripsAs}
+use Rattle.rkt_board.specs.declared.mark.MarkOf.{MarkOf}
+use Rattle.rkt_orbit.specs.declared.called.Called.{Called}
+use Rattle.rkt_worker.proofs.Meanwhile.{with_trip}
 use Rattle.rkt_routing.specs.Backs.{Sees}
 use Rattle.rkt_routing.specs.declared.run.Call.{Call}
 use Rattle.rkt_worker.specs.Causes.{SawTrip}
@@ -46,3 +51,44 @@ pub still_back : (back given : Option Handle) (lent : Handle) → IfSome back (�
 still_back None given lent unseen hands = tt
 still_back (Some b) None lent unseen hands = absurd (cc unseen.0)
 still_back (Some b) (Some h) lent unseen hands = let same : h ≡ b = cc unseen.0 in subst (λ (x : Handle). HandsBack lent x) same hands
+
+-- a handle that had seen a word has still
+pub seen_on : (old new : Handle) → HandsBack old new → 0 < old.seen → 0 < new.seen
+seen_on old new back some = subst (λ n. 0 < n) (sym (back.seen some)) some
+
+-- a handle that the board leaves has seen no word
+pub unseen_back : (back given : Option Handle) → IfSome back (λ b. (given ≡ Some b) × (b.seen ≡ 0)) → IfSome back (λ b. b.seen ≡ 0)
+unseen_back None given unseen = tt
+unseen_back (Some b) given unseen = unseen.1
+
+module _ {C R L : Type 0} where
+  -- a Trip stays a Trip
+  pub trip_stays : (by : ℕ) (old new : List (MarkOf C R L)) → TripsAs by old new → list_any is_trip (events old) ≡ true → list_any is_trip (events new) ≡ true
+  trip_stays by old new (inl same) there = subst (λ ms. list_any is_trip (events ms) ≡ true) (sym same) there
+  trip_stays by old new (inr (word, moment, is)) there =
+      ap (list_any is_trip) (with_trip by word moment old new is) ∙ (any_push is_trip (events old) (Trip word moment) ∙ grind (arith, common_steps, there))
+
+  -- what follows that is no Trip changes nothing of that
+  pub trips_same : (old new : List (MarkOf C R L)) (m : MarkOf C R L) → is_trip m.event ≡ false → new ≡ old ++ m ∷ [] → list_any is_trip (events new) ≡ list_any is_trip (events old)
+  trips_same old new m other is =
+      let now : events new ≡ events old ++ m.event ∷ [] = ap events is ∙ map_push (λ x. x.event) old m in
+      ap (list_any is_trip) now ∙ (any_push is_trip (events old) m.event ∙ grind (arith, common_steps, other))
+
+  pub trip_entered : (old new : List (MarkOf C R L)) (by word moment : ℕ) → new ≡ old ++ mark by (Trip word moment) ∷ [] → list_any is_trip (events new) ≡ true
+  trip_entered old new by word moment is = ap (list_any is_trip) (with_trip by word moment old new is) ∙ (any_push is_trip (events old) (Trip word moment) ∙ grind (arith, common_steps))
+
+  -- where no handle comes back, there is a Trip: the board has the handle, or the exchange was left alone
+  pub left_tripped : (back given : Option Handle) (mid last : List (MarkOf C R L)) → IsNone back → IfNone back (IfSome given (λ h. ShowsTrip (Some h.seen) (events last))) → (IsNone given → list_any is_trip (events mid) ≡ true) → TripsAs 0 mid last
+      → list_any is_trip (events last) ≡ true
+  left_tripped (Some b) given mid last none trip left adds = absurd (cc none)
+  left_tripped None None mid last none trip left adds = trip_stays 0 mid last adds (left refl)
+  left_tripped None (Some h) mid last none trip left adds = trip.0
+
+  -- a Down or a Close is no Trip
+  pub down_same : (by : ℕ) (calls : List Called) (old new : List (MarkOf C R L)) (result : Bool) → DownsAs by calls old new result → list_any is_trip (events new) ≡ list_any is_trip (events old)
+  down_same by calls old new true adds = trips_same old new (mark by (Down calls)) refl adds
+  down_same by calls old new false adds = ap (λ ms. list_any is_trip (events ms)) adds
+
+  pub close_same : (by : ℕ) (old new : List (MarkOf C R L)) (result : Bool) → ClosesAs by old new result → list_any is_trip (events new) ≡ list_any is_trip (events old)
+  close_same by old new true adds = trips_same old new (mark by (Close adds.0)) refl adds.1
+  close_same by old new false adds = ap (λ ms. list_any is_trip (events ms)) adds

@@ -119,7 +119,8 @@ module _ {V S C R F FTask GTask H HTask K KTask L N : Type 0} (served : Serving 
   caused_wider (Cut saw cut) caused = (ran_wider (Cut saw cut) caused.0, record { tripped = wider caused.1.tripped; saw_there = caused.1.saw_there; cut_there = caused.1.cut_there; grace = caused.1.grace })
   caused_wider (Failed failure) caused = ran_wider (Failed failure) caused
   caused_wider Abandoned caused = (wider caused.0, caused.1, caused.2, caused.3)
-  caused_wider Starved caused = caused
+  caused_wider Starved (inl unsent) = inl unsent
+  caused_wider Starved (inr ran) = inr (ran_wider Starved ran)
 
 module _ {C R L : Type 0} where
   -- where a Trip is entered at most, the first one stays the first

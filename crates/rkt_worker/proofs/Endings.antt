@@ -52,7 +52,7 @@ none_shown (Some word) (Some w) shown none = absurd (cc none)
 
 -- every Gate of a moment of the clock's window
 pub fit_window : (grace mercy : ℕ) (old new : ClockMeaning) (seen : Option ℕ) (may_trip : Bool) → (may_trip ≡ false → IsNone seen) → AllFit (gates_with old.window grace mercy may_trip) grace mercy old new seen
-fit_window grace mercy old new seen may_trip none moment tripped amid shown = record { moment = in_window old.window moment amid.within; delays = (refl, refl); trip = λ untripped. none_shown tripped seen shown (none untripped) }
+fit_window grace mercy old new seen may_trip none moment tripped amid shown = record { moment = in_window old.window moment amid.within; delays = (refl, refl); trip = λ untripped. none_shown tripped seen shown (none untripped); shown = tt }
 
 -- so where it may show a trip
 pub fit_any : (grace mercy : ℕ) (old new : ClockMeaning) (seen : Option ℕ) → AllFit (gates_with old.window grace mercy true) grace mercy old new seen
@@ -60,7 +60,7 @@ fit_any grace mercy old new seen = fit_window grace mercy old new seen true (λ 
 
 -- and every Gate of a moment that the clock has told meanwhile
 pub fit_between : (grace mercy : ℕ) (old new : ClockMeaning) (seen : Option ℕ) → AllFit (gates_with (Some (old.last, new.last)) grace mercy true) grace mercy old new seen
-fit_between grace mercy old new seen moment tripped amid shown = record { moment = (amid.from, amid.to); delays = (refl, refl); trip = λ untripped. absurd (cc untripped) }
+fit_between grace mercy old new seen moment tripped amid shown = record { moment = (amid.from, amid.to); delays = (refl, refl); trip = λ untripped. absurd (cc untripped); shown = tt }
 
 -- what all Gates fit that may be told up to a moment, those fit that were told before
 pub fit_before : (rule : GateRule) (grace mercy : ℕ) (old now new : ClockMeaning) (before after : Option ℕ) → now.last ≤ new.last → (IsSome before → IsSome after) → AllFit rule grace mercy old new after → AllFit rule grace mercy old now before

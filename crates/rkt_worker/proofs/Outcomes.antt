@@ -1,7 +1,7 @@
 -- What is known of a result, an option, an end, and a piece that was not taken.
-use Rattle.std.proofs.Common.{◌≡◌, ◌≢◌, Option, Some, None, Result, Ok, Err, subst, sym, ◌∙◌}
+use Rattle.std.proofs.Common.{◌≡◌, ◌≢◌, Option, Some, None, subst, sym, ◌∙◌}
 use Rattle.std.specs.Option.{ForSome}
-use Rattle.std.specs.Prelude.{IfOk, IsErr, IsNone}
+use Rattle.std.specs.Prelude.{IsNone}
 use Rattle.rkt_board.specs.declared.history.End.{End as Ending}
 use Rattle.rkt_board.specs.declared.history.End.TheVariants.{Answered, Lost, Cut, Failed, Abandoned, Starved}
 use Rattle.rkt_cancel.specs.Cancel.{Cancellable}
@@ -9,11 +9,6 @@ use Rattle.rkt_link.specs.Link.{LinkMeaning}
 use Rattle.rkt_message.specs.declared.piece.Piece.{Piece}
 use Rattle.rkt_worker.specs.Gates.{IsCutOff, Watched}
 use Rattle.rkt_worker.specs.Handing.{PutAs}
-
--- nothing is promised of what has failed
-pub if_failed : {T E : Type 0} (P : T → Type 0) (answer : Result T E) → IsErr answer → IfOk answer P
-if_failed P (Ok t) is = absurd (cc is)
-if_failed P (Err e) is = tt
 
 pub some_none : {T : Type 0} (t : T) → IsNone (Some t) → ⊥
 some_none t none = absurd (cc none)

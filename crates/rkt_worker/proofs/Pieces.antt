@@ -1,9 +1,9 @@
 -- What a link holds, piece by piece.
-use Rattle.std.proofs.Common.{◌≡◌, ◌≤◌, ◌+◌, ◌++◌, ℕ, Bool, false, IsSome, IsTrue, arith, subst, List, [], Option, Some, None, option_map, Result, Ok, Err, IfOk, ap, ◌∙◌, sym, refl, append_assoc, append-nil}
+use Rattle.std.proofs.Common.{◌≡◌, ◌≤◌, ◌+◌, ◌++◌, ℕ, Bool, false, IsSome, IsTrue, arith, subst, List, [], Option, Some, None, option_map, inl, inr, ap, ◌∙◌, sym, refl, append_assoc, append-nil}
 use Rattle.std.proofs.lemmas.Grind.{common_steps}
 use Rattle.std.specs.Option.{ForSome}
 use Rattle.rkt_source.specs.Source.{Meaning}
-use Rattle.rkt_cancel.specs.Cancel.{cut_of, saw_of}
+use Rattle.rkt_cancel.specs.Cancel.{Cancellable, cut_of, saw_of}
 use Rattle.rkt_lifecycle.specs.Tables.{SeenTables, table_of}
 use Rattle.rkt_lifecycle.specs.declared.ended.RunOf.{RunOf}
 use Rattle.rkt_message.specs.Reading.{ReadsOn}
@@ -96,7 +96,7 @@ module _ {V S C R F FTask GTask H HTask K KTask L N : Type 0} (served : Serving 
   -- so its end has its cause
   caused_at : (ended : Ending) (taken : List Piece) → Ran served tables seen entry ended → IsSentAs served.streams (turns_of (table_of tables)) first response ended taken → LeftBy ended old taken (served.links entry.link.io)
       → (watched : Watched) → word_in watched.trip ≡ seen → watched.grace ≡ tables.config.grace → IsCutOff watched entry.link.stage ended → CausedAs served tables seen entry ended
-  caused_at Starved taken ran sent left watched word grace cut = absurd sent
+  caused_at Starved taken ran sent left watched word grace cut = inr ran
   caused_at Abandoned taken ran sent left watched word grace cut = absurd sent
   caused_at Answered taken ran sent left watched word grace cut = ran
   caused_at Lost taken ran sent left watched word grace cut = (ran, lost_may old (served.links entry.link.io) taken left)
@@ -118,12 +118,17 @@ module _ {V S C R F FTask GTask H HTask K KTask L N : Type 0} (served : Serving 
   caused_sent ended taken is shown behind lifecycle fresh none on reads sent left watched word grace cut =
       subst (CausedAs served tables seen entry) (sym (ap (λ (e : EntryOf _ _ _). e.end) is)) (caused_at ended taken (ran_sent ended taken is shown behind lifecycle fresh none on reads sent left) sent left watched word grace cut)
 
+-- nothing was sent on a link that held nothing, of an exchange for which there was no memory
+pub starved_unsent : {V S C R F FTask GTask H HTask K KTask L N : Type 0} (served : Serving V S C R F FTask GTask H HTask K KTask L) (tables : SeenTables F H K N V) (seen : Option ℕ) (entry : EntryOf C R L) (io : Cancellable L) (link : L)
+    → entry ≡ record { link = io; run = None; response = None; end = Starved } → io.io ≡ link → ForSome (served.links link).held (λ held. held ≡ []) → Caused served tables seen entry
+starved_unsent served tables seen entry io link is same fresh =
+    subst (Caused served tables seen) (sym is) (inl (record { run = refl; response = refl; held = subst (λ k. ForSome (served.links k).held (λ held. held ≡ [])) (sym same) fresh }))
+
 -- how a sending ended, said of equal values
-pub ended_as : {S E : Type 0} (stream : S → Meaning) (answer : Result Ending E) (turns n : ℕ) (begun first last left : ResponseOf S) (old new : LinkMeaning) → turns ≡ n → begun ≡ first → last ≡ left
-    → IfOk answer (λ ended. (taken : List Piece) × IsSentAs stream turns begun last ended taken × LeftBy ended old taken new)
-    → IfOk answer (λ ended. (taken : List Piece) × IsSentAs stream n first left ended taken × LeftBy ended old taken new)
-ended_as stream (Err e) turns n begun first last left old new same_turns same_first same_left ended = tt
-ended_as stream (Ok e) turns n begun first last left old new same_turns same_first same_left ended = (
+pub ended_as : {S : Type 0} (stream : S → Meaning) (answer : Ending) (turns n : ℕ) (begun first last left : ResponseOf S) (old new : LinkMeaning) → turns ≡ n → begun ≡ first → last ≡ left
+    → (taken : List Piece) × IsSentAs stream turns begun last answer taken × LeftBy answer old taken new
+    → (taken : List Piece) × IsSentAs stream n first left answer taken × LeftBy answer old taken new
+ended_as stream e turns n begun first last left old new same_turns same_first same_left ended = (
   ended.0,
   subst (λ (p : ResponseOf _). IsSentAs stream n first p e ended.0) same_left
       (subst (λ (p : ResponseOf _). IsSentAs stream n p last e ended.0) same_first (subst (λ (k : ℕ). IsSentAs stream k begun last e ended.0) same_turns ended.1)),

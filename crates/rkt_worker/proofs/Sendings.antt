@@ -1,5 +1,5 @@
 -- How a response is sent, piece by piece.
-use Rattle.std.proofs.Common.{◌≡◌, ◌≢◌, ◌≤◌, ◌++◌, ◌∙◌, inl, inr, ℕ, Bool, true, false, Result, Ok, Err, IfOk, List, [], ◌∷◌, Option, Some, arith, refl, ap, sym, subst, map, append_assoc, append-nil}
+use Rattle.std.proofs.Common.{◌≡◌, ◌≢◌, ◌≤◌, ◌++◌, ◌∙◌, ◌⊎◌, inl, inr, ℕ, Bool, true, false, Result, Ok, Err, IfOk, List, [], ◌∷◌, Option, Some, arith, refl, ap, sym, subst, map, append_assoc, append-nil}
 use Rattle.rkt_base.specs.Counts.{Rose}
 use Rattle.rkt_base.specs.Poll.{IfReadyOk}
 use Rattle.rkt_base.specs.declared.poll.Poll.TheVariants.{Ready}
@@ -182,6 +182,11 @@ module _ {S : Type 0} (stream : S → Meaning) where
       let nothing = subst (λ (o : Bool). OwesBehindHead stream o next.response.body []) (sym over) refl in
       subst (Sent stream first.begun) (append-nil (taken ++ piece ∷ [])) (whole first next (taken ++ piece ∷ []) [] (begun ∙ partly.begun) given (advances.front.completed [] nothing))
 
+-- what was sent so far is nothing, or a part
+pub starved_part : {S : Type 0} (stream : S → Meaning) (first now : Sending S) (taken : List Piece) → PartlySent stream first now taken → (taken ≡ []) ⊎ IsProperFront (Sent stream first.begun) taken
+starved_part stream first now [] partly = inl refl
+starved_part stream first now (p ∷ ps) partly = inr (partly.front (λ none. cc (sym partly.given ∙ none)))
+
 -- a piece that is not taken ends the response, of which a front was sent
 pub put_ends : {K S : Type 0} (links : K → LinkMeaning) (stream : S → Meaning) (watched : Watched) (old new : Cancellable K) (piece : Piece) (ended : Ending) (turns : ℕ) (first last : ResponseOf S) (taken : List Piece) (link : LinkMeaning)
     → PutAs links watched old piece new (Some ended) → IsProperFront (Sent stream first) taken → links old.io ≡ with_taken link taken → IsSentAs stream turns first last ended taken × LeftBy ended link taken (links new.io)
@@ -190,4 +195,4 @@ put_ends links stream watched old new piece (Cut saw cut) turns first last taken
 put_ends links stream watched old new piece Answered turns first last taken link put front same = absurd put
 put_ends links stream watched old new piece (Failed failure) turns first last taken link put front same = absurd put
 put_ends links stream watched old new piece Abandoned turns first last taken link put front same = absurd put
-put_ends links stream watched old new piece Starved turns first last taken link put front same = absurd put
+put_ends links stream watched old new piece Starved turns first last taken link put front same = (inr front, put ∙ same)

@@ -1,5 +1,5 @@
 -- What stands behind each event.
-use Rattle.std.specs.Prelude.{◌≡◌, ◌<◌, ◌≤◌, ◌+◌, ℕ, Bool, true, false, List, [], IsSome, IsTrue, Option, Some, None}
+use Rattle.std.specs.Prelude.{◌≡◌, ◌<◌, ◌≤◌, ◌+◌, ◌⊎◌, ℕ, Bool, true, false, List, [], IsSome, IsTrue, Option, Some, None}
 use Rattle.std.specs.List.{All}
 use Rattle.std.specs.Option.{ForSome}
 use Rattle.rkt_cancel.specs.Cancel.{cut_of, saw_of}
@@ -18,7 +18,7 @@ use Rattle.rkt_orbit.specs.Calls.{CallingAtShutdown}
 use Rattle.rkt_orbit.specs.ShutsDown.{ShutsDown}
 use Rattle.rkt_worker.specs.Gates.{word_in}
 use Rattle.rkt_worker.specs.Lifecycle.{Lifecycle}
-use Rattle.rkt_worker.specs.View.{view_of}
+use Rattle.rkt_lifecycle.specs.View.{view_of}
 use Rattle.rkt_worker.specs.Sent.{IsSentAs, fault_count}
 use Rattle.rkt_worker.specs.Serving.{Serving, callbacks_of}
 use Rattle.rkt_worker.specs.Waiting.{IsLate, MayBePending}
@@ -60,15 +60,22 @@ module _ {V S C R F FTask GTask H HTask K KTask L N : Type 0} (served : Serving 
     pub cut_there : cut_of entry.link.stage ≡ Some cut
     pub grace : saw + tables.config.grace ≤ cut
 
-  -- Answered, Lost, Cut and Failed: with a run and a response; Lost only on a link that does not say that it never fails, Cut only behind a Trip and its grace. Abandoned and Starved: nothing is kept; Abandoned only behind a Trip, where an exchange
-  -- may be Pending
+  -- neither a run nor a response is kept, and the link holds nothing, where it tells that
+  pub record IsUnsent (entry : EntryOf C R L) : Type 0 where
+    pub run : entry.run ≡ None
+    pub response : entry.response ≡ None
+    pub held : ForSome (served.links entry.link.io).held (λ held. held ≡ [])
+
+  -- Answered, Lost, Cut and Failed: with a run and a response; Lost only on a link that does not say that it never fails, Cut only
+  -- behind a Trip and its grace. Abandoned: nothing is kept; only behind a Trip, where an exchange may be Pending. Starved: nothing
+  -- was sent, or there is a run, and its response was not sent to the end
   abbrev pub CausedAs : Option ℕ → EntryOf C R L → Ending → Type 0
   CausedAs seen entry Answered = Ran seen entry Answered
   CausedAs seen entry Lost = Ran seen entry Lost × ((served.links entry.link.io).never_faults ≡ false)
   CausedAs seen entry (Cut saw cut) = Ran seen entry (Cut saw cut) × WasCut seen entry saw cut
   CausedAs seen entry (Failed failure) = Ran seen entry (Failed failure)
   CausedAs seen entry Abandoned = IsSome seen × (entry.run ≡ None) × (entry.response ≡ None) × MayBePending (callbacks_of served tables true) served.sources tables
-  CausedAs seen entry Starved = (entry.run ≡ None) × (entry.response ≡ None)
+  CausedAs seen entry Starved = IsUnsent entry ⊎ Ran seen entry Starved
 
   abbrev pub Caused : Option ℕ → EntryOf C R L → Type 0
   Caused seen entry = CausedAs seen entry entry.end

@@ -34,7 +34,7 @@ module _ {K : Type 0} (links : K → LinkMeaning) where
   ShutsAs saw cut old new (Ready (Err refused)) = (new.stage ≡ Gone saw cut) × (links new.io ≡ links old.io)
   ShutsAs saw cut old new Pending = (new.stage ≡ Mercy saw cut) × (links new.io ≡ links old.io)
 
-  -- the link has taken the piece; or it failed, or was cut off, and the response ends so
+  -- the link has taken the piece; or it failed, or was cut off, or there was no memory for the piece, and the response ends so
   abbrev pub PutAs : Watched → Cancellable K → Piece → Cancellable K → Option Ending → Type 0
   PutAs watched old piece new None = (links new.io ≡ with_taken (links old.io) (piece ∷ [])) × MayStand watched new.stage
   PutAs watched old piece new (Some Lost) = Faults (links old.io) (links new.io)
@@ -42,4 +42,4 @@ module _ {K : Type 0} (links : K → LinkMeaning) where
   PutAs watched old piece new (Some Answered) = ⊥
   PutAs watched old piece new (Some (Failed failure)) = ⊥
   PutAs watched old piece new (Some Abandoned) = ⊥
-  PutAs watched old piece new (Some Starved) = ⊥
+  PutAs watched old piece new (Some Starved) = links new.io ≡ links old.io

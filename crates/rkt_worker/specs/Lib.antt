@@ -11,5 +11,4 @@ pub mod Progress
 pub mod Rest
 pub mod Sent
 pub mod Serving
-pub mod View
 pub mod Waiting

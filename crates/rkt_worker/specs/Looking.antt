@@ -23,21 +23,21 @@ IsCallersTrip m = (word : ℕ) × (moment : ℕ) × (m ≡ mark 0 (Trip word mom
 abbrev pub AddsTrips : {C R K : Type 0} → List (MarkOf C R K) → List (MarkOf C R K) → Type 0
 AddsTrips {C} {R} {K} old new = (more : List (MarkOf C R K)) × (new ≡ old ++ more) × AllByRecursion IsCallersTrip more
 
-module _ {C R K P L Q : Type 0} (clocks : Q → ClockMeaning) where
+module _ {A C R K P L Q : Type 0} (clocks : Q → ClockMeaning) where
   -- a board that was looked at
-  pub record LooksOn (old new : BoardAs C R K P L Q) : Type 0 where
+  pub record LooksOn (old new : BoardAs A C R K P L Q) : Type 0 where
     pub name : new.name ≡ old.name
     pub adds : AddsTrips old.book.marks.items new.book.marks.items
     pub clock : TellsOn (clocks old.near.clock) (clocks new.near.clock)
 
-module _ {C R K P L Q : Type 0} (links : K → LinkMeaning) (listeners : L → ListenerMeaning) (clocks : Q → ClockMeaning) (cause : P → Option (ℕ × ℕ) → List (EventOf C R K) → EventOf C R K → Type 0) where
+module _ {A C R K P L Q : Type 0} (links : K → LinkMeaning) (listeners : L → ListenerMeaning) (clocks : Q → ClockMeaning) (cause : P → Option (ℕ × ℕ) → List (EventOf C R K) → EventOf C R K → Type 0) where
   -- a board that may be looked at
-  pub record MayLook (board : BoardAs C R K P L Q) : Type 0 where
+  pub record MayLook (board : BoardAs A C R K P L Q) : Type 0 where
     pub keeps : Keeps links listeners clocks cause board
     pub unclosed : list_any is_close (events board.book.marks.items) ≡ false
 
 -- what a board watches: the clock, the Trip, and the grace of the tables that are served
-abbrev pub watched_by : {C R K A F H Y N V L Q : Type 0} → (Q → ClockMeaning) → BoardAs C R K (Lent A (SeenTables F H Y N V)) L Q → Watched
+abbrev pub watched_by : {C R K A F H Y N V L Q : Type 0} → (Q → ClockMeaning) → BoardAs A C R K (Lent A (SeenTables F H Y N V)) L Q → Watched
 watched_by clocks board = record {
   last = (clocks board.near.clock).last;
   window = (clocks board.near.clock).window;

@@ -41,11 +41,11 @@ module _ {C R K : Type 0} where
       let parts : events new ≡ events old ++ events adds.0 = ap events adds.1 ∙ map-append (λ (m : MarkOf C R K). m.event) old adds.0 in
       ap trip_of parts ∙ trip_stays (events old) (events adds.0) trip found
 
-module _ {C R K P L Q : Type 0} (clocks : Q → ClockMeaning) where
-  pub looks_same : (board : BoardAs C R K P L Q) → LooksOn clocks board board
+module _ {A C R K P L Q : Type 0} (clocks : Q → ClockMeaning) where
+  pub looks_same : (board : BoardAs A C R K P L Q) → LooksOn clocks board board
   looks_same board = record { name = refl; adds = ([], sym (append-nil board.book.marks.items), tt); clock = record { rises = omega arith; window = refl } }
 
-  pub looks_then : (a b c : BoardAs C R K P L Q) → LooksOn clocks a b → LooksOn clocks b c → LooksOn clocks a c
+  pub looks_then : (a b c : BoardAs A C R K P L Q) → LooksOn clocks a b → LooksOn clocks b c → LooksOn clocks a c
   looks_then a b c one two = record {
     name = two.name ∙ one.name;
     adds = adds_then a.book.marks.items b.book.marks.items c.book.marks.items one.adds two.adds;
@@ -53,7 +53,7 @@ module _ {C R K P L Q : Type 0} (clocks : Q → ClockMeaning) where
   }
 
 module _ {C R K A F H Y N V L Q : Type 0} (clocks : Q → ClockMeaning) where
-  pub looks_tell : (a b : BoardAs C R K (Lent A (SeenTables F H Y N V)) L Q) → LooksOn clocks a b → WatchedOn (watched_by clocks a) (watched_by clocks b)
+  pub looks_tell : (a b : BoardAs A C R K (Lent A (SeenTables F H Y N V)) L Q) → LooksOn clocks a b → WatchedOn (watched_by clocks a) (watched_by clocks b)
   looks_tell a b looks = record {
     rises = looks.clock.rises;
     window = looks.clock.window;

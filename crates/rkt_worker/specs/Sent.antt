@@ -20,7 +20,8 @@ IsProperFront Whole pieces = (rest : List Piece) × (rest ≢ []) × Whole (piec
 abbrev pub BodyFails : {S : Type 0} → (S → Meaning) → ℕ → ResponseOf S → ResponseOf S → Type 0
 BodyFails stream turns first last = ((e : SourceError) × StreamErrs stream e first.body.content last.body.content) ⊎ MayWait stream turns first.body.content
 
--- a response that was `first` and is `last` now was sent as these pieces, and that ended so; a body fails only once the head was sent
+-- a response that was `first` and is `last` now was sent as these pieces, and that ended so; a body fails only once the head was sent,
+-- and where there was no memory to go on, nothing was sent or a part
 abbrev pub IsSentAs : {S : Type 0} → (S → Meaning) → ℕ → ResponseOf S → ResponseOf S → Ending → List Piece → Type 0
 IsSentAs stream turns first last Answered pieces = Sent stream first pieces
 IsSentAs stream turns first last Lost pieces = IsProperFront (Sent stream first) pieces
@@ -28,7 +29,7 @@ IsSentAs stream turns first last (Cut saw cut) pieces = IsProperFront (Sent stre
 IsSentAs stream turns first last (Failed BadHead) pieces = (has_head first ≡ false) × (pieces ≡ [])
 IsSentAs stream turns first last (Failed BodyFault) pieces = BodyFails stream turns first last × IsProperFront (Sent stream first) pieces × (pieces ≢ [])
 IsSentAs stream turns first last Abandoned pieces = ⊥
-IsSentAs stream turns first last Starved pieces = ⊥
+IsSentAs stream turns first last Starved pieces = (pieces ≡ []) ⊎ IsProperFront (Sent stream first) pieces
 
 -- how often a link has failed that was served so: once where the response was lost
 abbrev pub fault_count : Ending → ℕ

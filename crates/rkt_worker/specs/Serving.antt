@@ -1,5 +1,5 @@
 -- What an application, and what it is served over, mean.
-use Rattle.std.specs.Prelude.{ℕ, Bool, Option, Some, Result}
+use Rattle.std.specs.Prelude.{ℕ, Bool, Option, None, Some, Result}
 use Rattle.rkt_cancel.specs.Cancel.{Cancellable}
 use Rattle.rkt_data.specs.Body.{Body}
 use Rattle.rkt_fairing.specs.Callbacks.{ResponseAt}
@@ -48,7 +48,7 @@ callbacks_with sources requests responses handlers catchers rule = relations (pe
 
 -- Gates of a clock's moments, with these delays, which may show a trip or not
 abbrev pub gates_with : Option (ℕ × ℕ) → ℕ → ℕ → Bool → GateRule
-gates_with window grace mercy may_trip = record { window = window; delays = Some (grace, mercy); may_trip = may_trip }
+gates_with window grace mercy may_trip = record { window = window; delays = Some (grace, mercy); may_trip = may_trip; shown = None }
 
 -- the Gates that callbacks are polled under: the delays are the configuration's
 abbrev pub gates_of : {F H K N V : Type 0} → Option (ℕ × ℕ) → SeenTables F H K N V → Bool → GateRule

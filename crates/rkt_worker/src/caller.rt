@@ -1,12 +1,12 @@
 //! The work of the caller over a board: each link that the listener gives is served, until it ends or the wire is tripped.
-ghost use Rattle.std.specs.Prelude.{◌≡◌, ◌<◌, ◌≤◌, ◌+◌, ◌++◌, ℕ, [], List, Some, true, false, IfNone, IfSome, length, vec_capacity};
+ghost use Rattle.std.specs.Prelude.{◌≡◌, ◌<◌, ◌≤◌, ◌+◌, ◌++◌, ℕ, [], List, Some, true, false, IfNone, IfSome, IsNone, length, vec_capacity};
 ghost use Rattle.std.specs.List.{AllByRecursion, list_any};
 ghost use Rattle.std.specs.Option.{ForSome};
 ghost use Rattle.rkt_turn.specs.HandsBack.{HandsBack};
 ghost use Rattle.rkt_link.specs.Clock.{TellsOn};
 ghost use Rattle.rkt_link.specs.Listener.{IsFresh, Settled};
 ghost use Rattle.rkt_board.specs.Board.{IsBlank, Keeps, SoundAs};
-ghost use Rattle.rkt_board.specs.Events.{is_close, admitted, lift_calls, trip_of};
+ghost use Rattle.rkt_board.specs.Events.{is_close, is_trip, admitted, lift_calls, trip_of};
 ghost use Rattle.rkt_board.specs.Marks.{events};
 ghost use Rattle.rkt_board.specs.Turns.{mark, AddsOne, IsGiven, MayClose, ShowsTrip, StaysOpen, TripsAs};
 ghost use Rattle.rkt_board.specs.declared.history.EntryOf.{EntryOf};
@@ -18,7 +18,6 @@ ghost use Rattle.rkt_worker.specs.Rest.{IsAtRest};
 ghost use Rattle.rkt_worker.specs.Serving.{serving};
 
 use crate::causes::{LentBy, lend};
-use crate::orbit::shut_tables;
 use crate::working::{CALLER, Worker};
 use rkt_base::Seq;
 use rkt_board::{
@@ -81,6 +80,9 @@ impl<'a, A: App, R: Wait> Worker<'a, A, R> {
         ensures adds { (entry : EntryOf A.Cached A.Stream L.Link) × (ended : ℕ) × (between : List (MarkOf A.Cached A.Stream L.Link))
             × TripsAs 0 board.old.book.marks.items between × AddsOne between board.new.book.marks.items (mark 0 (End number entry ended 0)) }
         ensures handle { IfSome result (HandsBack shutdown) }
+        // One that comes back has seen no word; where none does, there is a Trip.
+        ensures unseen { IfSome result (λ back. back.seen ≡ 0) }
+        ensures left { IsNone result → list_any is_trip (events board.new.book.marks.items) ≡ true }
         ensures clock { TellsOn (C.meaning board.old.near.clock) (C.meaning board.new.near.clock) }
         ensures keeps { Keeps L.Link.meaning L.meaning C.meaning (cause_of A.Reason.allowed A.Fairing.Shuts.calling A.Fairing.Requests.calling A.Fairing.Responses.calling A.Handler.calling A.Catch.calling A.Source.meaning A.Stream.meaning L.Link.meaning) board.new }
     {
@@ -105,6 +107,10 @@ impl<'a, A: App, R: Wait> Worker<'a, A, R> {
         ensures name { board.new.name ≡ board.old.name }
         ensures rest { IsAtRest board.new.book.marks.items }
         ensures handle { IfSome result (HandsBack shutdown) }
+        // A handle has seen a word only where there is a Trip, the board's and that which comes back.
+        ensures tripped { 0 < board.new.near.handle.seen → list_any is_trip (events board.new.book.marks.items) ≡ true }
+        ensures lent { (0 < shutdown.seen → 0 < board.old.near.handle.seen)
+            → IfSome result (λ back. 0 < back.seen → list_any is_trip (events board.new.book.marks.items) ≡ true) }
         ensures clock { TellsOn (C.meaning board.old.near.clock) (C.meaning board.new.near.clock) }
         ensures keeps { Keeps L.Link.meaning L.meaning C.meaning (cause_of A.Reason.allowed A.Fairing.Shuts.calling A.Fairing.Requests.calling A.Fairing.Responses.calling A.Handler.calling A.Catch.calling A.Source.meaning A.Stream.meaning L.Link.meaning) board.new }
     {
@@ -142,12 +148,14 @@ where
     requires empty { room.items ≡ [] }
     requires room { length tables.now.fairings.places.shutdown ≤ vec_capacity room }
     ensures name { board.new.name ≡ board.old.name }
+    ensures handle { board.new.near.handle ≡ board.old.near.handle }
+    ensures trips { list_any is_trip (events board.new.book.marks.items) ≡ list_any is_trip (events board.old.book.marks.items) }
     ensures closes { MayClose board.new.book.marks.items }
     ensures callers { AllByRecursion IsCallers (events board.new.book.marks.items) }
     ensures keeps { Keeps L.Link.meaning L.meaning C.meaning (cause_of A.Reason.allowed A.Fairing.Shuts.calling A.Fairing.Requests.calling A.Fairing.Responses.calling A.Handler.calling A.Catch.calling A.Source.meaning A.Stream.meaning L.Link.meaning) board.new }
 {
     if board.book.tripped {
-        let calls = shut_tables::<A>(alloc, tables, room);
+        let calls = tables.shut_down::<A>(alloc, room);
         down::<A, LentBy<A>, L, C>(board, CALLER, calls);
     }
 }
@@ -160,6 +168,8 @@ where
     requires closes { MayClose board.old.book.marks.items }
     requires callers { AllByRecursion IsCallers (events board.old.book.marks.items) }
     ensures name { board.new.name ≡ board.old.name }
+    ensures handle { board.new.near.handle ≡ board.old.near.handle }
+    ensures trips { list_any is_trip (events board.new.book.marks.items) ≡ list_any is_trip (events board.old.book.marks.items) }
     ensures closed { list_any is_close (events board.new.book.marks.items) ≡ true }
     ensures callers { AllByRecursion IsCallers (events board.new.book.marks.items) }
     ensures keeps { Keeps L.Link.meaning L.meaning C.meaning (cause_of A.Reason.allowed A.Fairing.Shuts.calling A.Fairing.Requests.calling A.Fairing.Responses.calling A.Handler.calling A.Catch.calling A.Source.meaning A.Stream.meaning L.Link.meaning) board.new }
@@ -197,6 +207,10 @@ where
     ensures still { 0 < handle.seen → admitted result.0.history.events ≡ 0 }
     ensures handle { HandsBack handle result.0.handle }
     ensures lent { IfSome result.1 (HandsBack shutdown) }
+    // A handle has seen a word only where there is a Trip, and so has the one that was lent where it begins like that.
+    ensures tripped { 0 < result.0.handle.seen → list_any is_trip result.0.history.events ≡ true }
+    ensures lent_tripped { (0 < shutdown.seen → 0 < handle.seen)
+        → IfSome result.1 (λ back. 0 < back.seen → list_any is_trip result.0.history.events ≡ true) }
     ensures settled { Settled (L.meaning listener) (L.meaning result.0.listener) }
     ensures sound { SoundAs result.0.faulted (L.meaning listener) (L.meaning result.0.listener) }
     ensures ended { result.0.over ≡ true → (L.meaning result.0.listener).ended ≡ true }

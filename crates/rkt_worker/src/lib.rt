@@ -7,11 +7,9 @@ mod causes;
 mod exchanging;
 mod gates;
 mod looking;
-mod orbit;
 mod sending;
 mod working;
 
 pub use caller::serve_to_close;
 pub use gates::Gates;
-pub use orbit::lift_tables;
 pub use sending::send;

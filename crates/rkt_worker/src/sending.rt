@@ -17,12 +17,12 @@ ghost use Rattle.rkt_worker.specs.Progress.{Advances};
 ghost use Rattle.rkt_worker.specs.Sent.{BodyFails, IsSentAs, LeftBy};
 
 use crate::Gates;
-use rkt_base::{NoMemory, Poll};
+use rkt_base::Poll;
 use rkt_board::{End, Failure};
 use rkt_data::{CancellableIo, Gate, Refused, Source};
 use rkt_link::{Handed, Link, SendError};
 use rkt_message::{Piece, PieceError, Pieces, Response};
-use std::alloc::{AllocError, Global};
+use std::alloc::Global;
 use std::sync::Wait;
 
 // Hands a piece to a link, which answers at once.
@@ -86,23 +86,23 @@ fn put<R: Wait, G: Gates, K: Link>(
     gates: &mut G,
     io: &mut CancellableIo<K>,
     mut piece: Piece,
-) -> Result<Option<End>, NoMemory>
+) -> Option<End>
     requires keeps { G.keeps gates.old }
     requires stands { MayStand (G.watched gates.old) io.old.stage }
     ensures keeps { G.keeps gates.new }
     ensures leads { G.leads gates.old gates.new }
-    ensures put { IfOk result (λ ended. PutAs K.meaning (G.watched gates.new) io.old piece io.new ended) }
+    ensures put { PutAs K.meaning (G.watched gates.new) io.old piece io.new result }
     ensures asked { (K.meaning io.new.io).asked ≡ (K.meaning io.old.io).asked }
 {
     for _ in rt.forever() {
         let gate = gates.next_gate();
         match hand_over(io, gate, piece) {
             Poll::Ready(Ok(Handed::Back(back))) => piece = back,
-            Poll::Ready(Ok(Handed::Taken)) => return Ok(None),
-            Poll::Ready(Ok(Handed::Refused(SendError::Fault))) => return Ok(Some(End::Lost)),
-            Poll::Ready(Ok(Handed::Refused(SendError::NoMemory))) => return Err(AllocError),
-            Poll::Ready(Err(_)) => return Ok(Some(cut_off(io))),
-            Poll::Pending => return Ok(Some(shut_down(rt, gates, io))),
+            Poll::Ready(Ok(Handed::Taken)) => return None,
+            Poll::Ready(Ok(Handed::Refused(SendError::Fault))) => return Some(End::Lost),
+            Poll::Ready(Ok(Handed::Refused(SendError::NoMemory))) => return Some(End::Starved),
+            Poll::Ready(Err(_)) => return Some(cut_off(io)),
+            Poll::Pending => return Some(shut_down(rt, gates, io)),
         }
     }
     unreachable!()
@@ -151,7 +151,7 @@ fn put_all<R: Wait, G: Gates, K: Link, S: Source>(
     gates: &mut G,
     io: &mut CancellableIo<K>,
     pieces: &mut Pieces<S>,
-) -> Result<End, NoMemory>
+) -> End
     requires keeps { G.keeps gates.old }
     requires stands { MayStand (G.watched gates.old) io.old.stage }
     requires going { pieces.old.is_over ≡ false }
@@ -160,23 +160,23 @@ fn put_all<R: Wait, G: Gates, K: Link, S: Source>(
     ensures leads { G.leads gates.old gates.new }
     ensures begun { pieces.new.begun ≡ pieces.old.begun }
     ensures reads { ReadsOn S.meaning (word_in (G.watched gates.new).trip) pieces.old.response.body.content pieces.new.response.body.content }
-    ensures ended { IfOk result (λ ended. (taken : List Piece) × IsSentAs S.meaning pieces.old.turns pieces.old.begun pieces.new.response ended taken × LeftBy ended (K.meaning io.old.io) taken (K.meaning io.new.io)) }
-    ensures cut { IfOk result (IsCutOff (G.watched gates.new) io.new.stage) }
+    ensures ended { (taken : List Piece) × IsSentAs S.meaning pieces.old.turns pieces.old.begun pieces.new.response result taken × LeftBy result (K.meaning io.old.io) taken (K.meaning io.new.io) }
+    ensures cut { IsCutOff (G.watched gates.new) io.new.stage result }
     ensures asked { (K.meaning io.new.io).asked ≡ (K.meaning io.old.io).asked }
 {
     for _ in rt.forever() {
         let piece = match next_piece(rt, alloc, gates, pieces) {
             Ok(piece) => piece,
-            Err(PieceError::BadHead) => return Ok(End::Failed(Failure::BadHead)),
-            Err(PieceError::BodyFault) => return Ok(End::Failed(Failure::BodyFault)),
-            Err(PieceError::NoMemory) => return Err(AllocError),
+            Err(PieceError::BadHead) => return End::Failed(Failure::BadHead),
+            Err(PieceError::BodyFault) => return End::Failed(Failure::BodyFault),
+            Err(PieceError::NoMemory) => return End::Starved,
         };
         let last = is_end(&piece);
-        if let Some(ended) = put(rt, gates, io, piece)? {
-            return Ok(ended);
+        if let Some(ended) = put(rt, gates, io, piece) {
+            return ended;
         }
         if last {
-            return Ok(End::Answered);
+            return End::Answered;
         }
     }
     unreachable!()
@@ -192,15 +192,15 @@ pub fn send<R: Wait, G: Gates, K: Link, S: Source>(
     io: &mut CancellableIo<K>,
     response: Response<S>,
     turns: u32,
-) -> (Response<S>, Result<End, NoMemory>)
+) -> (Response<S>, End)
     requires keeps { G.keeps gates.old }
     requires active { io.old.stage ≡ Stage.Active }
     ensures keeps { G.keeps gates.new }
     ensures leads { G.leads gates.old gates.new }
     ensures read_on { ReadOn S.meaning response result.0 }
     ensures reads { ReadsOn S.meaning (word_in (G.watched gates.new).trip) response.body.content result.0.body.content }
-    ensures ended { IfOk result.1 (λ ended. (taken : List Piece) × IsSentAs S.meaning (max turns 1) response result.0 ended taken × LeftBy ended (K.meaning io.old.io) taken (K.meaning io.new.io)) }
-    ensures cut { IfOk result.1 (IsCutOff (G.watched gates.new) io.new.stage) }
+    ensures ended { (taken : List Piece) × IsSentAs S.meaning (max turns 1) response result.0 result.1 taken × LeftBy result.1 (K.meaning io.old.io) taken (K.meaning io.new.io) }
+    ensures cut { IsCutOff (G.watched gates.new) io.new.stage result.1 }
     ensures asked { (K.meaning io.new.io).asked ≡ (K.meaning io.old.io).asked }
 {
     let mut pieces = Pieces::new(response, turns);

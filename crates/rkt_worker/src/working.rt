@@ -1,11 +1,11 @@
 //! What serves a link: one exchange with it, and the sending of its response.
-ghost use Rattle.std.specs.Prelude.{◌≡◌, ◌≢◌, ℕ, [], Bool, Option, None, Some, false, IfSome, IsSome, IsSomeAnd, IsTrue};
+ghost use Rattle.std.specs.Prelude.{◌≡◌, ◌≢◌, ℕ, [], Bool, Option, None, Some, true, false, IfSome, IsNone, IsSome, IsSomeAnd, IsTrue};
 ghost use Rattle.std.specs.List.{list_any, All};
 ghost use Rattle.std.specs.Option.{ForSome};
 ghost use Rattle.rkt_routing.specs.Backs.{Sees};
 ghost use Rattle.rkt_turn.specs.HandsBack.{HandsBack};
 ghost use Rattle.rkt_board.specs.Board.{Keeps};
-ghost use Rattle.rkt_board.specs.Events.{is_close, trip_of};
+ghost use Rattle.rkt_board.specs.Events.{is_close, is_trip, trip_of};
 ghost use Rattle.rkt_board.specs.Marks.{events};
 ghost use Rattle.rkt_board.specs.Turns.{TripsAs};
 ghost use Rattle.rkt_board.specs.declared.history.End.TheVariants.{Abandoned};
@@ -51,8 +51,8 @@ fn turns_of<A: App>(tables: &Tables<A>) -> u32
     tables.config.turns
 }
 
-// Sends the response of a run, and keeps both with how that ended. The board is looked at meanwhile; the source of the body may be
-// Pending so often in a row.
+// Sends the response of a run, and keeps both with how that ended. Where there is no memory to keep them, nothing is sent. The board
+// is looked at meanwhile; the source of the body may be Pending so often in a row.
 fn answer<A: App, R: Wait, L: Listener, C: Clock>(
     rt: &R,
     alloc: Global,
@@ -82,22 +82,20 @@ where
     ensures keeps { Keeps L.Link.meaning L.meaning C.meaning (cause_of A.Reason.allowed A.Fairing.Shuts.calling A.Fairing.Requests.calling A.Fairing.Responses.calling A.Handler.calling A.Catch.calling A.Source.meaning A.Stream.meaning L.Link.meaning) board.new }
 {
     let mut io = CancellableIo::new(link);
-    let (response, sent) = send::<R, BoardOf<A, LentBy<A>, L, C>, L::Link, A::Stream>(
+    // Both have their place before anything is sent.
+    let Ok((run, mut kept)) = kept::<A>(alloc, run, response) else {
+        return EntryOf::unanswered(io, End::Starved);
+    };
+    let response = kept.replace(Response::new(alloc));
+    let (response, ended) = send::<R, BoardOf<A, LentBy<A>, L, C>, L::Link, A::Stream>(
         rt, alloc, board, &mut io, response, turns,
     );
     // What is let go is by a call, in which that is proved once for its type.
-    let Ok(ended) = sent else {
-        drop(run);
-        drop(response);
-        return EntryOf::unanswered(io, End::Starved);
-    };
-    let Ok((run, response)) = kept::<A>(alloc, run, response) else {
-        return EntryOf::unanswered(io, End::Starved);
-    };
+    drop(kept.replace(response));
     EntryOf {
         link: io,
         run: Some(run),
-        response: Some(response),
+        response: Some(kept),
         end: ended,
     }
 }
@@ -126,6 +124,8 @@ impl<'a, A: App, R: Wait> Worker<'a, A, R> {
         ensures late { result.0.end ≡ Abandoned → IsLate self.now.tables.now.config.grace self.now.tables.now.config.mercy (trip_of (events board.new.book.marks.items)) (C.meaning board.new.near.clock).last }
         ensures words { ForSome result.0.run (λ run. IsSomeAnd result.1 (λ handle. All (Sees handle) run.calls)) }
         ensures handle { IfSome result.1 (HandsBack shutdown) }
+        // One that keeps its handle was left alone behind a Trip.
+        ensures left { IsNone result.1 → list_any is_trip (events board.new.book.marks.items) ≡ true }
         ensures clock { TellsOn (C.meaning board.old.near.clock) (C.meaning board.new.near.clock) }
         ensures adds { TripsAs 0 board.old.book.marks.items board.new.book.marks.items }
         ensures keeps { Keeps L.Link.meaning L.meaning C.meaning (cause_of A.Reason.allowed A.Fairing.Shuts.calling A.Fairing.Requests.calling A.Fairing.Responses.calling A.Handler.calling A.Catch.calling A.Source.meaning A.Stream.meaning L.Link.meaning) board.new }

@@ -72,12 +72,7 @@ impl Server {
     }
 
     /// A request without headers.
-    pub fn request(
-        &self,
-        alloc: Global,
-        method: Method,
-        uri: Origin,
-    ) -> Result<Request<'_, Sample>, NoMemory> {
+    pub fn request(&self, alloc: Global, method: Method, uri: Origin) -> Request<'_, Sample> {
         Request::new(alloc, &self.config, &self.managed, method, uri)
     }
 }

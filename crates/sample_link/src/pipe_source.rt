@@ -73,7 +73,7 @@ impl Source for PipeSource {
 
     ghost meaning = { giving_meaning };
 
-    ghost polled = { λ s _ answer t. ReadsMore s answer t };
+    ghost polled = { λ s _ _ answer t. ReadsMore s answer t };
 
     fn poll_read(&mut self, _gate: Gate, buf: &mut [u8]) -> Poll<Result<usize, SourceError>> {
         if buf.is_empty() {

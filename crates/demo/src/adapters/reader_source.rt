@@ -38,7 +38,7 @@ impl<R: Read + Drop> Source for ReaderSource<R> {
 
     ghost meaning = { λ s. record { whole = None; taken = s.taken; faults = s.faults; never_faults = false; warned = false; shut = false; pended = 0; pendings = 0 } };
 
-    ghost polled = { λ _ _ _ _. Unit {0} };
+    ghost polled = { λ _ _ _ _ _. Unit {0} };
 
     // A read whose bytes no u64 can count any more is refused.
     fn poll_read(&mut self, _gate: Gate, buf: &mut [u8]) -> Poll<Result<usize, SourceError>> {

@@ -1,8 +1,7 @@
 //! The bytes of the sources that a stream gives, as one source.
 ghost use Rattle.std.specs.Prelude.{◌≡◌, ◌<◌, ◌≤◌, ◌||◌, None, is_some, length};
 ghost use Rattle.rkt_base.specs.Poll.{IfReadyErr};
-ghost use Rattle.rkt_stream.specs.Flat.{IsFresh, GivesFresh, Goes, Advances, ReadsItem, Refuses};
-ghost use Rattle.rkt_stream.specs.Flow.{Asked};
+ghost use Rattle.rkt_stream.specs.Flat.{IsFresh, GivesFresh, Goes, Advances, ReadsInTurn, ReadsItem, Refuses};
 
 use crate::stream::{One, Stream};
 use crate::tally::Tally;
@@ -87,10 +86,13 @@ where
     requires room { 0 < length buf.old }
     requires fresh { GivesFresh S.flow S.Item.meaning S.may_give stream.old }
     ensures goes { Goes S.flow S.Item.meaning S.may_give gate.tripped (record { stream = stream.old; item = item.old }) (record { stream = stream.new; item = item.new }) }
-    ensures asked { Asked S.polled gate stream.old stream.new }
-    ensures item { ReadsItem S.Item.polled S.may_give gate result (record { stream = stream.old; item = item.old }) item.new }
+    ensures in_turn { ReadsInTurn S.polled S.Item.polled gate (length buf.old)
+        (record { stream = stream.old; item = item.old })
+        result
+        (record { stream = stream.new; item = item.new }) }
+    ensures item { ReadsItem S.Item.polled S.may_give gate (length buf.old) result (record { stream = stream.old; item = item.old }) item.new }
     ensures answer { Advances S.flow S.Item.meaning (record { stream = stream.old; item = item.old }) (record { stream = stream.new; item = item.new }) buf.old buf.new result }
-    ensures refuses { IfReadyErr result (Refuses S.Item.meaning S.Item.polled gate item.new) }
+    ensures refuses { IfReadyErr result (Refuses S.Item.meaning S.Item.polled gate (length buf.old) item.new) }
 {
     loop {
         match item {
@@ -142,7 +144,7 @@ where
 
     ghost meaning = { flat_meaning S.flow S.Item.meaning };
 
-    ghost polled = { λ a gate answer b. ReadsFlat S.Item.meaning S.polled S.Item.polled S.may_give a gate answer b };
+    ghost polled = { λ a gate room answer b. ReadsFlat S.Item.meaning S.polled S.Item.polled S.may_give a gate room answer b };
 
     fn poll_read(&mut self, gate: Gate, buf: &mut [u8]) -> Poll<Result<usize, SourceError>> {
         if buf.is_empty() {

@@ -1,7 +1,7 @@
 use Rattle.std.proofs.Common.{Ok, Err}
 use Rattle.rkt_base.specs.declared.poll.Poll.TheVariants.{Ready, Pending}
-use Rattle.rkt_data.proofs.Drains.{Follows-trans}
-use Rattle.rkt_data.proofs.Taps.{ByGate-caused, ByGate-trans}
+use Rattle.rkt_data.proofs.Drains.{Draws-closed, Follows-trans}
+use Rattle.rkt_data.proofs.Taps.{ByGate-caused}
 use Rattle.rkt_data.proofs.into_bytes.finish.Goals as goal
 
 pub returns-in-Failed-clause-by_gate : goal.returns-in-Failed-clause-by_gate
@@ -18,20 +18,21 @@ returns-in-NoMemory-clause-by_gate g c = let draws = rw c.in-NoMemory.is at c.dr
 pub returns-in-Pending-clause-by_gate : goal.returns-in-Pending-clause-by_gate
 returns-in-Pending-clause-by_gate g c =
     let draws = rw c.in-End.is at c.drain-count.ensures.draws in
-    ByGate-trans g.S.Source.polled c.args.gate Pending _ c.drain-count.new.pipe.opened.tap _ draws.by_gate c.in-Pending.ensures.by_gate
+    Draws-closed Pending draws c.in-Pending.ensures.below c.in-Pending.ensures.by_gate
 
 pub returns-in-Ready-Err-clause-by_gate : goal.returns-in-Ready-Err-clause-by_gate
 returns-in-Ready-Err-clause-by_gate g c =
     let draws = rw c.in-End.is at c.drain-count.ensures.draws in
     let closed = rw c.in-Ready-Err.field-0-is at c.in-Ready-Err.ensures.by_gate in
-    ByGate-caused g.S.Source.polled c.args.gate c.in-Ready-Err.e _ _ _ c.from-in-Ready-Err.ensures
-    (ByGate-trans g.S.Source.polled c.args.gate (Ready (Err c.in-Ready-Err.e)) _ c.drain-count.new.pipe.opened.tap _ draws.by_gate closed)
+    let below = rw c.in-Ready-Err.field-0-is at c.in-Ready-Err.ensures.below in
+    ByGate-caused g.S.Source.polled c.args.gate c.in-Ready-Err.e _ _ _ c.from-in-Ready-Err.ensures (Draws-closed (Ready (Err c.in-Ready-Err.e)) draws below closed)
 
 pub returns-in-Ready-Ok-clause-by_gate : goal.returns-in-Ready-Ok-clause-by_gate
 returns-in-Ready-Ok-clause-by_gate g c =
     let draws = rw c.in-End.is at c.drain-count.ensures.draws in
     let closed = rw c.in-Ready-Ok.field-0-is at c.in-Ready-Ok.ensures.by_gate in
-    ByGate-trans g.S.Source.polled c.args.gate (Ready (Ok tt)) _ c.drain-count.new.pipe.opened.tap _ draws.by_gate closed
+    let below = rw c.in-Ready-Ok.field-0-is at c.in-Ready-Ok.ensures.below in
+    Draws-closed (Ready (Ok c.in-Ready-Ok.complete)) draws below closed
 
 pub returns-in-Pending-clause-follows : goal.returns-in-Pending-clause-follows
 returns-in-Pending-clause-follows g c = Follows-trans c.drain-count.ensures.draws.follows c.close.ensures.follows

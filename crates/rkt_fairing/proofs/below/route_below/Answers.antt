@@ -1,8 +1,18 @@
-use Rattle.std.proofs.Common.{rules}
-use Rattle.rkt_fairing.proofs.Moved.{moved_route}
+use Rattle.std.proofs.Common.{◌≡◌, ◌++◌, rules, subst, sym}
+use Rattle.std.specs.Prelude.{string_bytes}
+use Rattle.rkt_uri.specs.Origin.{IsOrigin}
+use Rattle.rkt_uri.specs.declared.origin_place.Profile.TheVariants.{Request}
+use Rattle.rkt_fairing.proofs.Moved.{moved_route, was_refused}
+use Rattle.rkt_fairing.proofs.Stands.{stands_behind}
 use Rattle.rkt_fairing.proofs.below.route_below.Goals as goal
 
-pub returns-in-Ok-clause-ok : goal.returns-in-Ok-clause-ok
-returns-in-Ok-clause-ok g c =
+pub returns-in-Ok : goal.returns-in-Ok
+returns-in-Ok g c =
     let moves = c.in-Ok.ensures.accepted in
-    moved_route c.says_what_it_spells.ensures c.args.route c.args.path.now _ _ (search (rules, moves.1)) moves.2
+    moved_route c.says_what_it_spells.ensures c.args.route c.args.base.now.path _ _ (search (rules, moves.1)) moves.2
+
+pub unreachable-requires : goal.unreachable-requires
+unreachable-requires g c =
+    let refused = was_refused _ _ _ c.in-Err-Refused.field-0-is c.in-Err-Refused.ensures.refused in
+    let text : string_bytes refused.0 ≡ c.args.base.now.path ++ c.args.route.uri.base.path = search (rules, refused.1) in
+    refused.2.outside (subst (IsOrigin Request) (sym text) (stands_behind c.args.base.now c.args.route.uri.base c.origin.ensures.fits c.base_origin.ensures.fits))

@@ -1,6 +1,6 @@
-use Rattle.std.proofs.Common.{◌≡◌, ◌∙◌, sym, subst, arith, length-drop, length-take, length-append}
+use Rattle.std.proofs.Common.{◌≡◌, ◌<◌, ◌-◌, ◌∙◌, length, take, drop, sym, subst, arith, length-drop, length-take, length-append}
 use Rattle.rkt_message.specs.Reading.{Takes}
-use Rattle.rkt_message.proofs.Readings.{ByGate-caused, BytesErr-after, BytesErr-read, Draws-nothing, Draws-read, Draws-start, StreamWaits-after, left_same}
+use Rattle.rkt_message.proofs.Readings.{ByGate-caused, ByGate-gave, BytesErr-after, BytesErr-read, Draws-nothing, Draws-read, Draws-start, StreamWaits-after, left_same}
 use Rattle.rkt_message.proofs.drain.pour.Goals as goal
 
 pub loop-n-init : goal.loop-n-init
@@ -9,7 +9,9 @@ loop-n-init g c = (Draws-start g.S.Source.meaning g.S.Source.polled c.args.gate 
 pub loop-n-preserved : goal.loop-n-preserved
 loop-n-preserved g c =
     let a = rw c.in-Ready-Ok.field-0-is at c.in-Ready-Ok.ensures.answer in
-    let asks = rw c.in-Ready-Ok.field-0-is at c.in-Ready-Ok.ensures.by_gate in (
+    let source = rw c.in-Ready-Ok.field-0-is at c.in-Ready-Ok.ensures.source in
+    let room : 0 < length (take (length c.loop-n.room - c.loop-n.n) (drop c.loop-n.n c.loop-n.room)) = simp (length-take, length-drop) (omega arith) in
+    let asks = ByGate-gave g.S.Source.meaning g.S.Source.polled c.args.gate c.in-Ready-Ok.k c.loop-n.body.content c.poll_read.new.self.content _ _ (omega arith) room source in (
       Draws-read c.loop-n.n c.in-Ready-Ok.k c.loop-n.room c.poll_read.new.buf _ c.loop-n.invariant.0 c.loop-n.invariant.1 (omega (arith, a.0, c.poll_read.auto.buf)) c.poll_read.ensures.follows c.poll_read.ensures.preset asks a.1 (λ w t. (a.2 w t).0) a.3,
       simp (length-append, length-take, length-drop) (omega (arith, a.0, c.poll_read.auto.buf)),
     )

@@ -1,10 +1,10 @@
-use Rattle.std.proofs.Common.{Ok, length, take, ◌-◌, ◌≤◌}
-use Rattle.rkt_base.specs.declared.poll.Poll.TheVariants.{Ready}
+use Rattle.std.proofs.Common.{length, take, ◌-◌, ◌≤◌}
+use Rattle.rkt_data.specs.Tap.{gave}
 use Rattle.rkt_message.specs.Whole.{Draws}
 use Rattle.rkt_message.proofs.drain.pour.Given as goal
 
 abbrev pub invariant-loop-n : goal.invariant-loop-n
-invariant-loop-n g l = Draws g.S.Source.meaning g.S.Source.polled l.gate (Ready (Ok tt)) l.fn.body l.body (take l.count l.fn.room) (take l.n l.room) × (l.n ≤ length l.room)
+invariant-loop-n g l = Draws g.S.Source.meaning g.S.Source.polled l.gate gave l.fn.body l.body (take l.count l.fn.room) (take l.n l.room) × (l.n ≤ length l.room)
 
 abbrev pub decreases-loop-n : goal.decreases-loop-n
 decreases-loop-n g l = length l.initial.room - l.n

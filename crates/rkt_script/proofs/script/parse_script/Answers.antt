@@ -1,8 +1,7 @@
 use Rattle.std.proofs.Common.{◌≡◌, ◌∙◌, ℕ, List, length, not, refl, inl, inr, ap, sym, length-append, arith}
 use Rattle.std.specs.Option.{option_map}
-use Rattle.rkt_script.specs.Script.{lines_of, content_of, add_line, is_shutdown, IsGood}
-use Rattle.rkt_script.specs.declared.script.ScriptRequest.{ScriptRequest}
-use Rattle.rkt_script.proofs.Offered.{Tells, behind_line, ended, goes_on, offers}
+use Rattle.rkt_script.specs.Script.{lines_of, content_of, is_shutdown, AddsWithin}
+use Rattle.rkt_script.proofs.Offered.{Tells, ended, goes_on}
 use Rattle.rkt_script.proofs.script.parse_script.Goals.{then-is_none+then-is_shutdown, else-is_none, else-is_none-via-then-is_none+else-is_shutdown, else-is_none-via-else-is_none}
 use Rattle.rkt_script.proofs.script.parse_script.Goals as goal
 
@@ -25,7 +24,7 @@ returns-in-Err-Refused-clause-line c =
       ]
     ] in
     let refused = rw c.in-Err-Refused.field-0-is at c.in-Err-Refused.ensures.refused in
-    c.loop-rest.invariant.1 c.loop-rest.number (rw c.first_line.ensures.lines (inl (refl, λ good. refused (rw content (tells.bad good.1)))))
+    c.loop-rest.invariant.1 c.loop-rest.number (rw c.first_line.ensures.lines (inl (refl, λ next good. refused next (rw content (tells.bad next good.1)))))
 
 pub loop-rest-preserved : goal.loop-rest-preserved
 loop-rest-preserved c =
@@ -48,11 +47,10 @@ loop-rest-preserved c =
     let inv = c.loop-rest.invariant in
     let after = c.first_line.result.1.now in
     let lines = c.first_line.ensures.lines in
-    let here : IsGood c.loop-rest.room c.loop-rest.requests.items line = (omega arith, tells.good (rw content at c.in-Ok.ensures.good)) in
-    let read : c.read_line.new.requests.items ≡ behind_line c.loop-rest.requests.items line = c.in-Ok.ensures.read ∙ ap (add_line c.if-is_none.requests.items) content ∙ tells.read in (
-      λ good. inv.0 (rw lines (here, rw (sym read) good)),
-      λ number bad. inv.1 number (rw lines (inr (here, rw (sym read) bad))),
-      ap (λ (rs : List ScriptRequest). offers (option_map (λ v. v.items) c.if-is_none.offered) rs (lines_of after)) read ∙ tells.offers (lines_of after)
-          ∙ ap (offers (option_map (λ v. v.items) c.loop-rest.offered) c.loop-rest.requests.items) (sym lines) ∙ inv.2,
+    let next = c.read_line.new.requests.items in
+    let here : AddsWithin c.loop-rest.room c.loop-rest.requests.items line next = (omega arith, tells.good next (rw content at c.in-Ok.ensures.read)) in (
+      λ good. inv.0 (rw lines (good.0, (next, here, good.1))),
+      λ number bad. inv.1 number (rw lines (inr (next, here, bad))),
+      λ offered offers. inv.2 offered (rw lines (tells.offers c.loop-rest.room next (lines_of after) offered here offers)),
       omega (arith, inv.3, ap length c.first_line.ensures.parts, length-append line after, c.first_line.ensures.moves),
     )

@@ -19,15 +19,8 @@ pub returns-in-Ok-clause-read : goal.returns-in-Ok-clause-read
 returns-in-Ok-clause-read c =
     let same : c.in-Ok.name.now ≡ c.split_token.result.0.now = grind (arith, common_steps, c.in-Ok.ensures.cases) in
     let some : 0 < length c.in-Ok.name.now = search rules in
-    (field_read c.args.content.now c.in_ok-text.text.now c.in-Ok.name.now c.split_token.result.1.now c.in_ok-value.value.now c.in_ok-text.ensures.some (same ∙ c.split_token.ensures.token)
-    (c.split_token.ensures.parts ∙ ap (λ (word : List ℕ). word ++ c.split_token.result.1.now) (sym same)) c.in_ok-value.ensures.some some).0
-
-pub returns-in-Ok-clause-field : goal.returns-in-Ok-clause-field
-returns-in-Ok-clause-field c =
-    let same : c.in-Ok.name.now ≡ c.split_token.result.0.now = grind (arith, common_steps, c.in-Ok.ensures.cases) in
-    let some : 0 < length c.in-Ok.name.now = search rules in
-    (field_read c.args.content.now c.in_ok-text.text.now c.in-Ok.name.now c.split_token.result.1.now c.in_ok-value.value.now c.in_ok-text.ensures.some (same ∙ c.split_token.ensures.token)
-    (c.split_token.ensures.parts ∙ ap (λ (word : List ℕ). word ++ c.split_token.result.1.now) (sym same)) c.in_ok-value.ensures.some some).1
+    field_read c.args.content.now c.in_ok-text.text.now c.in-Ok.name.now c.split_token.result.1.now c.in_ok-value.value.now c.in_ok-text.ensures.some (same ∙ c.split_token.ensures.token)
+    (c.split_token.ensures.parts ∙ ap (λ (word : List ℕ). word ++ c.split_token.result.1.now) (sym same)) c.in_ok-value.ensures.some some
 
 pub returns-in_default-clause-refused : goal.returns-in_default-clause-refused
 returns-in_default-clause-refused c name value header =

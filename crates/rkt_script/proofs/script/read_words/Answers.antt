@@ -2,8 +2,8 @@ use Rattle.std.proofs.Common.{◌≡◌, ◌∙◌, ◌<◌, length, lit<, ap, a
 use Rattle.std.specs.List.{position_or_len, before_first, after_first}
 use Rattle.std.proofs.lemmas.Bool.{false≢true}
 use Rattle.std.proofs.lemmas.Grind.{common_steps}
-use Rattle.rkt_script.specs.Script.{is_space, is_word, is_capital, is_visible}
-use Rattle.rkt_script.proofs.Requests.{IsUtf8-request, request_within, request_cut}
+use Rattle.rkt_script.specs.Script.{is_word, is_capital, is_visible}
+use Rattle.rkt_script.proofs.Requests.{IsUtf8-request, is_space, request_within, request_cut}
 use Rattle.rkt_script.proofs.script.read_words.Goals.{else-is_method-via-then-is_method+else-is_target, else-is_method-via-else-is_method}
 use Rattle.rkt_script.proofs.script.read_words.Goals as goal
 

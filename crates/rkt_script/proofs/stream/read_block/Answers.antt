@@ -1,4 +1,4 @@
-use Rattle.std.proofs.Common.{◌∙◌, refl, arith}
+use Rattle.std.proofs.Common.{◌∙◌, ◌<◌, length, refl, arith}
 use Rattle.rkt_script.specs.Streams.{Awaits}
 use Rattle.rkt_script.proofs.StreamLemmas.{still_unwarned}
 use Rattle.rkt_script.proofs.stream.read_block.Goals as goal
@@ -15,5 +15,5 @@ loop-preserved g c =
       tt,
       tt,
       record { whole = kept.whole ∙ read.whole; next = λ w is. refl; taken = omega (arith, read.taken, c.in-Pending.ensures.answer.0); faults = omega (arith, read.faults, kept.faults); unwarned = still_unwarned before after kept read.unwarned },
-      Awaits.more c.loop.invariant.3 (c.in-Pending.ensures.polled (omega (arith, c.requires.room, c.loop.auto.block))),
+      (let room : 0 < length c.loop.block = omega (arith, c.requires.room, c.loop.auto.block) in Awaits.more c.loop.invariant.3 (_, room, c.in-Pending.ensures.polled room)),
     )

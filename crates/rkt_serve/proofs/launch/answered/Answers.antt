@@ -1,4 +1,4 @@
-use Rattle.std.proofs.Common.{◌≡◌, List, ℕ, ap, refl, subst, sym, ◌∙◌}
+use Rattle.std.proofs.Common.{◌≡◌, ◌<◌, List, ℕ, ap, refl, subst, sym, ◌∙◌}
 use Rattle.rkt_lifecycle.specs.Tables.{SeenTables}
 use Rattle.rkt_life.specs.Rocket.{SeenRocket}
 use Rattle.rkt_turn.specs.HandsBack.{HandsBack}
@@ -20,6 +20,11 @@ left_with tables table closed rocket is = record {
   history = refl;
 }
 
+-- a handle that comes back is the closed one
+tripped_with : {F H K N V : Type 0} (tables : SeenTables F H K N V) (table : List (List ℕ × List ℕ)) (handle : Handle) (rocket : SeenRocket F H K N V) (T : Type 0) → rocket ≡ record { tables = tables; table = table; handle = handle }
+    → (0 < handle.seen → T) → 0 < rocket.handle.seen → T
+tripped_with tables table handle rocket T is known some = known (subst (λ (n : ℕ). 0 < n) (ap (λ r. r.handle.seen) is) some)
+
 pub returns-then-failed : goal.returns-then-failed
 returns-then-failed g c =
     let kind = c.new.ensures in
@@ -33,6 +38,8 @@ returns-then-failed g c =
       kept_none_abandoned = rw kind tt;
       kept_goes_on = rw kind tt;
       shutdown = rw kind (c.has_failed-failed.ensures.failed c.if-failed.true);
+      tripped = λ known. tt;
+      kept_tripped = λ known. rw kind (tripped_with c.args.tables c.args.table c.args.closed.handle _ _ (c.into_ignite.ensures ∙ c.from_parts.ensures) known);
       lit = rw kind tt;
     }
 
@@ -47,6 +54,8 @@ returns-then-over g c = record {
   kept_none_abandoned = tt;
   kept_goes_on = tt;
   shutdown = tt;
+  tripped = λ known. tripped_with c.args.tables c.args.table c.args.closed.handle _ _ (c.into_ignite.ensures ∙ c.from_parts.ensures) known;
+  kept_tripped = λ known. tt;
   lit = tt;
 }
 
@@ -63,5 +72,7 @@ returns g c =
       kept_none_abandoned = rw kind (c.has_failed-failed.ensures.none_abandoned c.if-failed.false);
       kept_goes_on = rw kind (c.is_over-over.ensures.goes_on c.if-over.false, c.is_over-over.ensures.trip c.if-over.false);
       shutdown = rw kind tt;
+      tripped = λ known. tt;
+      kept_tripped = λ known. rw kind (tripped_with c.args.tables c.args.table c.args.closed.handle _ _ (c.into_ignite.ensures ∙ c.from_parts.ensures) known);
       lit = rw kind tt;
     }

@@ -1,4 +1,5 @@
-use Rattle.rkt_worker.proofs.Outcomes.{if_failed}
+use Rattle.std.proofs.Common.{ap}
+use Rattle.rkt_serve.proofs.Lighting.{if_failed}
 use Rattle.rkt_serve.proofs.launch.begin.Goals as goal
 
 pub returns-in_err-book : goal.returns-in_err-book
@@ -63,6 +64,9 @@ returns-clause-blank g c = c.in_ok-book.ensures
 pub returns-clause-empty : goal.returns-clause-empty
 returns-clause-empty g c = c.in_ok-room.ensures.empty
 
+pub returns-clause-room : goal.returns-clause-room
+returns-clause-room g c = rw (ap (λ fairings. fairings.places) c.liftoff.ensures.kept) c.in_ok-room.ensures.room
+
 pub returns-clause-lends : goal.returns-clause-lends
 returns-clause-lends g c = c.in_ok-shutdown.ensures.copy
 
@@ -70,7 +74,7 @@ pub returns-clause-lifts : goal.returns-clause-lifts
 returns-clause-lifts g c = rw c.split.ensures.same at c.in_ok-calls.ensures.lifts
 
 pub returns-clause-tables : goal.returns-clause-tables
-returns-clause-tables g c = c.lift_tables.ensures.tables
+returns-clause-tables g c = c.liftoff.ensures.tables
 
 pub returns-clause-handle : goal.returns-clause-handle
-returns-clause-handle g c = rw c.split.ensures.same at c.lift_tables.ensures.handle
+returns-clause-handle g c = rw c.split.ensures.same at c.liftoff.ensures.handle

@@ -1,5 +1,7 @@
-use Rattle.std.proofs.Common.{◌≡◌, ◌<◌, ◌≤◌, ◌+◌, ◌∙◌, Some, ap, sym, subst}
-use Rattle.rkt_board.specs.Events.{admitted}
+use Rattle.std.proofs.Common.{◌≡◌, ◌<◌, ◌≤◌, ◌+◌, ◌∙◌, Some, true, ap, sym, subst}
+use Rattle.std.specs.Prelude.{IfSome}
+use Rattle.std.specs.List.{list_any}
+use Rattle.rkt_board.specs.Events.{admitted, is_trip}
 use Rattle.rkt_worker.specs.Headline.{IsLegal}
 use Rattle.rkt_worker.specs.Serving.{serving}
 use Rattle.rkt_worker.proofs.Closing.{legal_of}
@@ -56,3 +58,16 @@ returns-clause-looked g c =
     let name = c.bring_to_close.ensures.name ∙ (c.bring_down.ensures.name ∙ c.work-back.ensures.name) in
     let handle = ap (λ n. n.handle.value) name ∙ c.lift-board.ensures.name.3 in
     subst (λ h. h.looked + admitted c.finish-closed.result.history.events ≤ c.finish-closed.result.handle.looked) handle c.finish-closed.ensures.looked
+
+pub returns-clause-tripped : goal.returns-clause-tripped
+returns-clause-tripped g c some =
+    let over = c.finish-closed.ensures in
+    let handle = over.near.2 ∙ (c.bring_to_close.ensures.handle ∙ c.bring_down.ensures.handle) in
+    let trips = ap (list_any is_trip) over.history ∙ (c.bring_to_close.ensures.trips ∙ c.bring_down.ensures.trips) in
+    trips ∙ c.work-back.ensures.tripped (subst (λ h. 0 < h.seen) handle some)
+
+pub returns-clause-lent_tripped : goal.returns-clause-lent_tripped
+returns-clause-lent_tripped g c first =
+    let over = c.finish-closed.ensures in
+    let trips = ap (list_any is_trip) over.history ∙ (c.bring_to_close.ensures.trips ∙ c.bring_down.ensures.trips) in
+    subst (λ t. IfSome c.work-back.result (λ back. 0 < back.seen → t ≡ true)) (sym trips) (c.work-back.ensures.lent (λ some. subst (λ h. 0 < h.seen) (sym c.lift-board.ensures.handle) (first some)))

@@ -56,7 +56,7 @@ returns-in-Ready-Ok-Refused-NoMemory g c =
     record {
       keeps = next.keeps;
       leads = g.met.G.Gates.goes_on _ _ _ next.keeps inv.3 next.leads;
-      put = tt;
+      put = over.2 ∙ inv.5;
       asked = ap (λ (m : LinkMeaning). m.asked) (over.2 ∙ inv.5);
     }
 

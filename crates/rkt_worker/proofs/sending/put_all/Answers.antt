@@ -1,12 +1,12 @@
 use Rattle.std.proofs.Common.{Err, ◌∙◌, ◌++◌, ◌∷◌, [], ap, sym}
 use Rattle.rkt_link.specs.Link.{LinkMeaning, with_taken}
 use Rattle.rkt_message.specs.Sent.{has_head}
-use Rattle.rkt_worker.proofs.Outcomes.{if_failed, put_cuts}
+use Rattle.rkt_worker.proofs.Outcomes.{put_cuts}
 use Rattle.rkt_worker.proofs.Pieces.{with_taken-nil, with_taken-with_taken}
 use Rattle.rkt_worker.proofs.BodyReads.{reads_none}
 use Rattle.rkt_worker.proofs.Cutting.{reads_both}
 use Rattle.rkt_worker.proofs.Handings.{stands_on}
-use Rattle.rkt_worker.proofs.Sendings.{put_ends, sent_all, sent_fails, sent_front, sent_more, sent_nothing}
+use Rattle.rkt_worker.proofs.Sendings.{put_ends, sent_all, sent_fails, sent_front, sent_more, sent_nothing, starved_part}
 use Rattle.rkt_worker.proofs.sending.put_all.Goals as goal
 
 pub loop-init : goal.loop-init
@@ -17,7 +17,7 @@ loop-preserved g c =
     let inv = c.loop.invariant in
     let partly = inv.5 in
     let piece = c.in-Ok.piece in
-    let put = c.in_ok-ended.ensures in
+    let put = c.put.ensures in
     let taken = rw c.in_default.is at put.put in (
       tt,
       tt,
@@ -80,41 +80,26 @@ returns-in-Err-NoMemory g c =
       leads = g.met.G.Gates.goes_on _ _ _ next.keeps inv.3 next.leads;
       begun = next.begun ∙ inv.5.1.begun;
       reads = reads_both g.S.Source.meaning _ _ _ _ _ _ (g.met.G.Gates.tells _ _ next.leads) (g.met.G.Gates.tells _ _ (g.met.G.Gates.stays _)) inv.6 next.reads;
-      ended = tt;
+      ended = (inv.5.0, starved_part g.S.Source.meaning c.args.pieces.now c.loop.pieces inv.5.0 inv.5.1, inv.5.2);
       cut = tt;
       asked = ap (λ (m : LinkMeaning). m.asked) inv.5.2;
     }
 
-pub returns-in_err-ended : goal.returns-in_err-ended
-returns-in_err-ended g c =
+pub returns-in-Some-put : goal.returns-in-Some-put
+returns-in-Some-put g c =
     let inv = c.loop.invariant in
     let next = c.next_piece.ensures in
     let put = c.put.ensures in
-    record {
-      keeps = put.keeps;
-      leads = g.met.G.Gates.goes_on _ _ _ put.keeps (g.met.G.Gates.goes_on _ _ _ next.keeps inv.3 next.leads) put.leads;
-      begun = next.begun ∙ inv.5.1.begun;
-      reads = reads_both g.S.Source.meaning _ _ _ _ _ _ (g.met.G.Gates.tells _ _ next.leads) (g.met.G.Gates.tells _ _ put.leads) inv.6 next.reads;
-      ended = if_failed _ c.from_residual.result c.from_residual.ensures.0;
-      cut = if_failed _ c.from_residual.result c.from_residual.ensures.0;
-      asked = put.asked ∙ ap (λ (m : LinkMeaning). m.asked) inv.5.2;
-    }
-
-pub returns-in-Some-2 : goal.returns-in-Some-2
-returns-in-Some-2 g c =
-    let inv = c.loop.invariant in
-    let next = c.next_piece.ensures in
-    let put = c.put.ensures in
-    let over = rw c.in-Some-2.is at c.in_ok-ended.ensures.put in
+    let over = rw c.in-Some-put.is at put.put in
     let front = sent_front g.S.Source.meaning c.args.pieces.now c.loop.pieces c.next_piece.new.pieces inv.5.0 c.in-Ok.piece inv.5.1 c.in-Ok.ensures.piece next.begun in
-    let ends = put_ends g.K.Link.meaning g.S.Source.meaning _ c.loop.io c.put.new.io c.in-Ok.piece c.in-Some-2.ended c.args.pieces.now.turns c.args.pieces.now.begun c.next_piece.new.pieces.response inv.5.0 (g.K.Link.meaning c.args.io.now.io) over front inv.5.2 in
+    let ends = put_ends g.K.Link.meaning g.S.Source.meaning _ c.loop.io c.put.new.io c.in-Ok.piece c.in-Some-put.ended c.args.pieces.now.turns c.args.pieces.now.begun c.next_piece.new.pieces.response inv.5.0 (g.K.Link.meaning c.args.io.now.io) over front inv.5.2 in
     record {
       keeps = put.keeps;
       leads = g.met.G.Gates.goes_on _ _ _ put.keeps (g.met.G.Gates.goes_on _ _ _ next.keeps inv.3 next.leads) put.leads;
       begun = next.begun ∙ inv.5.1.begun;
       reads = reads_both g.S.Source.meaning _ _ _ _ _ _ (g.met.G.Gates.tells _ _ next.leads) (g.met.G.Gates.tells _ _ put.leads) inv.6 next.reads;
       ended = (inv.5.0, ends.0, ends.1);
-      cut = put_cuts g.K.Link.meaning (g.G.Gates.watched c.put.new.gates) c.loop.io c.put.new.io c.in-Ok.piece c.in-Some-2.ended over;
+      cut = put_cuts g.K.Link.meaning (g.G.Gates.watched c.put.new.gates) c.loop.io c.put.new.io c.in-Ok.piece c.in-Some-put.ended over;
       asked = put.asked ∙ ap (λ (m : LinkMeaning). m.asked) inv.5.2;
     }
 
@@ -124,7 +109,7 @@ returns-then-last g c =
     let next = c.next_piece.ensures in
     let put = c.put.ensures in
     let piece = c.in-Ok.piece in
-    let taken = rw c.in_default.is at c.in_ok-ended.ensures.put in
+    let taken = rw c.in_default.is at put.put in
     record {
       keeps = put.keeps;
       leads = g.met.G.Gates.goes_on _ _ _ put.keeps (g.met.G.Gates.goes_on _ _ _ next.keeps inv.3 next.leads) put.leads;

@@ -1,5 +1,5 @@
-use Rattle.std.proofs.Common.{◌∙◌, ◌++◌, ◌∷◌, []}
-use Rattle.rkt_answers.proofs.Values.{attempt_polled, gate_kept, grown_on}
+use Rattle.std.proofs.Common.{sym, ◌∙◌}
+use Rattle.rkt_answers.proofs.Values.{attempt_polled, attempt_starved, gate_kept}
 use Rattle.rkt_answers.proofs.answers.AnsweringIfHandler.poll.Goals as goal
 
 pub returns-in-Ok-clause-gate : goal.returns-in-Ok-clause-gate
@@ -8,9 +8,11 @@ returns-in-Ok-clause-gate g c =
 
 pub returns-in-Ok-clause-polls : goal.returns-in-Ok-clause-polls
 returns-in-Ok-clause-polls g c = λ body before gates n begun.
-    attempt_polled (λ handler. g.A.AnswersIf.may handler.0) g.A.Value.Responder.may c.args.self.now (record { request = c.args.request.now; body = body }) before c.args.ctx.now c.answer.new.ctx
-    c.outcome_step.new.ctx (gates ++ c.args.ctx.now.gate ∷ []) n c.args.task.now c.outcome_step.new.task c.in-Ok.outcome c.outcome_step.result begun c.in-Ok.ensures.answers c.in-Ok.ensures.grows
-    (c.outcome_step.ensures.steps body begun.0) c.outcome_step.ensures.grows
+    attempt_polled (λ handler. g.A.AnswersIf.may handler.0) g.A.Value.Responder.may c.args.self.now (record { request = c.args.request.now; body = body }) before gates n c.args.task.now c.take.new.self
+    c.args.ctx.now c.answer.new.ctx c.outcome_step.new.ctx c.in-Some.body c.in-Ok.outcome c.outcome_step.result begun (sym c.take.ensures.value ∙ c.in-Some.is) c.take.ensures.after c.in-Ok.ensures.answers
+    c.in-Ok.ensures.grows c.outcome_step.ensures.steps c.outcome_step.ensures.grows
 
 pub returns-in-Err-clause-polls : goal.returns-in-Err-clause-polls
-returns-in-Err-clause-polls g c = λ body before gates n begun. (begun.0, grown_on before c.args.ctx.now c.answer.new.ctx begun.1 c.in-Err.ensures.grows, begun.2)
+returns-in-Err-clause-polls g c = λ body before gates n begun.
+    attempt_starved (λ handler. g.A.AnswersIf.may handler.0) g.A.Value.Responder.may c.args.self.now (record { request = c.args.request.now; body = body }) before gates n c.args.task.now c.take.new.self
+    c.args.ctx.now c.args.ctx.now c.answer.new.ctx begun c.take.ensures.after c.in-Err.ensures.grows

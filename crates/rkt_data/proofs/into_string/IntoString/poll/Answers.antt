@@ -1,8 +1,8 @@
 use Rattle.std.proofs.Common.{◌≡◌, ◌≤◌, ◌∙◌, Ok, Err, false, length, ap, refl, arith}
 use Rattle.rkt_base.specs.declared.poll.Poll.TheVariants.{Ready, Pending}
 use Rattle.std.specs.Prelude.{string_bytes}
-use Rattle.rkt_data.proofs.Drains.{Follows-trans, Gathered-drawn, Gathered-same, IsUsedUp-same, Completes-gathered, whole_same}
-use Rattle.rkt_data.proofs.Taps.{ByGate-caused, ByGate-trans, TapErrs-after}
+use Rattle.rkt_data.proofs.Drains.{Draws-closed, Follows-trans, Gathered-drawn, Gathered-same, IsUsedUp-same, Completes-gathered, whole_same}
+use Rattle.rkt_data.proofs.Taps.{ByGate-caused, TapErrs-after}
 use Rattle.rkt_data.proofs.TextLemmas.{resumed_bytes, TextErr-failed, TextErr-closed}
 use Rattle.rkt_data.proofs.into_string.IntoString.poll.Goals as goal
 
@@ -36,21 +36,22 @@ returns-in-Failed-clause-answer g c = λ unfailed.
 pub returns-in-Pending-clause-by_gate : goal.returns-in-Pending-clause-by_gate
 returns-in-Pending-clause-by_gate g c = λ none.
     let texts = rw c.in-Text.is at c.read_text.ensures.texts in
-    rw (← c.self.view_is) (ByGate-trans g.S.Source.polled c.args.gate Pending _ c.read_text.new.pipe.opened.tap _ texts.0.by_gate c.in-Pending.ensures.by_gate)
+    rw (← c.self.view_is) (Draws-closed Pending texts.0 c.in-Pending.ensures.below c.in-Pending.ensures.by_gate)
 
 pub returns-in-Ready-Err-clause-by_gate : goal.returns-in-Ready-Err-clause-by_gate
 returns-in-Ready-Err-clause-by_gate g c = λ none.
     let texts = rw c.in-Text.is at c.read_text.ensures.texts in
     let closed = rw c.in-Ready-Err.field-0-is at c.in-Ready-Err.ensures.by_gate in
+    let below = rw c.in-Ready-Err.field-0-is at c.in-Ready-Err.ensures.below in
     rw (← c.self.view_is)
-    (ByGate-caused g.S.Source.polled c.args.gate c.in-Ready-Err.e _ _ _ c.from-e.ensures
-    (ByGate-trans g.S.Source.polled c.args.gate (Ready (Err c.in-Ready-Err.e)) _ c.read_text.new.pipe.opened.tap _ texts.0.by_gate closed))
+    (ByGate-caused g.S.Source.polled c.args.gate c.in-Ready-Err.e _ _ _ c.from-e.ensures (Draws-closed (Ready (Err c.in-Ready-Err.e)) texts.0 below closed))
 
 pub returns-in-Ready-Ok-clause-by_gate : goal.returns-in-Ready-Ok-clause-by_gate
 returns-in-Ready-Ok-clause-by_gate g c = λ none.
     let texts = rw c.in-Text.is at c.read_text.ensures.texts in
     let closed = rw c.in-Ready-Ok.field-0-is at c.in-Ready-Ok.ensures.by_gate in
-    rw (← c.self.view_is) (ByGate-trans g.S.Source.polled c.args.gate (Ready (Ok tt)) _ c.read_text.new.pipe.opened.tap _ texts.0.by_gate closed)
+    let below = rw c.in-Ready-Ok.field-0-is at c.in-Ready-Ok.ensures.below in
+    rw (← c.self.view_is) (Draws-closed (Ready (Ok c.in-Ready-Ok.complete)) texts.0 below closed)
 
 pub returns-in-Ready-Err-clause-answer : goal.returns-in-Ready-Err-clause-answer
 returns-in-Ready-Err-clause-answer g c = λ unfailed.

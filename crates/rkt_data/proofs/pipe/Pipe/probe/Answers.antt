@@ -1,22 +1,23 @@
-use Rattle.std.proofs.Common.{◌≤◌, ◌∙◌, length, take, arith, ap, length-take}
-use Rattle.rkt_data.specs.Tap.{Polls}
+use Rattle.std.proofs.Common.{true, Ok, Err, ◌≤◌, ◌∙◌, length, take, arith, ap, length-take}
+use Rattle.rkt_base.specs.declared.poll.Poll.TheVariants.{Ready, Pending}
 use Rattle.rkt_data.proofs.Streams.{probe_read}
-use Rattle.rkt_data.proofs.Taps.{ByGate-refl}
+use Rattle.rkt_data.proofs.Taps.{ByGate-over, ByGate-refl, PollsTo-read}
 use Rattle.rkt_data.proofs.pipe.Pipe.probe.Goals as goal
 
 pub returns-then-self-clause-by_gate : goal.returns-then-self-clause-by_gate
-returns-then-self-clause-by_gate g c = ByGate-refl g.S.Source.polled c.args.gate c.args.self.now.opened.tap
+returns-then-self-clause-by_gate g c = ByGate-over g.S.Source.polled c.args.gate true _ _ (ByGate-refl g.S.Source.polled c.args.gate c.args.self.now.opened.tap)
 
 pub returns-in-Ready-Ok-clause-by_gate : goal.returns-in-Ready-Ok-clause-by_gate
 returns-in-Ready-Ok-clause-by_gate g c = let read = rw c.in-Ready-Ok.field-0-is at c.in-Ready-Ok.ensures.polled in
-    rw (← c.self.view_is, c.in-Some.is) (Polls.more Polls.none (read (omega arith)))
+    rw (← c.self.view_is, c.in-Some.is) (PollsTo-read g.S.Source.polled c.args.gate 1 (Ready (Ok c.in-Ready-Ok.n)) _ _ (omega arith) (read (omega arith)))
 
 pub returns-in-Ready-Err-clause-by_gate : goal.returns-in-Ready-Err-clause-by_gate
 returns-in-Ready-Err-clause-by_gate g c = let read = rw c.in-Ready-Err.field-0-is at c.in-Ready-Err.ensures.polled in
-    rw (← c.self.view_is, c.in-Some.is) (_, Polls.none, read (omega arith))
+    rw (← c.self.view_is, c.in-Some.is) (PollsTo-read g.S.Source.polled c.args.gate 1 (Ready (Err c.in-Ready-Err.e)) _ _ (omega arith) (read (omega arith)))
 
 pub returns-in-Pending-clause-by_gate : goal.returns-in-Pending-clause-by_gate
-returns-in-Pending-clause-by_gate g c = rw (← c.self.view_is, c.in-Some.is) (_, Polls.none, c.in-Pending.ensures.polled (omega arith))
+returns-in-Pending-clause-by_gate g c =
+    rw (← c.self.view_is, c.in-Some.is) (PollsTo-read g.S.Source.polled c.args.gate 1 Pending _ _ (omega arith) (c.in-Pending.ensures.polled (omega arith)))
 
 pub returns-in-Ready-Ok-clause-answer : goal.returns-in-Ready-Ok-clause-answer
 returns-in-Ready-Ok-clause-answer g c =

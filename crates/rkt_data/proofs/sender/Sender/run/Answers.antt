@@ -1,7 +1,7 @@
 use Rattle.std.proofs.Common.{◌≡◌, ◌∙◌, length, take, ap, arith, sym}
 use Rattle.std.proofs.lemmas.List.{with_items_is}
 use Rattle.rkt_source.specs.Buffer.{items_of}
-use Rattle.rkt_data.specs.Sending.{between}
+use Rattle.rkt_data.specs.Sending.{between, pumped_answer}
 use Rattle.rkt_data.proofs.Drains.{Follows-refl}
 use Rattle.rkt_data.proofs.Sends.{SendsNext-none, SendsNext-pumped, SentOf-pumped, SinkKeeps-refl, HasRoom-resumed, between-same}
 use Rattle.rkt_data.proofs.sender.Sender.run.Goals as goal
@@ -18,7 +18,16 @@ returns-clause-calls g c =
     between-same c.self.inside.at c.self.inside.end c.as_mut_slice.result.now (items_of c.self.inside.buf) c.self.invariant.1 (ap (take c.self.inside.end) c.as_mut_slice.ensures.value ∙ c.in-Ok.ensures.ok c.self.inside.end c.self.invariant.2) in
     let pumps = rw old at c.pump-at.ensures.pumps in
     rw (← c.self.view_is, with_items_is c.in-Ok.buf c.pump-at.new.buf same)
-    (SendsNext-pumped g.S.Source.meaning g.S.Source.polled g.K.Sink.meaning g.K.Sink.written c.args.gate _ c.self.inside.pipe c.pump-at.new.pipe c.self.inside.sink c.pump-at.new.sink c.self.inside.begun.value c.self.inside.from _ _ c.self.invariant.0 pumps)
+    (SendsNext-pumped g.S.Source.meaning g.S.Source.polled g.K.Sink.meaning g.K.Sink.written c.args.gate _ _ c.self.inside.pipe c.pump-at.new.pipe c.self.inside.sink c.pump-at.new.sink c.self.inside.begun.value c.self.inside.from _ _ c.self.invariant.0 pumps pumps.calls)
+
+pub returns-clause-unmet : goal.returns-clause-unmet
+returns-clause-unmet g c = λ done full.
+    let same : length c.pump-at.new.buf ≡ c.in-Ok.buf.len = omega (arith, c.pump-at.auto.buf, c.as_mut_slice.ensures.len) in
+    let old : between c.self.inside.at c.self.inside.end c.as_mut_slice.result.now ≡ between c.self.inside.at c.self.inside.end (items_of c.self.inside.buf) =
+    between-same c.self.inside.at c.self.inside.end c.as_mut_slice.result.now (items_of c.self.inside.buf) c.self.invariant.1 (ap (take c.self.inside.end) c.as_mut_slice.ensures.value ∙ c.in-Ok.ensures.ok c.self.inside.end c.self.invariant.2) in
+    let pumps = rw old at c.pump-at.ensures.pumps in
+    rw (← c.self.view_is, with_items_is c.in-Ok.buf c.pump-at.new.buf same)
+    (SendsNext-pumped g.S.Source.meaning g.S.Source.polled g.K.Sink.meaning g.K.Sink.written c.args.gate _ _ c.self.inside.pipe c.pump-at.new.pipe c.self.inside.sink c.pump-at.new.sink c.self.inside.begun.value c.self.inside.from _ _ c.self.invariant.0 pumps (pumps.unmet full (ap pumped_answer done)))
 
 pub invariant_of-self-2 : goal.invariant_of-self-2
 invariant_of-self-2 g c =

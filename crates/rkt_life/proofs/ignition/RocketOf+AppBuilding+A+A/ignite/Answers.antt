@@ -13,3 +13,9 @@ pub returns-in_err-parts-clause-complete : goal.returns-in_err-parts-clause-comp
 returns-in_err-parts-clause-complete g c =
     λ valid. handed_on c.ignite.result c.from_residual.result c.in_err-parts.field-0.0 (λ e. ⊥) (λ e. ⊥) c.in_err-parts.was c.from_residual.ensures.1
     (λ e is. is) (c.ignite.ensures.complete (rw c.self.view_is valid))
+
+pub returns-clause-ranks_differ : goal.returns-clause-ranks_differ
+returns-clause-ranks_differ g c = rw c.in_ok-from_tables.ensures.tables c.ranks_differ.ensures
+
+pub returns-clause-one_catches : goal.returns-clause-one_catches
+returns-clause-one_catches g c = rw c.in_ok-from_tables.ensures.tables c.at_most_one_catches.ensures

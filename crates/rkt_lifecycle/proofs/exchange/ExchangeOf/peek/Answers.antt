@@ -1,10 +1,10 @@
 use Rattle.std.specs.Prelude.{take}
 use Rattle.std.proofs.Common.{refl}
-use Rattle.rkt_base.specs.declared.poll.Poll.TheVariants.{Pending, Ready}
+use Rattle.rkt_base.specs.declared.poll.Poll.TheVariants.{Pending}
 use Rattle.rkt_fairing.specs.InSlot.{slot_request, slot_response}
 use Rattle.rkt_lifecycle.proofs.Exchanging.{peeking_done, peeking_on}
 use Rattle.rkt_lifecycle.proofs.Peeks.{peek_on, peek_once}
-use Rattle.rkt_lifecycle.proofs.Running.{tap_runs, taps_run_on}
+use Rattle.rkt_lifecycle.proofs.Running.{peek_runs, tap_runs, taps_run_on}
 use Rattle.rkt_lifecycle.specs.Peeks.{cut_reads, cuts, peeks_of, waits_of}
 use Rattle.rkt_lifecycle.specs.Relations.{relations}
 use Rattle.rkt_lifecycle.proofs.exchange.ExchangeOf.peek.Goals as goal
@@ -26,5 +26,5 @@ returns-in-Ready g c = λ rule first fits is.
     (peeking_done (relations (peeks_of g.T.Source.Source.meaning) (slot_request g.P.RequestCallback.calling) (slot_response g.Q.ResponseCallback.calling) g.H.Handler.calling g.K.CatchHandler.calling rule) first c.args.self.now.tables c.args.peeking c.in-Ready.opened shown is gives.0
     (record {
       peek = peek_once (cuts g.T.Source.Source.meaning) rule c.args.gate fits (cut_reads g.T.Source.Shut.shuts g.T.Source.Source.polled) c.args.peeking.body c.in-Ready.opened.body shown gives.1 refl;
-      machine = tap_runs g.T.Source.Shut.shuts g.T.Source.Source.polled rule c.args.gate fits (Ready gives.1.by_gate.0) c.args.peeking.body.tap c.in-Ready.opened.body.tap gives.1.by_gate.1;
+      machine = peek_runs g.T.Source.Shut.shuts g.T.Source.Source.polled rule c.args.gate fits c.args.peeking.body c.in-Ready.opened.body gives.1.by_gate;
     }) gives.2)

@@ -1,12 +1,9 @@
-use Rattle.std.proofs.Common.{◌≡◌, [], Some, refl}
-use Rattle.std.proofs.lemmas.List.Elements.{All-cons, All-nil}
-use Rattle.rkt_fairing.specs.Below.{IsBase}
+use Rattle.std.proofs.Common.{◌≡◌, Some, refl}
 use Rattle.rkt_life.specs.declared.build_error.BuildError.TheVariants.{Base, Code}
 use Rattle.rkt_route.specs.Catcher.{IsErrorCode}
-use Rattle.rkt_route.specs.declared.catcher.Catcher.{Catcher}
 use Rattle.rkt_lines.specs.Building.{IsCatcherFault}
 use Rattle.rkt_lines.proofs.Faults.{only_memory, told_fault}
-use Rattle.rkt_lines.proofs.Rooted.{root_is_base, root_is_origin}
+use Rattle.rkt_lines.proofs.Rooted.{root_is_origin}
 use Rattle.rkt_lines.proofs.building.RocketOfAppBuildingBuilds.catcher.Goals as goal
 
 pub returns-in_err-catchers-clause-refused : goal.returns-in_err-catchers-clause-refused
@@ -16,9 +13,6 @@ returns-in_err-catchers-clause-refused g c =
 
 pub returns-in_err-register-clause-refused : goal.returns-in_err-register-clause-refused
 returns-in_err-register-clause-refused g c =
-    only_memory (IsCatcherFault c.args.code) tt Base _ (root_is_origin, rw c.in_ok-catchers.ensures.made (All-cons HasBase _ [] root_is_base (All-nil HasBase)))
+    only_memory (IsCatcherFault c.args.code) tt Base _ root_is_origin
     c.register.result c.in_err-register.field-0.0 c.in_err-register.field-0.0.error c.from_residual-in_err-register.result
     c.in_err-register.was refl c.from_residual-in_err-register.ensures.1 c.register.ensures.refused
-  where
-    HasBase : Catcher g.row.A-Catch.Denot → Type 0
-    HasBase catcher = IsBase catcher.base

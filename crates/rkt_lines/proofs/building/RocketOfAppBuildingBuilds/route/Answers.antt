@@ -19,7 +19,7 @@ returns-in_err-routes-clause-refused g c =
 
 pub returns-in_err-mount-clause-refused : goal.returns-in_err-mount-clause-refused
 returns-in_err-mount-clause-refused g c =
-    only_memory (IsRouteFault c.args.uri.now) tt Base _ (root_is_origin, c.in_ok-routes.ensures.based)
+    only_memory (IsRouteFault c.args.uri.now) tt Base _ root_is_origin
     c.mount.result c.in_err-mount.field-0.0 c.in_err-mount.field-0.0.error c.from_residual-in_err-mount.result
     c.in_err-mount.was refl c.from_residual-in_err-mount.ensures.1 c.mount.ensures.refused
 

@@ -1,12 +1,11 @@
-use Rattle.std.proofs.Common.{Ok}
-use Rattle.rkt_base.specs.declared.poll.Poll.TheVariants.{Ready}
+use Rattle.rkt_data.specs.Tap.{ended}
 use Rattle.rkt_message.proofs.Readings.{ByGate-resized}
 use Rattle.rkt_message.proofs.whole.Whole.poll.Goals as goal
 
 pub returns-in-End-clause-by_gate : goal.returns-in-End-clause-by_gate
 returns-in-End-clause-by_gate g c = λ none.
     let draws = rw c.in-End.is at c.drain-count.ensures.draws in
-    rw (← c.self.view_is, c.lower.ensures) (ByGate-resized g.S.Source.polled c.args.gate (Ready (Ok tt)) _ _ _ draws.by_gate)
+    rw (← c.self.view_is, c.lower.ensures) (ByGate-resized g.S.Source.polled c.args.gate ended _ _ _ draws.by_gate)
 
 pub returns-in-Waiting-clause-by_gate : goal.returns-in-Waiting-clause-by_gate
 returns-in-Waiting-clause-by_gate g c = λ none. let draws = rw c.in-Waiting.is at c.drain-count.ensures.draws in rw (← c.self.view_is) draws.by_gate

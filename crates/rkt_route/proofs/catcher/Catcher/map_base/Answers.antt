@@ -11,15 +11,15 @@ returns-clause-refused g c =
     refused_so_on Target (Catcher g.row.C.Denot) c.in-Err.error (λ e. LeavesAt (IsOrigin Request) c.as_str.result.now e.at) _
     (λ e leaves. (
       c.in-Ok.text,
-      returned_at g.F.FnOnce c.args.mapper c.args.self.base c.mapper.result _ _ refl c.in-Ok.is c.mapper.ensures,
+      returned_at g.F.FnOnce c.args.mapper c.args.self.base c.mapper.result _ _ c.origin.ensures.value c.in-Ok.is c.mapper.ensures,
       subst (λ (text : List ℕ). LeavesAt (IsOrigin Request) text e.at) c.as_str.ensures.value leaves,
     )) c.in-Err.ensures.refused
 
-pub returns-in-Ok-read_base-clause-accepted : goal.returns-in-Ok-read_base-clause-accepted
-returns-in-Ok-read_base-clause-accepted g c =
-    let accepted = c.in-Ok-read_base.ensures.accepted in (
+pub returns-in-Ok-parse_normal-clause-accepted : goal.returns-in-Ok-parse_normal-clause-accepted
+returns-in-Ok-parse_normal-clause-accepted g c =
+    let accepted = c.in-Ok-parse_normal.ensures.accepted in (
       c.in-Ok.text,
-      returned_at g.F.FnOnce c.args.mapper c.args.self.base c.mapper.result _ _ refl c.in-Ok.is c.mapper.ensures,
+      returned_at g.F.FnOnce c.args.mapper c.args.self.base c.mapper.result _ _ c.origin.ensures.value c.in-Ok.is c.mapper.ensures,
       record {
         base = accepted.0;
         spelled = subst (λ (text : List ℕ). Spells Request text accepted.0) c.as_str.ensures.value accepted.1;

@@ -1,11 +1,13 @@
-use Rattle.std.proofs.Common.{◌≡◌, ◌<◌, ◌∙◌, ℕ, Some, ap, sym, subst}
+use Rattle.std.proofs.Common.{◌≡◌, ◌<◌, ◌∙◌, ℕ, true, Some, ap, sym, subst}
 use Rattle.std.proofs.lemmas.Result.{IfErr-weaker, IfOk-weaker}
 use Rattle.rkt_board.proofs.Core.{tripped_word}
-use Rattle.rkt_board.specs.Events.{trip_of}
+use Rattle.std.specs.List.{list_any}
+use Rattle.rkt_board.specs.Events.{is_trip, trip_of}
 use Rattle.rkt_worker.specs.Serving.{serving}
+use Rattle.rkt_serve.proofs.Handles.{seen_on, seen_tripped}
 use Rattle.rkt_serve.proofs.Lifting.{lifted_off}
 use Rattle.rkt_serve.proofs.Launching.{back_to, if_both, left_abandoned, left_back, left_goes_on, left_legal, left_offers, left_over, left_none_abandoned, left_settled, left_shut, left_sound, left_still, left_window, left_word, never_failed, same_wire, unlit_lit, gives_lit}
-use Rattle.rkt_serve.proofs.Lighting.{if_kept, if_shutdown, if_wanting, lit_and}
+use Rattle.rkt_serve.proofs.Lighting.{if_kept, if_kept_both, if_shutdown, if_wanting, lit_and}
 use Rattle.rkt_serve.proofs.launch.RocketIgniteLaunch.launch.Goals as goal
 
 pub rejoined-closed-requires : goal.rejoined-closed-requires
@@ -25,17 +27,27 @@ returns g c =
     let above : (trip : ℕ × ℕ) → trip_of c.serve_to_close-closed.result.0.history.events ≡ Some trip → 0 < trip.0 =
     λ trip found. tripped_word c.serve_to_close-closed.result.0.history.events (Some trip) (sym found) c.serve_to_close-closed.ensures.legal.ordered in
     let still = λ (some : 0 < c.args.self.handle.seen). c.serve_to_close-closed.ensures.still (rw (c.in-Ok.ensures.handle.seen (subst (λ h. 0 < h.seen) (sym same) some), same) some) in
-    let first = ap (λ r. r.tables) c.into_orbit.ensures in
-    let given = c.into_parts-tables.ensures.tables ∙ first in
+    let given = c.into_parts-tables.ensures.tables ∙ ap (λ r. r.tables) c.into_orbit.ensures in
     let told = c.into_parts-tables.ensures.table ∙ ap (λ r. r.table) c.into_orbit.ensures in
     let lifted = lifted_off g.A.Fairing.Lifts.LiftoffCallback.calling rocket tables table closed c.in-Ok.begun.calls c.begin.new.handle (rw (sym given, sym same) c.in-Ok.ensures.lifts) (rw (sym given) c.in-Ok.ensures.tables) told known.lifted known.handle known.looked known.still in
     let ok = IfOk-weaker c.answered.result _ _ (λ l is. left_back tables table closed joined.0 l joined.1 is) (rw joined.2 at c.answered.ensures.ok) in
     let kept = IfErr-weaker c.answered.result _ _ (if_kept _ _ (λ l is. left_back tables table closed joined.0 l joined.1 is)) (rw joined.2 at c.answered.ensures.kept) in
+    let back = IfOk-weaker c.answered.result _ _ (λ l is. back_to c.args.self.handle c.into_parts-tables.result.2 c.begin.new.handle closed.handle l.rocket.handle same c.in-Ok.ensures.handle known.handle is.handle) ok in
+    let kept_back = IfErr-weaker c.answered.result _ _ (if_kept _ _ (λ l is. back_to c.args.self.handle c.into_parts-tables.result.2 c.begin.new.handle closed.handle l.rocket.handle same c.in-Ok.ensures.handle known.handle is.handle)) kept in
+    let first = λ (some : 0 < c.in-Ok.begun.shutdown.seen). seen_on _ c.begin.new.handle c.in-Ok.ensures.handle (subst (λ h. 0 < h.seen) c.in-Ok.ensures.lends some) in
+    let shows = λ (some : 0 < joined.0.seen). seen_tripped (list_any is_trip closed.history.events) closed.handle c.serve_to_close-closed.result.1 joined.0 known.tripped (known.lent_tripped first) joined.3 some in
+    let shown = subst (λ x. 0 < x.handle.seen → list_any is_trip x.history.events ≡ true) (sym joined.2) shows in
+    let tripped = c.answered.ensures.tripped shown in
+    let kept_tripped = c.answered.ensures.kept_tripped shown in
     record {
+      tripped = tripped;
+      kept_tripped = kept_tripped;
+      trips = if_both c.answered.result _ _ _ (λ l is hands some. is (seen_on c.args.self.handle l.rocket.handle hands some)) tripped back;
+      kept_trips = if_kept_both _ _ _ (λ l is hands some. is (seen_on c.args.self.handle l.rocket.handle hands some)) c.answered.result kept_tripped kept_back;
       tables = IfOk-weaker c.answered.result _ _ lifted ok;
       kept_tables = IfErr-weaker c.answered.result _ _ (if_kept _ _ lifted) kept;
-      handle = IfOk-weaker c.answered.result _ _ (λ l is. back_to c.args.self.handle c.into_parts-tables.result.2 c.begin.new.handle closed.handle l.rocket.handle same c.in-Ok.ensures.handle known.handle is.handle) ok;
-      kept_handle = IfErr-weaker c.answered.result _ _ (if_kept _ _ (λ l is. back_to c.args.self.handle c.into_parts-tables.result.2 c.begin.new.handle closed.handle l.rocket.handle same c.in-Ok.ensures.handle known.handle is.handle)) kept;
+      handle = back;
+      kept_handle = kept_back;
       sound = if_both c.answered.result _ _ _ (λ l is none. left_sound tables table closed l is g.L.Listener.meaning (g.L.Listener.meaning c.args.listener) known.sound none c.requires.fresh.no_fault) ok (rw joined.2 at c.answered.ensures.sound);
       kept_sound = if_wanting _ _ _ (λ l is none. left_sound tables table closed l is g.L.Listener.meaning (g.L.Listener.meaning c.args.listener) known.sound none c.requires.fresh.no_fault) c.answered.result kept (rw joined.2 at c.answered.ensures.kept_sound);
       none_abandoned = if_both c.answered.result _ _ _ (λ l is none. left_none_abandoned tables table closed l is none) ok (rw joined.2 at c.answered.ensures.none_abandoned);
@@ -84,6 +96,8 @@ returns-in_default g c =
       offers = tt;
       word = tt;
       still = tt;
+      tripped = tt;
+      trips = tt;
       ends = tt;
       entries = tt;
       moments = tt;
@@ -98,6 +112,8 @@ returns-in_default g c =
       kept_goes_on = rw kind tt;
       kept_word = rw kind tt;
       kept_still = rw kind tt;
+      kept_tripped = rw kind tt;
+      kept_trips = rw kind tt;
       kept_window = rw kind tt;
       refused = rw kind tt;
       shutdown = rw kind tt;

@@ -2,7 +2,7 @@ use Rattle.rkt_source.proofs.MemoryLemmas.{source_keeps, source_answers, reads_c
 use Rattle.rkt_source.proofs.memory.MemorySourceSource.poll_read.Goals as goal
 
 pub returns-clause-polled : goal.returns-clause-polled
-returns-clause-polled c = λ room. reads_counted c.args.self.now c.read.new.self c.args.buf.now c.read.new.buf c.read.result room c.read.ensures.reads
+returns-clause-polled c = λ room. reads_counted c.args.self.now c.read.new.self c.args.buf.now c.read.new.buf c.read.result c.read.ensures.reads
 
 pub returns-clause-kept : goal.returns-clause-kept
 returns-clause-kept c = source_keeps _ _ _ _ _ _ c.read.ensures.later c.read.ensures.reads

@@ -19,7 +19,8 @@ pub returns-in-Ready-Ok-eq0-clause-polled : goal.returns-in-Ready-Ok-eq0-clause-
 returns-in-Ready-Ok-eq0-clause-polled g c = λ room.
     let h = c.in-Ready-Ok-eq0 in
     let read = rw (h.field-0-is, h.field-0-0-test) at h.ensures.polled in
-    rw (← c.self.view_is, c.if-self.false) (inr (refl, read room, c.poll_read-in-Ready-Ok-eq0.ensures.polled (omega (arith, c.poll_read-2.auto.buf, room))))
+    let second = rw c.poll_read-2.auto.buf at c.poll_read-in-Ready-Ok-eq0.ensures.polled in
+    rw (← c.self.view_is, c.if-self.false) (inr (refl, read room, second room))
 
 pub returns-in-Ready-Err-clause-polled : goal.returns-in-Ready-Err-clause-polled
 returns-in-Ready-Err-clause-polled g c = λ room.

@@ -1,5 +1,5 @@
-use Rattle.std.proofs.Common.{ℕ, ◌+◌, Option, None, Some}
-use Rattle.rkt_stream.specs.Flow.{Asked}
+use Rattle.std.proofs.Common.{ℕ, ◌+◌, Option, None, Some, length}
+use Rattle.rkt_stream.specs.Flat.{Passed}
 use Rattle.rkt_stream.proofs.Flats.{Moves}
 use Rattle.rkt_stream.proofs.stream.reader_stream.read_on.Given as goal
 
@@ -10,7 +10,7 @@ one_if_some (Some x) = 1
 abbrev pub invariant-loop-item : goal.invariant-loop-item
 invariant-loop-item g l = record {
   moves : Moves g.S.Stream.flow g.S.Item.Source.meaning g.S.Stream.may_give l.gate.tripped (record { stream = l.fn.stream; item = l.fn.item }) (record { stream = l.stream; item = l.item });
-  asked : Asked g.S.Stream.polled l.gate l.fn.stream l.stream;
+  passed : Passed g.S.Stream.polled g.S.Item.Source.polled l.gate (length l.fn.buf) (record { stream = l.fn.stream; item = l.fn.item }) (record { stream = l.stream; item = l.item });
 }
 
 abbrev pub decreases-loop-item : goal.decreases-loop-item

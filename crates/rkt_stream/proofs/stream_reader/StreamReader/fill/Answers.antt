@@ -1,6 +1,6 @@
 use Rattle.std.proofs.Common.{◌≡◌, ◌∙◌, length, sym}
 use Rattle.std.proofs.lemmas.Bool.{eqb-true}
-use Rattle.rkt_stream.proofs.Joinings.{AskedOf-refl, Parts-item, Parts-over}
+use Rattle.rkt_stream.proofs.Joinings.{Parts-item, Parts-over}
 use Rattle.rkt_stream.proofs.stream_reader.StreamReader.fill.Goals as goal
 
 pub invariant_of-self-in-Pending : goal.invariant_of-self-in-Pending
@@ -31,15 +31,3 @@ returns-in-Ready-None-clause-fills g c = λ none w e.
     let p = rw c.in-Some.is at c.self.invariant in
     let n = rw c.in-Ready-None.field-0-is at c.in-Ready-None.ensures.next in
     Parts-over c.self.inside.piece none n.2 (p w e)
-
-pub returns-then-not-is_empty-clause-asked : goal.returns-then-not-is_empty-clause-asked
-returns-then-not-is_empty-clause-asked g c = AskedOf-refl g.T.Stream.polled c.args.gate c.args.self.now.stream
-
-pub returns-in-Pending-clause-asked : goal.returns-in-Pending-clause-asked
-returns-in-Pending-clause-asked g c = rw (← c.self.view_is, c.in-Some.is) c.in-Pending.ensures.asked
-
-pub returns-in-Ready-None-clause-asked : goal.returns-in-Ready-None-clause-asked
-returns-in-Ready-None-clause-asked g c = rw (← c.self.view_is, c.in-Some.is) c.in-Ready-None.ensures.asked
-
-pub returns-in-Ready-Some-clause-asked : goal.returns-in-Ready-Some-clause-asked
-returns-in-Ready-Some-clause-asked g c = rw (← c.self.view_is, c.in-Some.is) c.in-Ready-Some.ensures.asked

@@ -9,6 +9,7 @@ invariant-loop-passes g l = (IsPassOf l.turnstile l.self × IsFirst l.self × Is
     × (known l.self ≡ drawn (vec_len l.passes) (known l.initial.self))
     × (map known l.passes.items ≡ split_off (vec_len l.passes) (known l.initial.self))
     × All (λ p. IsNew l.turnstile p) l.passes.items
+    × All (λ p. (known p).name ≡ (known l.initial.self).name) l.passes.items
     × (length (known l.self).out ≡ length (known l.initial.self).out + vec_len l.passes)
     × ((known l.self).mine ≡ (known l.initial.self).mine)
     × (vec_len l.passes ≤ l.count)

@@ -1,5 +1,6 @@
-use Rattle.std.proofs.Common.{IsSome, inl, is_some, ap, refl, sym, subst, ◌∙◌}
+use Rattle.std.proofs.Common.{ℕ, Option, IsSome, inl, is_some, ap, refl, sym, subst, ◌∙◌}
 use Rattle.std.specs.List.{All}
+use Rattle.rkt_board.proofs.Core.{found_trip}
 use Rattle.rkt_board.specs.Events.{trip_of}
 use Rattle.rkt_board.specs.Marks.{events}
 use Rattle.rkt_board.specs.declared.history.EntryOf.{EntryOf}
@@ -10,8 +11,10 @@ use Rattle.rkt_routing.specs.Backs.{Sees}
 use Rattle.rkt_turn.specs.HandsBackLaws.{hands_back_same}
 use Rattle.rkt_worker.proofs.Cutting.{amid_later, some_word}
 use Rattle.rkt_worker.proofs.Meanwhile.{still_unclosed, trips_then}
-use Rattle.rkt_worker.proofs.Outcomes.{for_none, not_abandoned}
+use Rattle.rkt_worker.proofs.Outcomes.{for_none, not_abandoned, some_none}
+use Rattle.rkt_worker.proofs.Pieces.{starved_unsent}
 use Rattle.rkt_worker.specs.Gates.{word_in}
+use Rattle.rkt_worker.specs.Serving.{serving}
 use Rattle.rkt_worker.proofs.working.Worker.serve.Goals as goal
 
 pub answer-entry-requires-clause-unclosed : goal.answer-entry-requires-clause-unclosed
@@ -19,17 +22,21 @@ answer-entry-requires-clause-unclosed g c = still_unclosed 0 c.args.board.now.bo
 
 pub returns-in_default : goal.returns-in_default
 returns-in_default g c =
+    let serves = λ (w : Option (ℕ × ℕ)). serving g.A-Fairing-Requests-RequestCallback.calling g.A.Fairing.Responses.ResponseCallback.calling g.A-Handler-Handler.calling g.A.Catch.CatchHandler.calling g.A.Source.Source.meaning g.A.Stream.Source.meaning g.L.Link.Link.meaning w in
     let entry = c.unanswered.ensures in
     let run = ap (λ (e : EntryOf _ _ _). e.run) entry in
     record {
       name = refl;
       asked = rw (entry, c.new.ensures) (ap (λ (m : LinkMeaning). m.asked) c.take_source.ensures.link);
-      caused = λ fresh. rw entry (run, ap (λ (e : EntryOf _ _ _). e.response) entry);
+      caused = λ fresh.
+          starved_unsent (serves (g.C.Clock.meaning c.args.board.now.near.clock).window) c.args.self.now.tables.now _ c.unanswered.result c.new.result c.take_source.new.self entry (ap (λ io. io.io) c.new.ensures)
+          (λ held there. fresh.none_held held (sym (ap (λ (m : LinkMeaning). m.held) c.take_source.ensures.link) ∙ there));
       cut = rw entry tt;
       moment = for_none _ c.unanswered.result.run run;
       late = λ is. absurd (not_abandoned c.unanswered.result.end (ap (λ (e : EntryOf _ _ _). e.end) entry) is);
       words = for_none _ c.unanswered.result.run run;
       handle = hands_back_same _;
+      left = λ none. absurd (cc none);
       clock = tells_same _;
       adds = inl refl;
       keeps = c.requires.keeps;
@@ -55,6 +62,7 @@ returns-in_default-ended g c =
       late = λ is. late;
       words = for_none _ c.unanswered-in_default-ended.result.run run;
       handle = tt;
+      left = λ none. found_trip (events c.run_exchange-ended.new.board.book.marks.items) late.0 late.1;
       clock = ran.clock;
       adds = ran.adds;
       keeps = ran.keeps;
@@ -84,6 +92,7 @@ returns-in-Finished g c =
       late = λ is. absurd (entry.ended is);
       words = λ x there. subst (λ calls. All (Sees c.in-Finished.shutdown) calls) (sym (entry.calls x there)) (rw c.in-Finished.is at ended.words);
       handle = rw c.in-Finished.is at ended.handle;
+      left = λ none. absurd (some_none c.in-Finished.shutdown none);
       clock = tells_then _ _ _ ran.clock entry.clock;
       adds = trips_then 0 c.args.board.now.book.marks.items c.run_exchange-ended.new.board.book.marks.items c.answer-entry.new.board.book.marks.items entry.keeps.legal.ordered ran.adds entry.adds;
       keeps = entry.keeps;
@@ -91,18 +100,22 @@ returns-in-Finished g c =
 
 pub returns-in-Starved : goal.returns-in-Starved
 returns-in-Starved g c =
+    let serves = λ (w : Option (ℕ × ℕ)). serving g.A-Fairing-Requests-RequestCallback.calling g.A.Fairing.Responses.ResponseCallback.calling g.A-Handler-Handler.calling g.A.Catch.CatchHandler.calling g.A.Source.Source.meaning g.A.Stream.Source.meaning g.L.Link.Link.meaning w in
     let ran = c.run_exchange-ended.ensures in
     let entry = c.unanswered-in-Starved.ensures in
     let run = ap (λ (e : EntryOf _ _ _). e.run) entry in
     record {
       name = ran.name;
       asked = rw (entry, c.new-in-Starved.ensures) (ap (λ (m : LinkMeaning). m.asked) c.in-Some.ensures.link);
-      caused = λ fresh. rw entry (run, ap (λ (e : EntryOf _ _ _). e.response) entry);
+      caused = λ fresh.
+          starved_unsent (serves (g.C.Clock.meaning c.args.board.now.near.clock).window) c.args.self.now.tables.now _ c.unanswered-in-Starved.result c.new-in-Starved.result c.take_source.new.self entry (ap (λ io. io.io) c.new-in-Starved.ensures)
+          (λ held there. fresh.none_held held (sym (ap (λ (m : LinkMeaning). m.held) c.in-Some.ensures.link) ∙ there));
       cut = rw entry tt;
       moment = for_none _ c.unanswered-in-Starved.result.run run;
       late = λ is. absurd (not_abandoned c.unanswered-in-Starved.result.end (ap (λ (e : EntryOf _ _ _). e.end) entry) is);
       words = for_none _ c.unanswered-in-Starved.result.run run;
       handle = rw c.in-Starved.is at c.in-Some-ended.ensures.handle;
+      left = λ none. absurd (some_none c.in-Starved.shutdown none);
       clock = ran.clock;
       adds = ran.adds;
       keeps = ran.keeps;

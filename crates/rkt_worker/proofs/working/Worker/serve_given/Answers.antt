@@ -1,4 +1,4 @@
-use Rattle.std.proofs.Common.{ℕ, Option, subst, sym, ap, ◌∙◌, arith}
+use Rattle.std.proofs.Common.{ℕ, Option, refl, subst, sym, ap, ◌∙◌, arith}
 use Rattle.rkt_link.proofs.Telling.{tells_then}
 use Rattle.rkt_link.specs.Clock.{IsWithin}
 use Rattle.rkt_board.proofs.Tripping.{stays_open}
@@ -6,7 +6,7 @@ use Rattle.rkt_board.specs.Board.{IsCutWithin}
 use Rattle.rkt_board.specs.Events.{trip_of}
 use Rattle.rkt_board.specs.Marks.{events}
 use Rattle.rkt_board.specs.Turns.{IsOpen}
-use Rattle.rkt_worker.proofs.Boards.{saw_trip, still_back, until_later, wire_back}
+use Rattle.rkt_worker.proofs.Boards.{left_tripped, saw_trip, still_back, trips_same, unseen_back, until_later, wire_back}
 use Rattle.rkt_worker.proofs.Cutting.{caused_wider, due_behind, cut_within, trips_stay, word_still}
 use Rattle.rkt_worker.proofs.Meanwhile.{still_unclosed, trips_then}
 use Rattle.rkt_worker.specs.Causes.{Caused, IsDueBehind}
@@ -72,6 +72,9 @@ returns g c =
       name = ended.name ∙ (noted.name ∙ served.name);
       adds = (c.serve-entry.result.0, ended.adds.0, c.note_word-back.new.board.book.marks.items, trips, ended.adds.1);
       handle = still_back c.note_word-back.result c.serve-entry.result.1 c.args.shutdown noted.unseen served.handle;
+      unseen = unseen_back c.note_word-back.result c.serve-entry.result.1 noted.unseen;
+      left = λ none. trips_same c.note_word-back.new.board.book.marks.items c.end.new.board.book.marks.items _ refl ended.adds.1
+          ∙ left_tripped c.note_word-back.result c.serve-entry.result.1 c.serve-entry.new.board.book.marks.items c.note_word-back.new.board.book.marks.items none noted.trip served.left noted.adds;
       clock = tells_then _ _ _ served.clock (tells_then _ _ _ noted.clock ended.clock);
       keeps = ended.keeps;
     }

@@ -1,4 +1,4 @@
-use Rattle.std.proofs.Common.{◌≡◌}
+use Rattle.std.proofs.Common.{◌≡◌, ◌<◌}
 use Rattle.rkt_turn.specs.HandsBack.{HandsBack}
 use Rattle.rkt_link.specs.Clock.{TellsOn}
 use Rattle.rkt_board.specs.Board.{Keeps}
@@ -15,3 +15,4 @@ invariant-loop g l =
     × HandsBack l.initial.shutdown l.shutdown
     × IsAtRest l.board.book.marks.items
     × (l.shutdown.wire ≡ l.board.name.handle.value.wire)
+    × ((0 < l.initial.shutdown.seen → 0 < l.initial.board.near.handle.seen) → 0 < l.shutdown.seen → 0 < l.board.near.handle.seen)
