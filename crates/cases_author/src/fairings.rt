@@ -5,23 +5,9 @@ use cases::{CaseError, written};
 use rkt_adhoc::{ChangesBuilding, OnIgnite, SeesLiftoff, SeesShutdown};
 use rkt_base::{NoMemory, Want};
 use rkt_fairing::{Building, Fairing, View};
-use rkt_http::Header;
-use rkt_life::{AdHoc, Body0, ChangesRequest, Ctx, Key, Request};
+use rkt_life::{AdHoc, Key};
 use rkt_turn::Shutdown;
 use std::alloc::{AllocError, Global};
-
-// It adds a header to each request.
-impl ChangesRequest<Site> for Stamps {
-    fn on_request(
-        &self,
-        alloc: Global,
-        request: &mut Request<'_, Site>,
-        _body: &mut Body0<Site>,
-        _ctx: &mut Ctx<Site>,
-    ) -> Result<(), NoMemory> {
-        request.add_header(Header::new(alloc, "X-Stamp", "1")?)
-    }
-}
 
 // It manages a value, unless one is managed already.
 impl ChangesBuilding<Site, OnIgnite<Stamps>> for Stamps {
@@ -62,14 +48,29 @@ fn push_told<F: Fairing<Site>>(out: &mut String, fairing: &F) -> Result<(), Case
     written(write!(out, "{} {} {}", info.name, fairing.key().0, info.kind))
 }
 
+fn push_ignite(out: &mut String) -> Result<(), CaseError> {
+    push_told(out, &AdHoc::on_ignite("stamps", Key(2), Stamps))
+}
+
+fn push_liftoff(out: &mut String) -> Result<(), CaseError> {
+    push_told(out, &AdHoc::on_liftoff("stamps", Key(3), Stamps))
+}
+
+fn push_response(out: &mut String) -> Result<(), CaseError> {
+    push_told(out, &AdHoc::on_response("stamps", Key(5), Stamps))
+}
+
+fn push_shutdown(out: &mut String) -> Result<(), CaseError> {
+    push_told(out, &AdHoc::on_shutdown("stamps", Key(6), Stamps))
+}
+
 /// Adds what the fairing of a kind tells that is made of `Stamps`.
 pub fn push_fairing(out: &mut String, kind: &str) -> Result<(), CaseError> {
     match kind {
-        "ignite" => push_told(out, &AdHoc::on_ignite("stamps", Key(2), Stamps)),
-        "liftoff" => push_told(out, &AdHoc::on_liftoff("stamps", Key(3), Stamps)),
-        "request" => push_told(out, &AdHoc::on_request("stamps", Key(4), Stamps)),
-        "response" => push_told(out, &AdHoc::on_response("stamps", Key(5), Stamps)),
-        "shutdown" => push_told(out, &AdHoc::on_shutdown("stamps", Key(6), Stamps)),
+        "ignite" => push_ignite(out),
+        "liftoff" => push_liftoff(out),
+        "response" => push_response(out),
+        "shutdown" => push_shutdown(out),
         _ => Err(CaseError::Line),
     }
 }
