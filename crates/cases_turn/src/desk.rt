@@ -3,7 +3,7 @@ ghost use Rattle.std.specs.Prelude.{◌≡◌, [], Some, IfOk, IfErr};
 ghost use Rattle.rkt_turn.specs.Booked.{AreOf};
 ghost use Rattle.rkt_turn.specs.Pass.{known, IsFirst, IsIdle, IsPassOf};
 
-use crate::diary::Diary;
+use crate::diary::{Diary, Plan};
 use cases::{CaseError, parsed};
 use rkt_base::NoMemory;
 use rkt_turn::{Booked, Pass, Turnstile};
@@ -54,20 +54,25 @@ fn closed<R: Wait>(rt: &R, mut desk: Desk<Diary>, looks: u64) -> usize {
     for _ in 0..looks {
         desk.look(rt);
     }
-    let Diary { entries: _, count } = desk.close();
+    let Diary {
+        plan: _,
+        entries: _,
+        count,
+    } = desk.close();
     count
 }
 
 /// The same of an empty diary.
 fn count_behind<R: Wait>(rt: &R, alloc: Global, looks: u64) -> Result<usize, NoMemory> {
-    let empty = Diary {
-        entries: Vec::new(alloc),
-        count: 0,
+    let plan = Plan {
+        others: 0,
+        turns: 0,
     };
-    match Desk::new(alloc, (), empty) {
+    match Desk::new(alloc, plan, Diary::new(alloc, plan)?) {
         Ok(desk) => Ok(closed(rt, desk, looks)),
         Err(
             Diary {
+                plan: _,
                 entries: _,
                 count: _,
             },

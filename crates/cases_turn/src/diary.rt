@@ -1,9 +1,26 @@
 //! What the passes write.
-ghost use Rattle.std.specs.Prelude.{◌≡◌, vec_len};
-ghost use Rattle.cases_turn.specs.Diary.{written};
+ghost use Rattle.std.specs.Prelude.{◌≡◌, ◌<◌, [], ◌∷◌, ◌++◌, vec_len, IfSome, IfOk};
+ghost use Rattle.cases_turn.specs.Diary.{entries_of, IsDiary, IsWhole};
 
 use rkt_base::NoMemory;
 use rkt_turn::Booked;
+use std::alloc::{AllocError, Global};
+
+/// The first pass and so many others write, each in so many turns.
+#[derive(Clone, Copy, PartialEq, Eq)]
+pub struct Plan {
+    pub others: usize,
+    pub turns: usize,
+}
+
+impl Plan {
+    /// How many entries there are in the end, if a number says it.
+    fn entries(self) -> Option<usize>
+        ensures { IfSome result (λ n. n ≡ entries_of self) }
+    {
+        self.others.checked_mul(self.turns)?.checked_add(self.turns)
+    }
+}
 
 /// A pass has begun something, or has ended what it began.
 #[derive(Clone, Copy, PartialEq, Eq)]
@@ -12,39 +29,56 @@ pub struct Entry {
     pub ends: bool,
 }
 
-/// The entries, and how many they are. It has no `Drop`.
+/// The entries, and how many they are. There is room for all that are planned. It has no `Drop`.
 pub struct Diary {
+    pub plan: Plan,
     pub entries: Vec<Entry>,
     pub count: usize,
 }
 
 impl Diary {
-    pub fn add(&mut self, entry: Entry) -> Result<(), NoMemory>
-        requires { self.old.count ≡ vec_len self.old.entries }
-        ensures kept { self.new.count ≡ vec_len self.new.entries }
-        ensures written { self.new.entries.items ≡ written result self.old.entries.items entry }
+    pub fn new(alloc: Global, plan: Plan) -> Result<Diary, NoMemory>
+        ensures plan { IfOk result (λ d. d.plan ≡ plan) }
+        ensures empty { IfOk result (λ d. d.entries.items ≡ []) }
+        ensures legal { IfOk result (λ d. IsDiary plan d.entries.items) }
+        ensures whole { IfOk result IsWhole }
     {
-        self.entries.push(entry)?;
+        let Some(room) = plan.entries() else {
+            return Err(AllocError);
+        };
+        Ok(Diary {
+            plan,
+            entries: Vec::with_capacity(alloc, room)?,
+            count: 0,
+        })
+    }
+
+    pub fn add(&mut self, entry: Entry)
+        requires whole { IsWhole self.old }
+        requires room { vec_len self.old.entries < entries_of self.old.plan }
+        ensures plan { self.new.plan ≡ self.old.plan }
+        ensures whole { IsWhole self.new }
+        ensures added { self.new.entries.items ≡ self.old.entries.items ++ entry ∷ [] }
+    {
+        self.entries.push_reserved(entry);
         self.count = self.entries.len();
-        Ok(())
     }
 }
 
 impl Booked for Diary {
-    type Name = ();
+    type Name = Plan;
 
     type Entry = Entry;
 
-    ghost use Rattle.std.specs.Prelude.{◌≡◌, vec_len};
-    ghost use Rattle.cases_turn.specs.Diary.{IsDiary, writer};
+    ghost use Rattle.cases_turn.specs.Diary.{IsDiary, IsWhole, writer};
 
-    ghost name = { λ _. tt };
+    ghost name = { λ d. d.plan };
 
     ghost entries = { λ d. d.entries.items };
 
     ghost number = { writer };
 
-    ghost legal = { λ _ list. IsDiary list };
+    ghost legal = { IsDiary };
 
-    ghost keeps = { λ d. d.count ≡ vec_len d.entries };
+    ghost keeps = { IsWhole };
 }

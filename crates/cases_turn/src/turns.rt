@@ -1,13 +1,13 @@
 //! Threads that write into one diary, a turn at a time.
-ghost use Rattle.std.specs.Prelude.{◌≡◌, [], false, All, map, vec_len, length};
+ghost use Rattle.std.specs.Prelude.{◌≡◌, ◌+◌, [], ◌∷◌, ◌++◌, false, not, All, Some, IfOk, map, vec_len, length};
 ghost use Rattle.std.specs.Thread.{IsSync};
-ghost use Rattle.rkt_turn.specs.Known.{SamePlace, HasAll, all_passes, joined_all};
-ghost use Rattle.rkt_turn.specs.Pass.{known, IsPassOf, IsIdle, IsFirst, IsNew};
+ghost use Rattle.rkt_turn.specs.Known.{SamePlace, HasAll};
+ghost use Rattle.rkt_turn.specs.Pass.{known, returned, IsPassOf, IsIdle, IsFirst, IsNew};
 ghost use Rattle.rkt_turn.specs.Turn.{state_of};
-ghost use Rattle.cases_turn.specs.Diary.{IsDiary, open_after, writer};
+ghost use Rattle.cases_turn.specs.Diary.{open_after, writer, IsDiary, HasOfEach, HaveNumbersOf, IsPlanned, MayWrite, HasWritten};
 
 use crate::crossing::lock_crosses;
-use crate::diary::{Diary, Entry};
+use crate::diary::{Diary, Entry, Plan};
 use cases::{CaseError, first_word, parsed};
 use rkt_base::NoMemory;
 use rkt_turn::{Pass, Turn, Turnstile};
@@ -16,36 +16,39 @@ use std::sync::Wait;
 use std::thread;
 use std::thread::{Threads, join};
 
-// A turn that writes one entry: an end where something is open, and else a beginning. Answers whether something is open then.
-fn write<R: Wait>(rt: &R, lock: &Turnstile<Diary>, pass: &mut Pass<Diary>, ends: bool) -> bool
+// A turn that writes one entry: an end where something is open, and else a beginning.
+fn write<R: Wait>(rt: &R, lock: &Turnstile<Diary>, pass: &mut Pass<Diary>, ends: bool)
     requires own { IsPassOf lock.now pass.old }
     requires idle { IsIdle pass.old }
+    requires may { MayWrite (known pass.old) }
     requires next { open_after false (known pass.old).mine ≡ ends }
     ensures own { IsPassOf lock.now pass.new }
     ensures idle { IsIdle pass.new }
     ensures place { SamePlace (known pass.old) (known pass.new) }
-    ensures open { open_after false (known pass.new).mine ≡ result }
+    ensures open { open_after false (known pass.new).mine ≡ not ends }
+    ensures one { length (known pass.new).mine ≡ length (known pass.old).mine + 1 }
 {
     let by = pass.number();
     let mut turn = lock.enter(rt, pass);
-    let added = turn.state().add(Entry { by, ends });
+    turn.state().add(Entry { by, ends });
     lock.leave(pass, turn);
-    match added {
-        Ok(()) => !ends,
-        Err(_) => ends,
-    }
 }
 
-// So many turns that write.
-fn write_all<R: Wait>(rt: &R, lock: &Turnstile<Diary>, pass: &mut Pass<Diary>, turns: usize)
+// All turns of a pass, in each of which it writes.
+fn write_all<R: Wait>(rt: &R, lock: &Turnstile<Diary>, pass: &mut Pass<Diary>, plan: Plan)
     requires new { IsNew lock.now pass.old }
+    requires planned { IsPlanned plan (known pass.old) }
     ensures own { IsPassOf lock.now pass.new }
     ensures idle { IsIdle pass.new }
     ensures place { SamePlace (known pass.old) (known pass.new) }
+    ensures written { HasWritten plan (known pass.new) }
 {
     let mut open = false;
-    for _ in 0..turns {
-        open = write(rt, lock, pass, open);
+    let mut entries = 0;
+    while entries < plan.turns {
+        write(rt, lock, pass, open);
+        open = !open;
+        entries += 1;
     }
 }
 
@@ -61,6 +64,7 @@ fn look<R: Wait>(
     ensures own { IsPassOf lock.now pass.new }
     ensures idle { IsIdle pass.new }
     ensures place { SamePlace (known pass.old) (known pass.new) }
+    ensures mine { (known pass.new).mine ≡ (known pass.old).mine }
 {
     let turn = lock.enter(rt, pass);
     lock_crosses(lock, pass, &turn);
@@ -82,17 +86,19 @@ fn in_threads<R: Threads + Wait + Sync>(
     rt: &R,
     lock: &Turnstile<Diary>,
     mut others: Vec<Pass<Diary>>,
-    turns: usize,
+    plan: Plan,
 ) -> Vec<Pass<Diary>>
-    requires { All (λ p. IsNew lock.now p) others.items }
+    requires { All (λ p. IsNew lock.now p × IsPlanned plan (known p)) others.items }
     ensures ready { All (λ p. IsPassOf lock.now p × IsIdle p) result.items }
     ensures len { vec_len result ≡ vec_len others }
+    ensures numbers { HaveNumbersOf result.items others.items }
+    ensures written { All (λ p. HasWritten plan (known p)) result.items }
 {
     thread::for_each_mut(
         rt,
         others.as_mut_slice(),
         8,
-        &|_, pass| { write_all(rt, lock, pass, turns) },
+        &|_, pass| { write_all(rt, lock, pass, plan) },
     );
     others
 }
@@ -104,30 +110,36 @@ fn all_write<R: Threads + Wait + Sync>(
     lock: &Turnstile<Diary>,
     mut first: Pass<Diary>,
     others: Vec<Pass<Diary>>,
-    turns: usize,
+    plan: Plan,
 ) -> (
     (Pass<Diary>, Result<Vec<Entry>, NoMemory>),
     Vec<Pass<Diary>>,
 )
-    requires first { IsFirst first × IsNew lock.now first }
-    requires ready { All (λ p. IsNew lock.now p) others.items }
+    requires first { IsFirst first × IsNew lock.now first × IsPlanned plan (known first) }
+    requires ready { All (λ p. IsNew lock.now p × IsPlanned plan (known p)) others.items }
     ensures first { IsPassOf lock.now result.0.0 × IsFirst result.0.0 × IsIdle result.0.0 }
+    ensures name { (known result.0.0).name ≡ (known first).name }
     ensures out { (known result.0.0).out ≡ (known first).out }
+    ensures first_written { HasWritten plan (known result.0.0) }
     ensures ready { All (λ p. IsPassOf lock.now p × IsIdle p) result.1.items }
     ensures len { vec_len result.1 ≡ vec_len others }
+    ensures numbers { HaveNumbersOf result.1.items others.items }
+    ensures written { All (λ p. HasWritten plan (known p)) result.1.items }
 {
     join(
         rt,
         || {
-            write_all(rt, lock, &mut first, turns);
+            write_all(rt, lock, &mut first, plan);
             let seen = look(rt, alloc, lock, &mut first);
             (first, seen)
         },
         || -> Vec<Pass<Diary>>
-            requires { IsSync R.row × All (λ p. IsNew lock.now p) others.items }
+            requires { IsSync R.row × All (λ p. IsNew lock.now p × IsPlanned plan (known p)) others.items }
             ensures ready { All (λ p. IsPassOf lock.entry.now p × IsIdle p) result.items }
             ensures len { vec_len result ≡ vec_len others }
-        { in_threads(rt, lock, others, turns) },
+            ensures numbers { HaveNumbersOf result.items others.items }
+            ensures written { All (λ p. HasWritten plan (known p)) result.items }
+        { in_threads(rt, lock, others, plan) },
     )
 }
 
@@ -136,58 +148,63 @@ fn closed(lock: Turnstile<Diary>, mut first: Pass<Diary>, others: Vec<Pass<Diary
     requires first { IsPassOf lock first × IsFirst first × IsIdle first }
     requires ready { All (λ p. IsPassOf lock p × IsIdle p) others.items }
     requires out { length (known first).out ≡ vec_len others }
-    ensures diary { IsDiary result.items }
-    ensures all { HasAll writer (all_passes (joined_all (known first) (map known others.items))) result.items }
+    ensures diary { (plan : Plan) → (known first).name ≡ Some plan → IsDiary plan result.items }
+    ensures all { HasAll writer (map returned (first ∷ others.items) ++ (known first).back) result.items }
 {
     first.join_all(&lock, others);
-    let Diary { entries, count: _ } = lock.close(first);
+    let Diary {
+        plan: _,
+        entries,
+        count: _,
+    } = lock.close(first);
     entries
 }
 
-// What the first pass found last, and the diary at the end.
+// What the first pass found last, and the diary at the end, where each pass has had its turns.
 fn written<R: Threads + Wait + Sync>(
     rt: &R,
     alloc: Global,
     lock: Turnstile<Diary>,
     mut first: Pass<Diary>,
-    others: usize,
-    turns: usize,
+    plan: Plan,
 ) -> Result<(Vec<Entry>, Vec<Entry>), NoMemory>
     requires first { IsFirst first × IsNew lock first }
-    requires alone { (known first).out ≡ [] }
+    requires name { (known first).name ≡ Some plan }
+    requires alone { ((known first).out ≡ []) × ((known first).next ≡ 1) }
+    ensures diary { IfOk result (λ t. IsDiary plan t.1.items) }
+    ensures of_each { IfOk result (λ t. HasOfEach plan t.1.items) }
 {
-    match first.split_all(alloc, &lock, others) {
+    match first.split_all(alloc, &lock, plan.others) {
         Err(error) => {
             let _ = closed(lock, first, Vec::new(alloc));
             Err(error)
         }
         Ok(others) => {
-            let ((first, seen), others) = all_write(rt, alloc, &lock, first, others, turns);
+            let ((first, seen), others) = all_write(rt, alloc, &lock, first, others, plan);
             let entries = closed(lock, first, others);
             Ok((seen?, entries))
         }
     }
 }
 
-// The diary that a first pass and so many others write.
+/// The diary that a first pass and so many others write, with so many entries of each, and what the first one saw of it.
 fn diary_of<R: Threads + Wait + Sync>(
     rt: &R,
     alloc: Global,
-    others: usize,
-    turns: usize,
-) -> Result<(Vec<Entry>, Vec<Entry>), NoMemory> {
-    let empty = Diary {
-        entries: Vec::new(alloc),
-        count: 0,
-    };
-    match Turnstile::new(alloc, (), empty) {
+    plan: Plan,
+) -> Result<(Vec<Entry>, Vec<Entry>), NoMemory>
+    ensures diary { IfOk result (λ t. IsDiary plan t.1.items) }
+    ensures of_each { IfOk result (λ t. HasOfEach plan t.1.items) }
+{
+    match Turnstile::new(alloc, plan, Diary::new(alloc, plan)?) {
         Err(
             Diary {
+                plan: _,
                 entries: _,
                 count: _,
             },
         ) => Err(AllocError),
-        Ok((lock, first)) => written(rt, alloc, lock, first, others, turns),
+        Ok((lock, first)) => written(rt, alloc, lock, first, plan),
     }
 }
 
@@ -236,6 +253,10 @@ pub fn push_turns<R: Threads + Wait + Sync>(
 ) -> Result<(), CaseError> {
     let (others, turns) = first_word(words);
     let (others, turns) = (parsed::<u64>(others)?, parsed::<u64>(turns)?);
-    let (seen, entries) = diary_of(rt, alloc, others as usize, turns as usize)?;
+    let plan = Plan {
+        others: others as usize,
+        turns: turns as usize,
+    };
+    let (seen, entries) = diary_of(rt, alloc, plan)?;
     Ok(push_entries(alloc, entries.as_slice(), seen.as_slice(), others, out)?)
 }
