@@ -12,6 +12,7 @@ import sys
 
 HEAD = re.compile(r"^(pub(?:\([a-z]+\))? )?(trait|impl|struct|enum|type)\b(.*)$")
 MEMBER = re.compile(r"^(?:    )?(pub(?:\([a-z]+\))? )?(?:const )?(?:fn|ghost) (\w+)\b")
+CLAUSE = re.compile(r"^ *(?:ensures\*?|requires|ghost)\b")
 Function = collections.namedtuple("Function", "owners name is_public contract")
 
 
@@ -36,6 +37,17 @@ def owners_of(kind, rest):
     return set(re.findall(r"[A-Za-z]\w*", text)) - {"for", "mut", "dyn"} if kind == "impl" else {re.match(r"\s*(\w+)", rest)[1]}
 
 
+def rest_of(lines):
+    """How many more lines the contract has whose function begins here: up to a body, or to a semicolon outside braces."""
+    depth = 0
+    for at, text in enumerate(lines):
+        is_body = depth == 0 and text.endswith("{") and not CLAUSE.match(text)
+        depth += text.count("{") - text.count("}")
+        if is_body or depth == 0 and text.endswith(";"):
+            return at
+    return len(lines)
+
+
 def functions(source):
     """Each function and ghost member of a source, with the text of its contract."""
     lines = source.read_text().splitlines()
@@ -50,12 +62,8 @@ def functions(source):
             owners, open_to_all = set(), False
         if found := MEMBER.match(line):
             inside = line.startswith("    ")
-            contract = []
-            for text in lines[at:]:
-                contract.append(text)
-                if re.match(r"^ {0,4}\{", text) or re.search(r"(;|\{)$", text) and not text.rstrip().endswith("λ {"):
-                    break
-            yield Function(owners if inside else set(), found[2], found[1] == "pub " or inside and open_to_all, "\n".join(contract))
+            contract = "\n".join(lines[at:at + 1 + rest_of(lines[at:])])
+            yield Function(owners if inside else set(), found[2], found[1] == "pub " or inside and open_to_all, contract)
 
 
 def aliases(texts):
