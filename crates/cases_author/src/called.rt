@@ -6,7 +6,7 @@ use rkt_data::{Data, MemorySource};
 use rkt_http::{Outcome, Status};
 use rkt_request::{Body0, Ctx, Request, Types};
 use rkt_response::Response;
-use rkt_router::{CatchHandler, Final, Handler, RouteOutcome, Turn, turn_catch, turn_handler};
+use rkt_router::{CatchHandler, Final, Handler, Polled, RouteOutcome, turn_catch, turn_handler};
 use std::alloc::Global;
 
 fn push_reply(out: &mut String, reply: RouteOutcome<Site>) -> Result<(), CaseError> {
@@ -29,8 +29,8 @@ fn handled<T: Types, H: Handler<T>>(
     let mut task = handler.start(request, body);
     for turn in 0..turns {
         match turn_handler(alloc, handler, turns, turn, &mut task, request, ctx) {
-            Turn::Pending => {}
-            Turn::Over(last) => return Some(last),
+            Polled::Pending => {}
+            Polled::Over(last) => return Some(last),
         }
     }
     None
@@ -85,8 +85,8 @@ fn caught<T: Types, C: CatchHandler<T>>(
     let mut task = catcher.start(status, request);
     for turn in 0..turns {
         match turn_catch(alloc, catcher, turns, turn, &mut task, request, ctx) {
-            Turn::Pending => {}
-            Turn::Over(last) => return Some(last),
+            Polled::Pending => {}
+            Polled::Over(last) => return Some(last),
         }
     }
     None

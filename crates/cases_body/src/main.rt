@@ -14,17 +14,19 @@
 //! - `one SOURCE`: a stream of one source in memory.
 //! - `nothing`: no stream.
 //!
-//! | Line | Answers |
-//! |---|---|
-//! | a source | of `read SIZE` into a buffer of that size: the bytes, or the error; of `shut`: `shut`; of each also `pending` |
-//! | `cut` and `chain` | besides, of `stage`: when the first saw the trip, when its grace was over, whether it is there, and how many of its polls are still to be Pending |
-//! | `cut` | besides, of `call`: what a closure answers that gives 7 |
-//! | `body SOURCE`, `local "TEXT"` | of `peek COUNT` the bytes shown, of `complete` whether these are all; of `open LIMIT` nothing; then of `read SIZE` the bytes, of `hint` how many are held; and at last of `bytes`, `text`, `send` or `send_precise` what each poll answers, and an error twice |
-//! | `chunks SIZE SOURCE` | the chunks of the source, until their end |
-//! | `join "TEXT" "TEXT" .. + "TEXT" \| COUNT` | so many items of the two streams, joined |
-//! | `capped WRITTEN COMPLETE \| VALUE NEW` | a copy of the value, and the value when the new one was written |
-//! | `mapped WRITTEN COMPLETE \| VALUE` | the value plus one, how many bytes were read, and the value alone |
-//! | `whole "TEXT"` | the length of a text that was read whole |
+//! - a source: of `read SIZE` into a buffer of that size: the bytes, or the error; of `shut`: `shut`; of each also
+//!   `pending`
+//! - `cut` and `chain`: besides, of `stage`: when the first saw the trip, when its grace was over, whether it is there,
+//!   and how many of its polls are still to be Pending
+//! - `cut`: besides, of `call`: what a closure answers that gives 7
+//! - `body SOURCE`, `local "TEXT"`: of `peek COUNT` the bytes shown, of `complete` whether these are all; of
+//!   `open LIMIT` nothing; then of `read SIZE` the bytes, of `hint` how many are held; and at last of `bytes`, `text`,
+//!   `send` or `send_precise` what each poll answers, and an error twice
+//! - `chunks SIZE SOURCE`: the chunks of the source, until their end
+//! - `join "TEXT" "TEXT" .. + "TEXT" | COUNT`: so many items of the two streams, joined
+//! - `capped WRITTEN COMPLETE | VALUE NEW`: a copy of the value, and the value when the new one was written
+//! - `mapped WRITTEN COMPLETE | VALUE`: the value plus one, how many bytes were read, and the value alone
+//! - `whole "TEXT"`: the length of a text that was read whole
 //!
 //! `send` and `send_precise` take `chunk`, `fails` and `pends` for the sink, and show the bytes that it has at last. Bytes
 //! stand between quotes, and as numbers where they are no UTF-8. Behind `read SIZE` and `call` may stand a Gate, `@MOMENT`

@@ -52,7 +52,9 @@ impl<'a> Shut for Peer<'a> {
     ghost use Rattle.rkt_source.specs.Memory.{source_meaning};
     ghost use Rattle.rkt_source.specs.Source.{Shuts};
 
-    ghost shuts = { λ s answer t. Shuts (record (source_meaning s.inner) { pended = s.waited; pendings = s.waited + s.waits }) answer (record (source_meaning t.inner) { pended = t.waited; pendings = t.waited + t.waits }) };
+    ghost shuts = { λ s answer t.
+        Shuts (record (source_meaning s.inner) { pended = s.waited; pendings = s.waited + s.waits }) answer
+        (record (source_meaning t.inner) { pended = t.waited; pendings = t.waited + t.waits }) };
 
     fn poll_shutdown(&mut self) -> Poll<()> {
         if self.waits > 0 {
@@ -118,7 +120,13 @@ impl<X> Listed<X> {
 impl<X: Drop> Stream for Listed<X> {
     type Item = X;
 
-    ghost flow = { λ s. record { rest = Some s.items.items; left = length s.items.items; ended = s.ended; pended = s.waited; pendings = s.waited + s.waits } };
+    ghost flow = { λ s. record {
+      rest = Some s.items.items;
+      left = length s.items.items;
+      ended = s.ended;
+      pended = s.waited;
+      pendings = s.waited + s.waits;
+    } };
 
     fn poll_next(&mut self, _gate: Gate) -> Poll<Option<X>> {
         if self.ended {
@@ -163,7 +171,10 @@ impl<K> Slow<K> {
 }
 
 impl<K: Sink> Sink for Slow<K> {
-    ghost meaning = { λ s. record (K.meaning s.inner) { pended = s.waited + min (K.meaning s.inner).pended (K.meaning s.inner).pendings; pendings = s.waited + s.waits + (K.meaning s.inner).pendings } };
+    ghost meaning = { λ s. record (K.meaning s.inner) {
+      pended = s.waited + min (K.meaning s.inner).pended (K.meaning s.inner).pendings;
+      pendings = s.waited + s.waits + (K.meaning s.inner).pendings;
+    } };
 
     fn poll_write(&mut self, buf: &[u8]) -> Poll<Result<usize, SinkError>> {
         if self.waits > 0 {

@@ -26,12 +26,15 @@ with_reads reads taken link = record link { asked = option_map (asked_with reads
 abbrev pub sourced_meaning : Sourced → LinkMeaning
 sourced_meaning k = with_reads k.reads k.source_taken (link_meaning k.link)
 
-pub says_so : (link : Sourced) (asked : Asked) → (sourced_meaning link).asked ≡ Some asked → asked.never_faults ≡ (sourced_meaning link).never_faults
+pub says_so : (link : Sourced) (asked : Asked)
+    → (sourced_meaning link).asked ≡ Some asked
+    → asked.never_faults ≡ (sourced_meaning link).never_faults
 says_so link asked told = ap (λ (o : Option Asked). option_map_or (λ a. a.never_faults) o true) (sym told)
 
 -- the source of the body stands by, untouched, until it is taken
 abbrev pub StandsBy : Option SourceInMemory → List ℕ → List ℕ → Type 0
-StandsBy source bytes reads = IfSome source (λ s. s ≡ record { bytes = bytes; at = 0; chunk = 4; fails = reads; calls = 0; faults = 0 })
+StandsBy source bytes reads =
+    IfSome source (λ s. s ≡ record { bytes = bytes; at = 0; chunk = 4; fails = reads; calls = 0; faults = 0 })
 
 -- nothing was taken from it and sent to it
 abbrev pub IsUnused : Sourced → Type 0

@@ -1,8 +1,8 @@
-use crate::error::CaseError;
 use crate::events::events;
 use crate::fails::fails;
 use crate::running::{Run, outcome, sink, summary};
-use crate::words::{first_word, numbers, script, words};
+use crate::words::{script, words};
+use cases::{CaseError, first_word, numbers};
 use rkt_data::MemorySource;
 use std::alloc::{AllocError, Global};
 use std::sync::Wait;

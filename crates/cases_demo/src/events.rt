@@ -1,9 +1,9 @@
 //! The events of a launch of the sample.
-use crate::error::CaseError;
 use crate::words::script;
+use cases::CaseError;
 use rkt_base::Want;
 use rkt_data::MemorySource;
-use rkt_demo::{Handler, SampleHistory, ScriptRequest, launch_sample, parse_script};
+use rkt_demo::{ByHandler, SampleHistory, ScriptRequest, launch_sample, parse_script};
 use rkt_request::ConfigTable;
 use rkt_serve::{Called, EventOf, ListClock, MemoryLink};
 use std::alloc::{AllocError, Global};
@@ -65,7 +65,7 @@ fn launched<R: Wait + Threads>(
 ) -> Result<SampleHistory, CaseError> {
     let table = ConfigTable::new(alloc);
     let clock = ListClock::new(Vec::new(alloc));
-    match launch_sample::<Handler, R, ListClock>(rt, alloc, table, requests, clock) {
+    match launch_sample::<ByHandler, R, ListClock>(rt, alloc, table, requests, clock) {
         Ok(history) => Ok(history),
         Err(_) => Err(CaseError::NoMemory),
     }

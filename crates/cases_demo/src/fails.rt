@@ -4,15 +4,14 @@ ghost use Rattle.std.specs.List.{AllByRecursion};
 ghost use Rattle.rkt_link.specs.Listener.{IsFresh};
 ghost use Rattle.cases_demo.specs.Sourced.{IsUnused, listening_meaning};
 
-use crate::error::CaseError;
 use crate::events::requests;
 use crate::pieces::pieces_text;
 use crate::sourced_link::SourcedLink;
 use crate::sourced_listener::SourcedListener;
-use crate::words::{first_word, number, numbers};
+use cases::{CaseError, first_word, numbers, parsed};
 use rkt_base::NoMemory;
 use rkt_data::MemorySource;
-use rkt_demo::{Handler, Sample, ScriptRequest};
+use rkt_demo::{ByHandler, Sample, ScriptRequest};
 use rkt_request::ConfigTable;
 use rkt_sample::StopReason;
 use rkt_serve::{EntryOf, Error, ErrorKindOf, HistoryOf, Launch, Launched, ListClock};
@@ -146,7 +145,7 @@ fn faults_of(
     polls: &str,
 ) -> Result<Faults, CaseError> {
     Ok(Faults {
-        link: number(link)?,
+        link: parsed::<u64>(link)?,
         sends: numbers(alloc, sends)?,
         reads: numbers(alloc, reads)?,
         polls: numbers(alloc, polls)?,
@@ -162,5 +161,5 @@ pub fn fails<R: Wait + Threads>(rt: &R, alloc: Global, text: &str) -> Result<Str
     let faults = faults_of(alloc, link, sends, reads, polls)?;
     let requests = requests(alloc, script)?;
     let listener = listener_for(alloc, faults, requests)?;
-    launched::<Handler, R>(rt, alloc, listener)
+    launched::<ByHandler, R>(rt, alloc, listener)
 }

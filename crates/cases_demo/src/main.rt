@@ -18,7 +18,6 @@
 #![tactic(auto)]
 
 mod answer;
-mod error;
 mod events;
 mod fails;
 mod pieces;
@@ -29,18 +28,11 @@ mod trickle;
 mod words;
 
 use crate::answer::answer;
+use cases::{is_heading, print_answer};
 use std::alloc::Global;
 use std::io;
 use std::sync::Wait;
 use std::thread::Threads;
-
-fn print_answer(rt: &impl Print, line: &str, text: &str) -> io::Result<()> {
-    println!(rt; "{line} -> {text}")
-}
-
-fn is_heading(line: &str) -> bool {
-    line.is_empty() || line.starts_with('#')
-}
 
 /// Writes the line, and behind an arrow the answer where it is a case.
 fn print_line<R: Print + Wait + Threads>(rt: &R, alloc: Global, line: &str) -> io::Result<()> {

@@ -6,7 +6,7 @@ use rkt_base::{NoMemory, Poll};
 use rkt_data::{MemorySource, Shut};
 use rkt_message::Piece;
 use rkt_request::Head;
-use rkt_serve::{Handed, Link, MemoryLink, SendError};
+use rkt_serve::{Delivery, Link, MemoryLink, SendError};
 use std::alloc::Global;
 use std::marker::Model;
 
@@ -89,7 +89,7 @@ impl Link for SourcedLink {
         self.link.poll_send(piece)
     }
 
-    fn poll_hand(&mut self, piece: Piece) -> Handed {
+    fn poll_hand(&mut self, piece: Piece) -> Delivery {
         self.link.poll_hand(piece)
     }
 

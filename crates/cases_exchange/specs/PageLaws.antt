@@ -3,7 +3,8 @@ use Rattle.std.specs.Prelude.{ℕ, List, Option}
 use Rattle.rkt_router.specs.Callbacks.{Keeps, KeepsHandler}
 use Rattle.cases_exchange.specs.Pages.{catching, trying}
 
-pub trying_keeps : {V B C R : Type 0} (whole : B → Option (List ℕ)) → KeepsHandler whole (trying {V = V} {B = B} {C = C} {R = R} whole)
+pub trying_keeps : {V B C R : Type 0} (whole : B → Option (List ℕ))
+    → KeepsHandler whole (trying {V = V} {B = B} {C = C} {R = R} whole)
 trying_keeps whole = record {
   keeps = record {
     done = λ page handed before after gates reply is. is.0;

@@ -3,7 +3,7 @@ use crate::asked::read_asked;
 use crate::exchanged::answer;
 use crate::told::{finalize, push_catcher, push_route, set_config, set_fairings};
 use cases::{Answers, CaseError, first_word};
-use rkt_lifecycle::Tables;
+use rkt_exchange::Tables;
 use std::alloc::Global;
 
 /// What each exchange goes by.

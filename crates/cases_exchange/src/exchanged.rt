@@ -9,7 +9,7 @@ use crate::source::Paused;
 use cases::CaseError;
 use rkt_base::{NoMemory, Poll};
 use rkt_data::Gate;
-use rkt_lifecycle::{Ended, Exchange, Tables};
+use rkt_exchange::{Ended, Exchange, Tables};
 use rkt_request::{Body0, Head, Incoming, Request};
 use rkt_turn::{Shutdown, TripWire};
 use sample_app::{Stopped, gate_at};

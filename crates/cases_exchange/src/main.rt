@@ -13,10 +13,10 @@
 //! | `route N`, `catcher N` | the route, or the catcher, at a position |
 //! | `finalize` | whether the routes and catchers are taken |
 //!
-//! A PIECE is a header `NAME: VALUE`, `body TEXT`, which is added to the body, `fails N,..`, the reads of the body that are
-//! refused, from 0, `waits N`, how many of its first reads are Pending once before they are made, `at MOMENT`, the moment of the
-//! first poll (else 1000), or `jar`, which shows the jar behind the response; each further poll is a second later. A body gives
-//! four bytes a read.
+//! A PIECE is a header `NAME: VALUE`, `body TEXT`, which is added to the body, `fails N,..`, the reads of the body that
+//! are refused, from 0, `waits N`, how many of its first reads are Pending once before they are made, `at MOMENT`, the
+//! moment of the first poll (else 1000), or `jar`, which shows the jar behind the response; each further poll is a
+//! second later. A body gives four bytes a read.
 //!
 //! A FAIRING is `shield`, which has its policies by default, or `KINDS CHANGE`, where KINDS is `request`, `response` or `both`.
 //! The changes are `method NAME` and `uri TEXT` of a request, `status CODE` of a response, `header NAME: VALUE` and `body TEXT`

@@ -5,7 +5,7 @@ use cases::{CaseError, written};
 use rkt_base::{NoMemory, Poll};
 use rkt_cookie::Change;
 use rkt_data::{DataError, MemorySource};
-use rkt_lifecycle::{Ended, EndedOf, Run};
+use rkt_exchange::{Ended, EndedOf, Run};
 use rkt_response::{Body, Response};
 use rkt_routing::{Answer, Call, Which};
 use sample_app::gate_at;

@@ -11,7 +11,7 @@ use rkt_fairing::{InSlot, RequestCallback, ResponseCallback, Slot, turn_request,
 use rkt_http::{Method, Origin};
 use rkt_request::{Body0, Ctx, Request, Types};
 use rkt_response::Response;
-use rkt_router::{Final, Turn};
+use rkt_router::{Final, Polled};
 use rkt_shield::Shield;
 use std::alloc::Global;
 
@@ -49,12 +49,12 @@ impl ChangesResponse<Site> for Named {
     }
 }
 
-fn push_turn(out: &mut String, turn: Turn<()>) -> Result<(), NoMemory> {
+fn push_turn(out: &mut String, turn: Polled<()>) -> Result<(), NoMemory> {
     out.push_str(match turn {
-        Turn::Pending => "pending",
-        Turn::Over(Final::Done(())) => "done",
-        Turn::Over(Final::FailedTurn) => "failed turn",
-        Turn::Over(Final::Starved) => "starved",
+        Polled::Pending => "pending",
+        Polled::Over(Final::Done(())) => "done",
+        Polled::Over(Final::FailedTurn) => "failed turn",
+        Polled::Over(Final::Starved) => "starved",
     })
 }
 
@@ -65,7 +65,7 @@ fn asked<T: Types, F, P: RequestCallback<T, F>>(
     request: &mut Request<'_, T>,
     body: &mut Body0<T>,
     ctx: &mut Ctx<T>,
-) -> Turn<()> {
+) -> Polled<()> {
     let mut task = P::start(fairing);
     turn_request::<T, F, P>(alloc, fairing, 1, 0, &mut task, request, body, ctx)
 }
@@ -77,7 +77,7 @@ fn responded<T: Types, F, Q: ResponseCallback<T, F>>(
     request: &Request<'_, T>,
     response: &mut Response<T::Stream>,
     ctx: &mut Ctx<T>,
-) -> Turn<()> {
+) -> Polled<()> {
     let mut task = Q::start(fairing, request);
     turn_response::<T, F, Q>(alloc, fairing, 1, 0, &mut task, request, response, ctx)
 }

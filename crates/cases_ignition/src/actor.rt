@@ -41,7 +41,17 @@ impl Attach for Actor {
 
     ghost key = { λ f. record { 0 = f.key } };
 
-    ghost info = { λ f. record { name = f.name.now; kind = record { ignite = true; liftoff = false; request = false; response = false; shutdown = false; singleton = f.singleton } } };
+    ghost info = { λ f. record {
+      name = f.name.now;
+      kind = record {
+        ignite = true;
+        liftoff = false;
+        request = false;
+        response = false;
+        shutdown = false;
+        singleton = f.singleton;
+      };
+    } };
 
     fn key(&self) -> Key {
         Key(self.key)
@@ -92,7 +102,12 @@ impl IgniteCallback<Site, Actor> for Acts {
 
     type Task = u32;
 
-    ghost calling = { record { may = λ _ _ _ _ _ _. ⊤; begun = λ _ _ task _ _ _ n. n ≡ task; pendings = λ _ _ _. 2 ^ 32; may_fault = λ _ _ _. ⊤ } };
+    ghost calling = { record {
+      may = λ _ _ _ _ _ _. ⊤;
+      begun = λ _ _ task _ _ _ n. n ≡ task;
+      pendings = λ _ _ _. 2 ^ 32;
+      may_fault = λ _ _ _. ⊤;
+    } };
 
     fn start(_fairing: &Actor) -> u32 {
         0

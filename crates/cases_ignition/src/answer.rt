@@ -1,10 +1,11 @@
 use crate::actor::{Actor, Acts};
 use crate::build::{Built, attach_answer, catch_answer, configure_answer, route_answer};
+use crate::orbit::{Orbit, orbit_answer};
 use crate::sentries::query_answer;
 use crate::shown::{push_error, push_ignited};
 use crate::site::Site;
 use cases::{Answers, CaseError, first_word};
-use rkt_base::Want;
+use rkt_base::{NoMemory, Want};
 use rkt_fairing::BuildingOf;
 use rkt_ignition::ignite;
 use rkt_request::ConfigTable;
@@ -15,6 +16,7 @@ use std::mem::replace;
 #[derive(Drop)]
 pub struct Kept {
     built: Built,
+    orbit: Orbit,
 }
 
 fn new_building(alloc: Global) -> Built {
@@ -22,10 +24,11 @@ fn new_building(alloc: Global) -> Built {
 }
 
 impl Kept {
-    pub fn new(alloc: Global) -> Kept {
-        Kept {
+    pub fn new(alloc: Global) -> Result<Kept, NoMemory> {
+        Ok(Kept {
+            orbit: Orbit::with_default(alloc)?,
             built: new_building(alloc),
-        }
+        })
     }
 }
 
@@ -48,6 +51,7 @@ impl Answers for Kept {
             "route" => route_answer(alloc, &mut self.built, rest, out),
             "catch" => catch_answer(alloc, &mut self.built, rest, out),
             "query" => query_answer(alloc, rest, out),
+            "orbit" => orbit_answer(alloc, &mut self.orbit, rest, out),
             "ignite" => {
                 let built = replace(&mut self.built, new_building(alloc));
                 ignite_answer(alloc, built, out)

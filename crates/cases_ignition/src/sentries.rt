@@ -3,10 +3,9 @@ use crate::site::Site;
 use cases::{CaseError, pair, parsed};
 use rkt_base::{NoMemory, Seq, Want};
 use rkt_http::Key;
-use rkt_ignition::query;
+use rkt_ignition::{Aborts, Ignited, query};
 use rkt_request::{Config, Managed};
 use rkt_router::Sentry;
-use rkt_sentinel::{Aborts, Ignited};
 use std::alloc::Global;
 
 /// What a sentry asks: it has been told what to answer.

@@ -1,5 +1,5 @@
 //! What a line asks for.
-use crate::memory::{push_clock, push_polls, push_source};
+use crate::memory::{push_clock, push_cuttables, push_polls, push_source};
 use crate::reads::{push_again, push_body, push_head, push_shut};
 use crate::sends::{Way, push_sent};
 use cases::{Answers, CaseError, first_word, numbers, written};
@@ -51,6 +51,7 @@ impl Answers for Program {
         match kind {
             "faults" => self.set_fails(alloc, words, out),
             "polls" => push_polls(alloc, self.fails.as_slice(), words, out),
+            "cuttable" => push_cuttables(alloc, self.fails.as_slice(), words, out),
             "source" => written(push_source(alloc, words, out)),
             "clock" => push_clock(alloc, words, out),
             _ => answer_pipe(alloc, line, out),

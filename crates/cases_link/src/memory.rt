@@ -3,8 +3,11 @@ use crate::made::made_head;
 use crate::reads::{GATE, ROOM};
 use cases::{CaseError, first_word, numbers, parsed, push_item, written};
 use rkt_base::{NoMemory, Poll};
-use rkt_data::Source;
-use rkt_link::{Accepted, Clock, Link, Links, ListClock, ListListener, Listener, MemoryLink};
+use rkt_data::{CancellableIo, Source};
+use rkt_link::{
+    Accepted, CancellableListener, Clock, Link, Links, ListClock, ListListener, Listener,
+    MemoryLink,
+};
 use std::alloc::Global;
 use std::str;
 
@@ -57,6 +60,15 @@ fn push_all_polled(
     Ok(())
 }
 
+/// How often the listener is polled, and that listener, of `POLLS COUNT LINK | LINK ..`.
+fn read_polls(alloc: Global, fails: &[u64], words: &str) -> Result<(u64, ListListener), CaseError> {
+    let (pends, words) = first_word(words);
+    let (count, links) = first_word(words);
+    let count = parsed::<u64>(count)?;
+    let pends = numbers(alloc, pends)?;
+    Ok((count, made_listener(alloc, pends, fails, links)?))
+}
+
 /// `POLLS COUNT LINK | LINK ..`, where the polls of these numbers fail.
 pub fn push_polls(
     alloc: Global,
@@ -64,12 +76,53 @@ pub fn push_polls(
     words: &str,
     out: &mut String,
 ) -> Result<(), CaseError> {
-    let (pends, words) = first_word(words);
-    let (count, links) = first_word(words);
-    let count = parsed::<u64>(count)?;
-    let pends = numbers(alloc, pends)?;
-    let mut listener = made_listener(alloc, pends, fails, links)?;
+    let (count, mut listener) = read_polls(alloc, fails, words)?;
     written(push_all_polled(&mut listener, count, out))
+}
+
+/// The target that a link asks, and whether a trip has been seen at it.
+fn push_cuttable(link: &CancellableIo<MemoryLink>, out: &mut String) -> Result<(), NoMemory> {
+    let stage = match link.saw() {
+        None => "active",
+        Some(_) => "warned",
+    };
+    push_item(out, stage)?;
+    out.push_str(" ")?;
+    out.push_str(link.kept().head().target.as_str())
+}
+
+fn push_cuttable_polled(
+    listener: &mut CancellableListener<ListListener>,
+    out: &mut String,
+) -> Result<(), NoMemory> {
+    match listener.poll_accept() {
+        Poll::Ready(Accepted::Given(link)) => push_cuttable(&link, out),
+        Poll::Ready(Accepted::End) => push_item(out, "end"),
+        Poll::Ready(Accepted::Fault) => push_item(out, "fault"),
+        Poll::Pending => push_item(out, "pending"),
+    }
+}
+
+/// What so many polls answer, and then one of the listener that is handed out.
+fn push_all_cuttable(listener: ListListener, count: u64, out: &mut String) -> Result<(), NoMemory> {
+    let mut cuttable = CancellableListener::new(listener);
+    for _ in 0..count {
+        push_cuttable_polled(&mut cuttable, out)?;
+    }
+    let mut listener = cuttable.into_inner();
+    out.push_str("; ")?;
+    out.push_str(polled(&mut listener))
+}
+
+/// The same line, of a listener whose links can be cut off.
+pub fn push_cuttables(
+    alloc: Global,
+    fails: &[u64],
+    words: &str,
+    out: &mut String,
+) -> Result<(), CaseError> {
+    let (count, listener) = read_polls(alloc, fails, words)?;
+    written(push_all_cuttable(listener, count, out))
 }
 
 fn push_text(bytes: &[u8], out: &mut String) -> Result<(), NoMemory> {

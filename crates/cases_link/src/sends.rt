@@ -3,7 +3,7 @@ use crate::made::{PipeLink, link_over};
 use crate::pieces::{chunk_piece, head_piece};
 use cases::{CaseError, first_word, push_item, written};
 use rkt_base::{NoMemory, Poll};
-use rkt_link::{Handed, Link, SendError};
+use rkt_link::{Delivery, Link, SendError};
 use rkt_message::Piece;
 use std::alloc::Global;
 use std::str;
@@ -44,9 +44,9 @@ fn push_hand<K: Link>(
     out: &mut String,
 ) -> Result<Option<Piece>, NoMemory> {
     match link.poll_hand(piece) {
-        Handed::Taken => out.push_str(" taken")?,
-        Handed::Refused(error) => out.push_str(error_name(error))?,
-        Handed::Back(back) => {
+        Delivery::Taken => out.push_str(" taken")?,
+        Delivery::Refused(error) => out.push_str(error_name(error))?,
+        Delivery::Back(back) => {
             out.push_str(" back")?;
             return Ok(Some(back));
         }

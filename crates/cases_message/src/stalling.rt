@@ -31,7 +31,9 @@ impl Shut for Stalling {
     ghost use Rattle.rkt_source.specs.Memory.{source_meaning};
     ghost use Rattle.rkt_source.specs.Source.{Shuts};
 
-    ghost shuts = { λ s answer t. Shuts (record (source_meaning s.inner) { pended = s.waited; pendings = s.waited + s.waits }) answer (record (source_meaning t.inner) { pended = t.waited; pendings = t.waited + t.waits }) };
+    ghost shuts = { λ s answer t.
+        Shuts (record (source_meaning s.inner) { pended = s.waited; pendings = s.waited + s.waits }) answer
+        (record (source_meaning t.inner) { pended = t.waited; pendings = t.waited + t.waits }) };
 
     fn poll_shutdown(&mut self) -> Poll<()> {
         Poll::Ready(())

@@ -7,26 +7,30 @@
 //! with `err` and the status that it errs with. INNER is a responder in another: a number is that status, `-` the empty
 //! response, and any other text is a text.
 //!
-//! | Line | The responder |
-//! |---|---|
-//! | `INNER` behind `plain` | that one alone |
-//! | `text KIND TEXT` | a text that is lent (`str`), a `string`, `boxed`, shared (`arc`), or `cow`, which is lent, and `owned_cow` |
-//! | `bytes KIND TEXT` | the same of bytes: `slice`, `vec`, `boxed`, `arc`, `cow`, `owned_cow` |
-//! | `some INNER`, `none`, `ok INNER`, `error INNER`, `left INNER`, `right INNER`, `box INNER`, `capped INNER` | std's types, and a body that was cut |
-//! | `debug NUMBER`, `fault`, `gone`, `timed_out` | what only tells of an error |
-//! | `custom CODE INNER`, `pair CODE INNER` | with a status |
-//! | `accepted INNER`, `bad_request`, `unauthorized`, `forbidden`, `not_found`, `conflict`, and `no_content` alone | with its status |
-//! | `json INNER`, `xml`, `msgpack`, `html`, `plain_text`, `css`, `javascript`, `typed TYPE INNER` | with a content type |
-//! | `html_accepted INNER` | both |
-//! | `created PLACE`, `created_with PLACE INNER` | at a place |
-//! | `to URI`, `temporary`, `permanent`, `found`, `moved` | redirects |
-//! | `byte_stream TEXT`, `text_stream TEXT` | a source that gives two bytes at a time |
-//! | `reader_stream TEXT` | a stream of one such source |
-//! | `same NUMBER NUMBER` | whether two `Accepted` of these are equal |
-//! | `flash KIND MESSAGE` | what the cookie says, and what a jar sends of it; KIND `success`, `warning` and `error` are made by their own calls |
-//! | `flashing KIND MESSAGE` | the response of `-` with it, and what the jar of the request sends |
-//! | `guard VALUE`, `no_cookie` | what the guard of messages gives where the cookie says this: kind, message and how many changes the jar has then, or the status with which it errs |
-//! | `message VALUE` | kind and message one after another, how many changes, and what the jar sends at the moment 31536001 |
+//! - `INNER` behind `plain`: that one alone
+//! - `text KIND TEXT`: a text that is lent (`str`), a `string`, `boxed`, shared (`arc`), or `cow`, which is lent, and
+//!   `owned_cow`
+//! - `bytes KIND TEXT`: the same of bytes: `slice`, `vec`, `boxed`, `arc`, `cow`, `owned_cow`
+//! - `some INNER`, `none`, `ok INNER`, `error INNER`, `left INNER`, `right INNER`, `box INNER`, `capped INNER`: std's
+//!   types, and a body that was cut
+//! - `debug NUMBER`, `fault`, `gone`, `timed_out`: what only tells of an error
+//! - `custom CODE INNER`, `pair CODE INNER`: with a status
+//! - `accepted INNER`, `bad_request`, `unauthorized`, `forbidden`, `not_found`, `conflict`, and `no_content` alone:
+//!   with its status
+//! - `json INNER`, `xml`, `msgpack`, `html`, `plain_text`, `css`, `javascript`, `typed TYPE INNER`: with a content type
+//! - `html_accepted INNER`: both
+//! - `created PLACE`, `created_with PLACE INNER`: at a place
+//! - `to URI`, `temporary`, `permanent`, `found`, `moved`: redirects
+//! - `byte_stream TEXT`, `text_stream TEXT`: a source that gives two bytes at a time
+//! - `reader_stream TEXT`: a stream of one such source
+//! - `same NUMBER NUMBER`: whether two `Accepted` of these are equal
+//! - `flash KIND MESSAGE`: what the cookie says, and what a jar sends of it; KIND `success`, `warning` and `error` are
+//!   made by their own calls
+//! - `flashing KIND MESSAGE`: the response of `-` with it, and what the jar of the request sends
+//! - `guard VALUE`, `no_cookie`: what the guard of messages gives where the cookie says this: kind, message and how
+//!   many changes the jar has then, or the status with which it errs
+//! - `message VALUE`: kind and message one after another, how many changes, and what the jar sends at the moment
+//!   31536001
 #![tactic(auto)]
 
 mod answer;

@@ -34,7 +34,8 @@ marked_grows before after is = record {
   };
 }
 
-pub marks_keeps : {V B C R : Type 0} (whole : B → Option (List ℕ)) → KeepsHandler whole (marks_calling {V = V} {B = B} {C = C} {R = R})
+pub marks_keeps : {V B C R : Type 0} (whole : B → Option (List ℕ))
+    → KeepsHandler whole (marks_calling {V = V} {B = B} {C = C} {R = R})
 marks_keeps whole = record {
   keeps = at_once_keeps _ _ (λ marks handed before after reply is. marked_grows before after is.1);
   forwards = λ marks handed before after gates reply is. rw is.0 refl;

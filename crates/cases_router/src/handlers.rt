@@ -84,7 +84,10 @@ impl Handler<Sample> for Waits {
     }
 
     ghost keeps = { record {
-      keeps = record { done = λ _ _ before after _ _ is. grows_same before after is.1; begun = λ _ _ _ before now _ _ is. grows_same before now is.1 };
+      keeps = record {
+        done = λ _ _ before after _ _ is. grows_same before after is.1;
+        begun = λ _ _ _ before now _ _ is. grows_same before now is.1;
+      };
       forwards = λ _ _ _ _ _ _ is. rw is.0 tt;
     } };
 }

@@ -3,9 +3,9 @@ use cases::{CaseError, written};
 use either::Either;
 use rkt_base::{NoMemory, Want};
 use rkt_http::Key;
+use rkt_ignition::{Aborts, Asks, Ignited, Sentinel};
 use rkt_request::{Config, Managed, State};
 use rkt_response::Debug;
-use rkt_sentinel::{Aborts, Asks, Ignited, Sentinel};
 use sample_app::Sample;
 use std::alloc::Global;
 

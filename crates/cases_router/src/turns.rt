@@ -8,7 +8,7 @@ use rkt_data::MemorySource;
 use rkt_http::Status;
 use rkt_request::{Body0, Ctx, Request};
 use rkt_response::Response;
-use rkt_router::{CatchHandler, Final, Handler, RouteOutcome, Turn, turn_catch, turn_handler};
+use rkt_router::{CatchHandler, Final, Handler, Polled, RouteOutcome, turn_catch, turn_handler};
 use sample_app::Sample;
 use std::alloc::{AllocError, Global};
 
@@ -34,8 +34,8 @@ fn finish<H: Handler<Sample>>(
     let mut task = handler.start(request, body);
     for turn in 0..turns {
         match turn_handler(alloc, handler, turns, turn, &mut task, request, ctx) {
-            Turn::Pending => out.push_str("pending, ")?,
-            Turn::Over(last) => return Ok(push_final(last, out)?),
+            Polled::Pending => out.push_str("pending, ")?,
+            Polled::Over(last) => return Ok(push_final(last, out)?),
         }
     }
     Err(CaseError::Line)
@@ -106,8 +106,8 @@ fn finish_catch<C: CatchHandler<Sample>>(
     let mut task = catcher.start(status, request);
     for turn in 0..turns {
         match turn_catch(alloc, catcher, turns, turn, &mut task, request, ctx) {
-            Turn::Pending => out.push_str("pending, ")?,
-            Turn::Over(last) => return Ok(push_caught(last, out)?),
+            Polled::Pending => out.push_str("pending, ")?,
+            Polled::Over(last) => return Ok(push_caught(last, out)?),
         }
     }
     Err(CaseError::Line)

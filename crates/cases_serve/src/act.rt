@@ -1,6 +1,5 @@
 //! What a fairing does where it is called.
-use crate::error::CaseError;
-use crate::words::{count, first_word};
+use cases::{CaseError, first_word, parsed};
 use rkt_fairing::Kind;
 
 /// What a fairing does where it is called.
@@ -38,7 +37,7 @@ fn read_plain(text: &str) -> Result<Act, CaseError> {
 fn read_act(text: &str) -> Result<Act, CaseError> {
     let (name, rest) = first_word(text);
     if name == "pend" {
-        return Ok(Act::Pend(count(rest)?));
+        return Ok(Act::Pend(parsed::<u32>(rest)?));
     }
     read_plain(text)
 }

@@ -67,7 +67,12 @@ impl LiftoffCallback<Site, Actor> for Acts {
 
     type Task = u32;
 
-    ghost calling = { record { may = λ _ _ before _ _ after. HandsBack before.shutdown after.shutdown; begun = λ _ _ task before now _ n. (n ≡ task) × HandsBack before.shutdown now.shutdown; pendings = λ _ _ _. 2 ^ 32; may_fault = λ _ _ _. ⊤ } };
+    ghost calling = { record {
+      may = λ _ _ before _ _ after. HandsBack before.shutdown after.shutdown;
+      begun = λ _ _ task before now _ n. (n ≡ task) × HandsBack before.shutdown now.shutdown;
+      pendings = λ _ _ _. 2 ^ 32;
+      may_fault = λ _ _ _. ⊤;
+    } };
 
     fn start(_fairing: &Actor, _view: &View<'_, Site>) -> u32 {
         0
@@ -106,7 +111,12 @@ impl ShutdownCallback<Site, Actor> for Acts {
 
     type Task = u32;
 
-    ghost calling = { record { may = λ _ _ _ _ _ _. ⊤; begun = λ _ _ task _ _ _ n. n ≡ task; pendings = λ _ _ _. 2 ^ 32; may_fault = λ _ _ _. ⊤ } };
+    ghost calling = { record {
+      may = λ _ _ _ _ _ _. ⊤;
+      begun = λ _ _ task _ _ _ n. n ≡ task;
+      pendings = λ _ _ _. 2 ^ 32;
+      may_fault = λ _ _ _. ⊤;
+    } };
 
     fn start(_fairing: &Actor, _view: &View<'_, Site>) -> u32 {
         0

@@ -4,11 +4,10 @@ ghost use Rattle.rkt_link.specs.Memory.{listener_meaning};
 
 use crate::app::{Site, Stopped, rocket};
 use crate::built::count_links;
-use crate::error::CaseError;
 use crate::launch::listener;
 use crate::order::events_text;
 use crate::setting::Setting;
-use crate::words::{first_word, number, numbers};
+use cases::{CaseError, first_word, numbers, parsed};
 use rkt_base::{NoMemory, Poll};
 use rkt_life::{Ignite, Rocket};
 use rkt_serve::{
@@ -150,7 +149,7 @@ pub fn alarm<R: Wait + Threads>(
 ) -> Result<String, CaseError> {
     let (at, rest) = first_word(text);
     let (moments, rest) = first_word(rest);
-    let at = number(at)?;
+    let at = parsed::<u64>(at)?;
     let clock = ListClock::new(numbers(alloc, moments)?);
     let listener = listener(alloc, setting, rest)?;
     let rocket = rocket(alloc, setting)?;

@@ -1,12 +1,11 @@
 use crate::alarm::alarm;
 use crate::built::{ignite, told};
-use crate::error::CaseError;
 use crate::exchange::{exchange, parted};
 use crate::launch::launch;
 use crate::order::order;
 use crate::pieces::{cut_case, send_case};
 use crate::setting::{Setting, set_fairings, set_faults, set_header, set_routes};
-use crate::words::first_word;
+use cases::{CaseError, first_word};
 use std::alloc::Global;
 use std::sync::Wait;
 use std::thread::Threads;

@@ -2,11 +2,11 @@
 ghost use Rattle.rkt_request.specs.Lent.{MayGrow};
 
 use crate::actor::{Actor, fairings_of};
-use crate::error::CaseError;
 use crate::setting::{Place, Setting};
+use cases::CaseError;
 use rkt_base::{NoMemory, Want};
 use rkt_data::{Gate, MemorySource, Source};
-use rkt_http::{InvalidUri, Method, Outcome, Status};
+use rkt_http::{Method, Outcome, Status};
 use rkt_life::{App, DefaultCatcher, Fairings, Ignite, Orbit, Parts, Rocket, TablesOf};
 use rkt_message::Response;
 use rkt_request::{Body0, Config, ConfigTable, Ctx, Managed, Request, Types};
@@ -14,8 +14,8 @@ use rkt_router::{Handler, Route, RouteOutcome, Router, Step};
 use rkt_turn::{Reason, TripWire};
 use std::alloc::Global;
 
-/// Answers with its own text, once it was Pending so often. One that says `stop` or `trip` notifies the wire in its first poll, and
-/// the latter answers with the word of the trip that its last Gate shows.
+/// Answers with its own text, once it was Pending so often. One that says `stop` or `trip` notifies the wire in its
+/// first poll, and the latter answers with the word of the trip that its last Gate shows.
 #[derive(Drop)]
 pub struct Saying {
     text: String,
@@ -133,8 +133,12 @@ type SiteRouter = Router<Saying, DefaultCatcher, ()>;
 /// A route of GET that says its text.
 pub type SiteRoute = Route<Saying, ()>;
 
-fn route_of(alloc: Global, path: &str, saying: Saying) -> Result<SiteRoute, Want<InvalidUri>> {
-    SiteRoute::new(alloc, Method::Get, path, saying)
+fn route_of(alloc: Global, path: &str, saying: Saying) -> Result<SiteRoute, CaseError> {
+    match SiteRoute::new(alloc, Method::Get, path, saying) {
+        Ok(route) => Ok(route),
+        Err(Want::Refused(_)) => Err(CaseError::Refused),
+        Err(Want::NoMemory) => Err(CaseError::NoMemory),
+    }
 }
 
 fn push_route(alloc: Global, routes: &mut Vec<SiteRoute>, place: &Place) -> Result<(), CaseError> {

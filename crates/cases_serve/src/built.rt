@@ -4,11 +4,10 @@ ghost use Rattle.rkt_link.specs.Listener.{IsFresh};
 ghost use Rattle.rkt_link.specs.Memory.{listener_meaning};
 
 use crate::app::{Site, SiteRoute, routes_of};
-use crate::error::CaseError;
 use crate::heads::listener_of;
 use crate::launch::history_text;
 use crate::setting::Setting;
-use crate::words::first_word;
+use cases::{CaseError, first_word};
 use rkt_base::Poll;
 use rkt_life::{Build, Rocket};
 use rkt_request::ConfigTable;

@@ -2,10 +2,9 @@
 ghost use Rattle.std.specs.Prelude.{IsSome};
 
 use crate::app::{Site, Stopped, rocket};
-use crate::error::CaseError;
 use crate::heads::head_of;
 use crate::setting::Setting;
-use crate::words::{first_word, number, push_item};
+use cases::{CaseError, first_word, parsed, push_item};
 use rkt_base::{NoMemory, Poll};
 use rkt_cookie::{Cookie, CookieJar};
 use rkt_data::{CancellableIo, Data, Gate, MemorySource};
@@ -151,7 +150,7 @@ fn exchanged(
 /// The exchange of `MOMENT METHOD TARGET`.
 pub fn exchange(alloc: Global, setting: &Setting, text: &str) -> Result<String, CaseError> {
     let (moment, asked) = first_word(text);
-    let moment = number(moment)?;
+    let moment = parsed::<u64>(moment)?;
     let head = head_of(alloc, setting, asked)?;
     let mut rocket = rocket(alloc, setting)?;
     let text = exchanged(alloc, &mut rocket, &head, moment);

@@ -5,7 +5,7 @@ ghost use Rattle.rkt_link.specs.Listener.{IsFresh};
 ghost use Rattle.rkt_link.specs.Memory.{IsUnused, listener_meaning};
 
 use crate::setting::{Pair, Setting};
-use crate::words::first_word;
+use cases::first_word;
 use rkt_base::{Bytes, NoMemory, Seq, Text};
 use rkt_request::Head;
 use rkt_serve::{ListListener, MemoryLink};

@@ -4,12 +4,11 @@ ghost use Rattle.rkt_link.specs.Listener.{IsFresh};
 ghost use Rattle.rkt_link.specs.Memory.{listener_meaning};
 
 use crate::app::{Site, rocket};
-use crate::error::CaseError;
 use crate::exchange::cookies;
 use crate::heads::listener_of;
 use crate::pieces::ended;
 use crate::setting::Setting;
-use crate::words::{first_word, number, numbers};
+use cases::{CaseError, first_word, numbers, parsed};
 use rkt_serve::{
     Entry, Error, ErrorKindOf, EventOf, History, Launch, Launched, ListClock, ListListener,
     MemoryLink,
@@ -137,7 +136,7 @@ pub fn launch<R: Wait + Threads>(
 ) -> Result<String, CaseError> {
     let (workers, rest) = first_word(text);
     let (moments, rest) = first_word(rest);
-    let workers = number(workers)?;
+    let workers = parsed::<u64>(workers)?;
     let clock = ListClock::new(numbers(alloc, moments)?);
     let listener = listener(alloc, setting, rest)?;
     let (over, failed) = launched(rt, alloc, setting, workers, clock, listener)?;

@@ -19,8 +19,9 @@
 //!                                          0) are Pending, and each link asks METHOD TARGET. How many events there
 //!                                          are, each entry, and the moment of the close; in front, what is said of
 //!                                          it where the listener failed or an exchange was abandoned
-//!     order POLLS LINK | LINK ..           the events of such a launch, in order, and those of a second launch of the rocket that
-//!                                          comes back, over the same links. A Lift and a Down show how each of their calls ended
+//!     order POLLS LINK | LINK ..           the events of such a launch, in order, and those of a second launch of the
+//!                                          rocket that comes back, over the same links. A Lift and a Down show how
+//!                                          each of their calls ended
 //!     alarm MOMENT MOMENTS POLLS LINK | LINK ..
 //!                                          the events of a launch whose clock tells these moments, and how many links are
 //!                                          left. The wire is notified by the clock where it tells this moment or a later
@@ -31,12 +32,13 @@
 //!     told SETTINGS LINK | LINK ..         what is told of such a launch where it fails
 //!     send TURNS CHUNK READS TEXT          a response with the header above and a streamed body, which gives chunks
 //!                                          and fails at these reads (from 0), is sent: how that ends, and the pieces
-//!     cut NOW TRIP CHUNK READS TEXT        the same, where each Gate is a second later than the one before, from NOW on, with a
-//!                                          trip from that second on
+//!     cut NOW TRIP CHUNK READS TEXT        the same, where each Gate is a second later than the one before, from NOW
+//!                                          on, with a trip from that second on
 //!
-//! A FAIRING is `shield`, or `KIND ACT`: KIND is `liftoff`, `shutdown` or `both`, and ACT what it does where it is called: `done`,
-//! `fault`, `starve`, `pend NUMBER` (it is Pending so often), `notify` (at liftoff it notifies the wire), `seen` (at liftoff it
-//! faults, unless the handle has seen a word) and `once` (at liftoff it faults, unless it was never polled before).
+//! A FAIRING is `shield`, or `KIND ACT`: KIND is `liftoff`, `shutdown` or `both`, and ACT what it does where it is
+//! called: `done`, `fault`, `starve`, `pend NUMBER` (it is Pending so often), `notify` (at liftoff it notifies the
+//! wire), `seen` (at liftoff it faults, unless the handle has seen a word) and `once` (at liftoff it faults, unless it
+//! was never polled before).
 //!
 //! MOMENTS, SENDS, POLLS and READS are numbers parted by commas, SETTINGS are NAME=TEXT parted by commas, or `-` for none. In a
 //! value, `\n` is a line feed.
@@ -48,7 +50,6 @@ mod alarm;
 mod answer;
 mod app;
 mod built;
-mod error;
 mod exchange;
 mod heads;
 mod launch;
@@ -60,18 +61,11 @@ mod words;
 
 use crate::answer::answer;
 use crate::setting::Setting;
+use cases::{is_heading, print_answer};
 use std::alloc::Global;
 use std::io;
 use std::sync::Wait;
 use std::thread::Threads;
-
-fn print_answer(rt: &impl Print, line: &str, text: &str) -> io::Result<()> {
-    println!(rt; "{line} -> {text}")
-}
-
-fn is_heading(line: &str) -> bool {
-    line.is_empty() || line.starts_with('#')
-}
 
 /// Writes the line, and behind an arrow the answer where it is a case.
 fn print_line<R: Print + Wait + Threads>(

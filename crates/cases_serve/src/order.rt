@@ -3,10 +3,9 @@ ghost use Rattle.rkt_link.specs.Listener.{IsFresh};
 ghost use Rattle.rkt_link.specs.Memory.{listener_meaning};
 
 use crate::app::{Site, rocket};
-use crate::error::CaseError;
 use crate::launch::{Over, listener, refused};
 use crate::setting::Setting;
-use crate::words::push_item;
+use cases::{CaseError, push_item};
 use rkt_life::{Ignite, Rocket};
 use rkt_serve::{
     Called, Event, EventOf, History, Launch, LaunchedOf, ListClock, ListListener, MemoryLink,

@@ -1,12 +1,11 @@
 //! Pieces, and how a response is sent.
 ghost use Rattle.std.specs.Prelude.{◌≡◌};
-ghost use Rattle.rkt_cancel.specs.declared.stage.Stage.{Stage};
+ghost use Rattle.rkt_source.specs.declared.stage.Stage.{Stage};
 
-use crate::error::CaseError;
 use crate::heads::link_of;
 use crate::setting::Setting;
 use crate::ticks::Ticks;
-use crate::words::{count, first_word, number, numbers, push_item};
+use cases::{CaseError, first_word, numbers, parsed, push_item};
 use rkt_base::NoMemory;
 use rkt_data::{CancellableIo, MemorySource};
 use rkt_message::{Piece, Response};
@@ -116,7 +115,7 @@ fn send_body<R: Wait>(
 fn source_of(alloc: Global, text: &str) -> Result<MemorySource, CaseError> {
     let (chunk, rest) = first_word(text);
     let (reads, text) = first_word(rest);
-    let chunk = number(chunk)?;
+    let chunk = parsed::<u64>(chunk)?;
     let reads = numbers(alloc, reads)?;
     Ok(source(alloc, chunk, reads, text)?)
 }
@@ -129,7 +128,7 @@ pub fn send_case<R: Wait>(
     text: &str,
 ) -> Result<String, CaseError> {
     let (turns, rest) = first_word(text);
-    let turns = count(turns)?;
+    let turns = parsed::<u32>(turns)?;
     let source = source_of(alloc, rest)?;
     let ticks = Ticks { now: 7, trip: None };
     send_body(rt, alloc, setting, ticks, turns, source)
@@ -145,8 +144,8 @@ pub fn cut_case<R: Wait>(
     let (now, rest) = first_word(text);
     let (trip, rest) = first_word(rest);
     let ticks = Ticks {
-        now: number(now)?,
-        trip: Some(number(trip)?),
+        now: parsed::<u64>(now)?,
+        trip: Some(parsed::<u64>(trip)?),
     };
     let source = source_of(alloc, rest)?;
     send_body(rt, alloc, setting, ticks, 1, source)

@@ -1,7 +1,7 @@
 //! What earlier lines have said.
 use crate::act::{Attached, read_attached};
-use crate::error::CaseError;
-use crate::words::{count, first_word, numbers, unescaped};
+use crate::words::unescaped;
+use cases::{CaseError, first_word, numbers, parsed};
 use std::alloc::{AllocError, Global};
 
 /// Two texts, such as a header's name and value.
@@ -19,7 +19,8 @@ pub struct Place {
     pub waits: u32,
 }
 
-/// The routes of the application and what is attached to it, the header of every request, and which sends of a link and which polls of a listener fail.
+/// The routes of the application and what is attached to it, the header of every request, and which sends of a link and
+/// which polls of a listener fail.
 #[derive(Drop)]
 pub struct Setting {
     pub routes: Vec<Place>,
@@ -58,7 +59,7 @@ fn split_pair(alloc: Global, text: &str, separator: &str) -> Result<Pair, CaseEr
 /// What stands before the first `*` of a word, and the number behind it, or 0 where there is none.
 fn split_waits(word: &str) -> Result<(&str, u32), CaseError> {
     match word.split_once('*') {
-        Some((word, waits)) => Ok((word, count(waits)?)),
+        Some((word, waits)) => Ok((word, parsed::<u32>(waits)?)),
         None => Ok((word, 0)),
     }
 }

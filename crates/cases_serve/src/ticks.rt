@@ -46,6 +46,13 @@ impl Gates for Ticks {
         }
     }
 
+    fn trip(&self) -> Option<(u64, u64)> {
+        match self.trip {
+            Some(at) => Some((WORD, at)),
+            None => None,
+        }
+    }
+
     ghost stays = { ticks_same };
 
     ghost goes_on = { λ f g h keeps. ticks_then f g h };

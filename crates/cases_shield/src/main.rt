@@ -23,7 +23,8 @@
 //! `expect_ct ReportAndEnforce SECONDS URI`, and `permission RULES`.
 //!
 //! RULES begin with `default`, `allowed FEATURE LIST` or `blocked FEATURE`, and go on with ` | allow FEATURE LIST` or
-//! ` | block FEATURE`. A LIST has `*`, `self` and URIs, parted by blanks. Where an origin of a list has no host, the answer is `refused`.
+//! ` | block FEATURE`. A LIST has `*`, `self` and URIs, parted by blanks. Where an origin of a list has no host, the
+//! answer is `refused`.
 #![tactic(auto)]
 
 mod answer;

@@ -3,12 +3,14 @@
 //! to the arrow. Empty lines and those that begin with `#` are headings, and are written as they are. An answer is the same
 //! under every schedule of the threads.
 //!
-//! | Line | Answer |
-//! |---|---|
-//! | `turns OTHERS TURNS` | a first pass and so many others each write in so many turns that they begin something, and then that they have ended it, the others in threads of their own: how many entries there are, how many of each pass, and whether the first pass has seen a front of them that has all of its own |
-//! | `desk LOOKS` | a struct of generic code owns an empty diary's lock and its first pass, which takes the turn and gives it so many times: how many entries there are when it is closed |
-//! | `threads WORD WORD` | one thread waits at a wire, which another trips with the first word and then with the second: what each saw, and what a third handle has seen before and after it notifies with the second |
-//! | `wire STEP \| STEP ..` | the answers of two handles of one wire |
+//! - `turns OTHERS TURNS`: a first pass and so many others each write in so many turns that they begin something, and
+//!   then that they have ended it, the others in threads of their own: how many entries there are, how many of each
+//!   pass, and whether the first pass has seen a front of them that has all of its own
+//! - `desk LOOKS`: a struct of generic code owns an empty diary's lock and its first pass, which takes the turn and
+//!   gives it so many times: how many entries there are when it is closed
+//! - `threads WORD WORD`: one thread waits at a wire, which another trips with the first word and then with the second:
+//!   what each saw, and what a third handle has seen before and after it notifies with the second
+//! - `wire STEP | STEP ..`: the answers of two handles of one wire
 //!
 //! A step at a wire is `first` or `other` with `seen`, `tripped`, `poll`, or `notify WORD`, which answers nothing; or
 //! `rejoin`: the first takes the other in, and another is split off. A word is a number above 0. Any other line answers

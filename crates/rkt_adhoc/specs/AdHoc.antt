@@ -7,7 +7,8 @@ abbrev pub request_kind : Kind
 request_kind = record { ignite = false; liftoff = false; request = true; response = false; shutdown = false; singleton = false }
 
 abbrev pub response_kind : Kind
-response_kind = record { ignite = false; liftoff = false; request = false; response = true; shutdown = false; singleton = false }
+response_kind =
+    record { ignite = false; liftoff = false; request = false; response = true; shutdown = false; singleton = false }
 
 abbrev pub ignite_kind : Kind
 ignite_kind = record { ignite = true; liftoff = false; request = false; response = false; shutdown = false; singleton = false }
@@ -16,4 +17,5 @@ abbrev pub liftoff_kind : Kind
 liftoff_kind = record { ignite = false; liftoff = true; request = false; response = false; shutdown = false; singleton = false }
 
 abbrev pub shutdown_kind : Kind
-shutdown_kind = record { ignite = false; liftoff = false; request = false; response = false; shutdown = true; singleton = false }
+shutdown_kind =
+    record { ignite = false; liftoff = false; request = false; response = false; shutdown = true; singleton = false }

@@ -12,19 +12,29 @@ use Rattle.rkt_adhoc.specs.Changes.{made_once}
 -- fairings
 
 -- one that changes a builder
-abbrev pub trying_building : {H K N V F : Type 0} → (F → SeenBuilding H K N V F → Result (Unit {0}) (Unit {0}) → F → SeenBuilding H K N V F → Type 0)
+abbrev pub trying_building : {H K N V F : Type 0}
+    → (F → SeenBuilding H K N V F → Result (Unit {0}) (Unit {0}) → F → SeenBuilding H K N V F → Type 0)
     → Calling (Unit {0}) (Unit {0}) (IgniteAt H K N V F) (Result (Unit {0}) (Unit {0})) Bool
-trying_building may = made_once (λ before after. ⊤) (λ callback handed before answer after. may before.fairing before.building answer after.fairing after.building)
+trying_building may =
+    made_once (λ before after. ⊤)
+    (λ callback handed before answer after. may before.fairing before.building answer after.fairing after.building)
 
 -- one that is called at liftoff: the handle stays one of its wire
-abbrev pub lifting : {H K N V F : Type 0} → (F → SeenView H K N V → Handle → F → Handle → Type 0) → Calling (Unit {0}) (SeenView H K N V) (LiftoffAt F) (Unit {0}) Bool
-lifting may = made_once (λ before after. HandsBack before.shutdown after.shutdown) (λ callback view before answer after. may before.fairing view before.shutdown after.fairing after.shutdown)
+abbrev pub lifting : {H K N V F : Type 0}
+    → (F → SeenView H K N V → Handle → F → Handle → Type 0)
+    → Calling (Unit {0}) (SeenView H K N V) (LiftoffAt F) (Unit {0}) Bool
+lifting may =
+    made_once (λ before after. HandsBack before.shutdown after.shutdown)
+    (λ callback view before answer after. may before.fairing view before.shutdown after.fairing after.shutdown)
 
 -- one that is called at a shutdown
-abbrev pub shutting : {H K N V F : Type 0} → (F → SeenView H K N V → Type 0) → Calling F (SeenView H K N V) (Unit {0}) (Unit {0}) (Unit {0})
+abbrev pub shutting : {H K N V F : Type 0}
+    → (F → SeenView H K N V → Type 0)
+    → Calling F (SeenView H K N V) (Unit {0}) (Unit {0}) (Unit {0})
 shutting may = at_once (λ fairing view task. ⊤) (λ fairing view before answer after. may fairing view)
 
-pub lifting_keeps : {H K N V F : Type 0} (may : F → SeenView H K N V → Handle → F → Handle → Type 0) → KeepsLiftoff (lifting may)
+pub lifting_keeps : {H K N V F : Type 0} (may : F → SeenView H K N V → Handle → F → Handle → Type 0)
+    → KeepsLiftoff (lifting may)
 lifting_keeps may = record {
   done = λ view before after gates answer is. is.1;
   begun = λ view task before now gates n begun. begun.1;
@@ -33,8 +43,12 @@ lifting_keeps may = record {
 -- A change that is made once was made, and is not there any more; where it was not there, nothing is changed. C is the type of
 -- the change, X that of what it changes.
 abbrev pub once : {C X : Type 0} → (C → X → C → X → Type 0) → Option C → X → Option C → X → Type 0
-once {C} may change before left after = (left ≡ None) × MatchOption change (after ≡ before) (λ one. (made : C) × may one before made after)
+once {C} may change before left after =
+    (left ≡ None) × MatchOption change (after ≡ before) (λ one. (made : C) × may one before made after)
 
 -- the same of a change that answers: where it was not there, the answer is Ok
-abbrev pub tried_once : {C X E : Type 0} → (C → X → Result (Unit {0}) E → C → X → Type 0) → Option C → X → Result (Unit {0}) E → Option C → X → Type 0
-tried_once {C} may change before answer left after = (left ≡ None) × MatchOption change ((answer ≡ Ok tt) × (after ≡ before)) (λ one. (made : C) × may one before answer made after)
+abbrev pub tried_once : {C X E : Type 0} → (C → X → Result (Unit {0}) E → C → X → Type 0) → Option C → X → Result (Unit {0}) E
+    → Option C → X → Type 0
+tried_once {C} may change before answer left after =
+    (left ≡ None)
+    × MatchOption change ((answer ≡ Ok tt) × (after ≡ before)) (λ one. (made : C) × may one before answer made after)

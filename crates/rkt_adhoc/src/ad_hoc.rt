@@ -99,7 +99,9 @@ impl<C> OnRequest<C> {
     ) -> Step<()>
     where
         C: ChangesRequest<A>,
-        ensures changes { StepsTo result (λ _. C.may self.now.change (record { request = request.old; body = body.old; kept = ctx.old.kept }) (record { request = request.new; body = body.new; kept = ctx.new.kept })) ⊤ }
+        ensures changes { StepsTo result
+            (λ _. C.may self.now.change (record { request = request.old; body = body.old; kept = ctx.old.kept })
+            (record { request = request.new; body = body.new; kept = ctx.new.kept })) ⊤ }
         // For want of memory too the request lends what it lent, and what the context leaves has grown.
         ensures config { request.new.config ≡ request.old.config }
         ensures managed { request.new.managed ≡ request.old.managed }
@@ -176,7 +178,9 @@ impl<C> OnResponse<C> {
     ) -> Step<()>
     where
         C: ChangesResponse<A>,
-        ensures changes { StepsTo result (λ _. C.may self.now.change request.now (record { response = response.old; kept = ctx.old.kept }) (record { response = response.new; kept = ctx.new.kept })) ⊤ }
+        ensures changes { StepsTo result
+            (λ _. C.may self.now.change request.now (record { response = response.old; kept = ctx.old.kept })
+            (record { response = response.new; kept = ctx.new.kept })) ⊤ }
         ensures grows { MayGrow ctx.old ctx.new }
     {
         match self.change.on_response(alloc, request, response, ctx) {

@@ -122,7 +122,8 @@ impl<C> OnIgnite<C> {
         ensures key { self.new.key ≡ self.old.key }
         // For want of memory too it is not made again.
         ensures taken { self.new.change ≡ None }
-        ensures changes { StepsTo result (λ answer. once C.may self.old.change building.old self.new.change building.new × (answer ≡ Ok tt)) ⊤ }
+        ensures changes { StepsTo result
+            (λ answer. once C.may self.old.change building.old self.new.change building.new × (answer ≡ Ok tt)) ⊤ }
     {
         match change_once(alloc, &mut self.change, building) {
             Ok(()) => Step::Done(Ok(())),
@@ -213,7 +214,8 @@ impl<C> TryOnIgnite<C> {
         ensures key { self.new.key ≡ self.old.key }
         // For want of memory too it is not made again.
         ensures taken { self.new.change ≡ None }
-        ensures changes { StepsTo result (λ answer. tried_once C.may self.old.change building.old answer self.new.change building.new) ⊤ }
+        ensures changes { StepsTo result
+            (λ answer. tried_once C.may self.old.change building.old answer self.new.change building.new) ⊤ }
     {
         match try_once(alloc, &mut self.change, building) {
             Ok(answer) => Step::Done(answer),
@@ -306,7 +308,8 @@ impl<C> OnLiftoff<C> {
         ensures key { self.new.key ≡ self.old.key }
         // For want of memory too it is not made again.
         ensures taken { self.new.change ≡ None }
-        ensures changes { StepsTo result (λ _. once (λ change. C.may change view.now) self.old.change shutdown.old self.new.change shutdown.new) ⊤ }
+        ensures changes { StepsTo result
+            (λ _. once (λ change. C.may change view.now) self.old.change shutdown.old self.new.change shutdown.new) ⊤ }
         ensures hands_back { HandsBack shutdown.old shutdown.new }
     {
         match see_once(alloc, &mut self.change, view, shutdown) {

@@ -25,7 +25,8 @@ pub trait ChangesRequest<A: HasBody> {
         body: &mut A::Body,
         ctx: &mut Ctx<A>,
     ) -> Result<(), NoMemory>
-        ensures changes { OnOk result (may self.now (record { request = request.old; body = body.old; kept = ctx.old.kept }) (record { request = request.new; body = body.new; kept = ctx.new.kept })) }
+        ensures changes { OnOk result (may self.now (record { request = request.old; body = body.old; kept = ctx.old.kept })
+            (record { request = request.new; body = body.new; kept = ctx.new.kept })) }
         ensures config { request.new.config ≡ request.old.config }
         ensures managed { request.new.managed ≡ request.old.managed }
         ensures grows { MayGrow ctx.old ctx.new };
@@ -34,7 +35,8 @@ pub trait ChangesRequest<A: HasBody> {
 /// What changes responses, of a type that says nothing of itself: then it may change them to any others.
 pub trait ChangesResponse<A: Types> {
     /// What it may leave of what it is lent beside a request.
-    ghost may: { Self → Seen A.Value → ResponseAt A.Stream A.Cached → ResponseAt A.Stream A.Cached → Type 0 } = { λ _ _ _ _. ⊤ };
+    ghost may: { Self → Seen A.Value → ResponseAt A.Stream A.Cached → ResponseAt A.Stream A.Cached
+        → Type 0 } = { λ _ _ _ _. ⊤ };
 
     /// The change. What the context leaves has grown, for want of memory too.
     fn on_response(
@@ -44,13 +46,14 @@ pub trait ChangesResponse<A: Types> {
         response: &mut Response<A::Stream>,
         ctx: &mut Ctx<A>,
     ) -> Result<(), NoMemory>
-        ensures changes { OnOk result (may self.now request.now (record { response = response.old; kept = ctx.old.kept }) (record { response = response.new; kept = ctx.new.kept })) }
+        ensures changes { OnOk result (may self.now request.now (record { response = response.old; kept = ctx.old.kept })
+            (record { response = response.new; kept = ctx.new.kept })) }
         ensures grows { MayGrow ctx.old ctx.new };
 }
 
-/// Stands for being called as `ChangesRequest` or `ChangesResponse` says: it is done at its first poll, or found no memory then,
-/// and finds none later. At ignition, at liftoff and at a shutdown it stands for `TriesBuilding`, `SeesLiftoff` and
-/// `SeesShutdown`.
+/// Stands for being called as `ChangesRequest` or `ChangesResponse` says: it is done at its first poll, or found no
+/// memory then, and finds none later. At ignition, at liftoff and at a shutdown it stands for `TriesBuilding`,
+/// `SeesLiftoff` and `SeesShutdown`.
 #[derive(Clone, Copy, Debug, PartialEq, Eq, Drop)]
 pub struct AtOnce;
 

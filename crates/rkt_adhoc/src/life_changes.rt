@@ -16,7 +16,8 @@ use std::alloc::Global;
 /// other. `G` is the type of the builder's fairings.
 pub trait ChangesBuilding<A: Parts, G> {
     /// What it may leave of itself and of the builder.
-    ghost may: { Self → SeenBuilding A.Handler A.Catch A.Sentinel A.Value G → Self → SeenBuilding A.Handler A.Catch A.Sentinel A.Value G → Type 0 } = { λ _ _ _ _. ⊤ };
+    ghost may: { Self → SeenBuilding A.Handler A.Catch A.Sentinel A.Value G → Self
+        → SeenBuilding A.Handler A.Catch A.Sentinel A.Value G → Type 0 } = { λ _ _ _ _. ⊤ };
 
     /// The change.
     fn on_ignite(&mut self, alloc: Global, building: &mut Building<A, G>) -> Result<(), NoMemory>
@@ -26,7 +27,8 @@ pub trait ChangesBuilding<A: Parts, G> {
 /// The same, of what may refuse: then the rocket does not ignite.
 pub trait TriesBuilding<A: Parts, G> {
     /// What it may answer, and leave of itself and of the builder.
-    ghost may: { Self → SeenBuilding A.Handler A.Catch A.Sentinel A.Value G → Result (Unit {0}) (Unit {0}) → Self → SeenBuilding A.Handler A.Catch A.Sentinel A.Value G → Type 0 } = { λ _ _ _ _ _. ⊤ };
+    ghost may: { Self → SeenBuilding A.Handler A.Catch A.Sentinel A.Value G → Result (Unit {0}) (Unit {0}) → Self
+        → SeenBuilding A.Handler A.Catch A.Sentinel A.Value G → Type 0 } = { λ _ _ _ _ _. ⊤ };
 
     /// The change. It is refused by an Err in Ok.
     fn try_on_ignite(

@@ -1,5 +1,5 @@
 -- What a value that answers leaves.
-use Rattle.std.proofs.Common.{◌≡◌, ◌+◌, ◌++◌, ◌∷◌, [], ℕ, List, Option, Some, None, Result, Ok, Err, ⊎_elim, ap, refl, subst, sym, ◌∙◌}
+use Rattle.std.proofs.Common.{◌≡◌, ◌+◌, ◌++◌, ◌∷◌, [], ℕ, List, Option, Some, None, Result, Ok, Err, ⊎_elim, ap, arith, length, length-append, refl, subst, sym, ◌∙◌}
 use Rattle.std.specs.Prelude.{⊤}
 use Rattle.std.specs.Result.{IfOk, OnErr, result_map_both}
 use Rattle.rkt_base.specs.declared.want.Want.{Want}
@@ -136,12 +136,14 @@ module _ {Self V B C R X : Type 0} (Made : Self → Seen V → Lent C → Outcom
 -- a reading that is under way
 pub reading_begun : {V B G E T C : Type 0} (D : Guarding V B G E T) (handed : Handed V B) (before now : Kept C) (gates : List Gate) (n left : ℕ) (task : Option T) (reading : T)
     → IsUnderWay D handed task left before now gates n → task ≡ Some reading → D.begun handed.request handed.body gates n reading × (now ≡ before) × (n + left ≡ most_pendings)
+    × (n ≡ length gates)
 reading_begun D handed before now gates n left task reading begun is = rw is at begun
 
 -- a poll of a handler that reads the body
 module _ {Self V B G E T C R X : Type 0} (D : Guarding V B G E T) (Made : Self → Seen V → G → Lent C → X → Lent C → Type 0) (May : X → Seen V → Lent C → Answer R → Lent C → Type 0) (handler : Self)
     (handed : Handed V B) (before : Kept C) (gates : List Gate) (n : ℕ) (old new : Taking T) (was now : Lent C) (reading : T) where
   underway : (taking D Made May).begun handler handed old before was.kept gates n → old.reading ≡ Some reading → D.begun handed.request handed.body gates n reading × (was.kept ≡ before) × (n + old.left ≡ most_pendings)
+      × (n ≡ length gates)
   underway begun is = rw is at begun
 
   -- once its guard has answered, by the step of that answer
@@ -160,7 +162,9 @@ module _ {Self V B G E T C R X : Type 0} (D : Guarding V B G E T) (Made : Self �
         answered = made_under (λ from left. IsAnsweredAs (Made handler handed.request) (λ value. May value handed.request) from outcome reply left) before was now same more steps;
         grows = grown_on before was now (grows_same before was.kept same) more;
       }
-  data_polled outcome Starved begun is over may steps more = rw over (grown_on before was now (grows_same before was.kept (underway begun is).1) more)
+  data_polled outcome Starved begun is over may steps more =
+      let was_underway = underway begun is in
+      rw over (grown_on before was now (grows_same before was.kept was_underway.1) more, omega (arith, was_underway.3, length-append gates (was.gate ∷ [])))
   data_polled outcome Pending begun is over may steps more = absurd steps
   data_polled outcome Fault begun is over may steps more = absurd steps
 

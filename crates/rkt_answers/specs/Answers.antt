@@ -55,7 +55,8 @@ answering Made May = in_one (λ handler handed held. ⊤)
     MadeBy (λ answer. Responds (Made handler handed.request) (λ value. May value handed.request) before answer after) reply)
 
 -- what an outcome replies: what its value's responder does, its status, or the body, left with its status
-abbrev pub RepliesAs : {C R B X : Type 0} → (X → Lent C → Answer R → Lent C → Type 0) → B → Outcome X Status Status → Lent C → Reply R B → Lent C → Type 0
+abbrev pub RepliesAs : {C R B X : Type 0} → (X → Lent C → Answer R → Lent C → Type 0) → B → Outcome X Status Status → Lent C
+    → Reply R B → Lent C → Type 0
 RepliesAs May body (Success value) between reply left = MadeBy (λ answer. May value between answer left) reply
 RepliesAs May body (Error status) between reply left = (reply ≡ Error status) × (left ≡ between)
 RepliesAs May body (Forward status) between reply left = (reply ≡ Forward (body, status)) × (left ≡ between)
@@ -82,11 +83,13 @@ answer_step (Err (want.Refused status)) = Done (Err status)
 answer_step (Err want.NoMemory) = Starved
 
 -- that they keep their laws
-no_forward : {R B : Type 0} (whole : B → Option (List ℕ)) (body : B) (answer : Answer R) → GivesBack whole body (reply_of answer)
+no_forward : {R B : Type 0} (whole : B → Option (List ℕ)) (body : B) (answer : Answer R)
+    → GivesBack whole body (reply_of answer)
 no_forward whole body (Ok response) = tt
 no_forward whole body (Err status) = tt
 
-pub answering_keeps : {Self V B C R X : Type 0} (whole : B → Option (List ℕ)) (Made : Self → Seen V → Lent C → X → Lent C → Type 0) (May : X → Seen V → Lent C → Answer R → Lent C → Type 0)
+pub answering_keeps : {Self V B C R X : Type 0} (whole : B → Option (List ℕ))
+    (Made : Self → Seen V → Lent C → X → Lent C → Type 0) (May : X → Seen V → Lent C → Answer R → Lent C → Type 0)
     → KeepsHandler whole (answering Made May)
 answering_keeps whole Made May = record {
   keeps = record {
@@ -96,19 +99,25 @@ answering_keeps whole Made May = record {
   forwards = λ handler handed before after gates reply is. rw is.2.2 (no_forward whole handed.body is.2.0);
 }
 
-pub catching_keeps : {Self V C R X : Type 0} (Made : Self → Refused V → Lent C → X → Lent C → Type 0) (May : X → Seen V → Lent C → Answer R → Lent C → Type 0) → Keeps (catching Made May)
+pub catching_keeps : {Self V C R X : Type 0} (Made : Self → Refused V → Lent C → X → Lent C → Type 0)
+    (May : X → Seen V → Lent C → Answer R → Lent C → Type 0)
+    → Keeps (catching Made May)
 catching_keeps Made May = record {
   done = λ catcher refused before after gates answer is. is.3;
   begun = λ catcher refused task before now gates n begun. begun.1;
 }
 
-replies_back : {C R B X : Type 0} (whole : B → Option (List ℕ)) (May : X → Lent C → Answer R → Lent C → Type 0) (body : B) (outcome : Outcome X Status Status) (between : Lent C) (reply : Reply R B) (left : Lent C)
-    → RepliesAs May body outcome between reply left → GivesBack whole body reply
+replies_back : {C R B X : Type 0} (whole : B → Option (List ℕ)) (May : X → Lent C → Answer R → Lent C → Type 0) (body : B)
+    (outcome : Outcome X Status Status) (between : Lent C) (reply : Reply R B) (left : Lent C)
+    → RepliesAs May body outcome between reply left
+    → GivesBack whole body reply
 replies_back whole May body (Success value) between reply left is = rw is.2 (no_forward whole body is.0)
 replies_back whole May body (Error status) between reply left is = rw is.0 tt
 replies_back whole May body (Forward status) between reply left is = rw is.0 refl
 
-pub attempting_keeps : {Self V B C R X : Type 0} (whole : B → Option (List ℕ)) (Made : Self → Seen V → Lent C → Outcome X Status Status → Lent C → Type 0) (May : X → Seen V → Lent C → Answer R → Lent C → Type 0)
+pub attempting_keeps : {Self V B C R X : Type 0} (whole : B → Option (List ℕ))
+    (Made : Self → Seen V → Lent C → Outcome X Status Status → Lent C → Type 0)
+    (May : X → Seen V → Lent C → Answer R → Lent C → Type 0)
     → KeepsHandler whole (attempting Made May)
 attempting_keeps whole Made May = record {
   keeps = record {

@@ -1,5 +1,5 @@
 -- A handler that an author writes as one answer to what a body is read as.
-use Rattle.std.specs.Prelude.{◌≡◌, ◌+◌, ◌<◌, ◌++◌, ◌∷◌, [], ℕ, List, Option, Some, None, IfSome, Ok, Err, min}
+use Rattle.std.specs.Prelude.{◌≡◌, ◌+◌, ◌<◌, ◌++◌, ◌∷◌, [], ℕ, List, Option, Some, None, IfSome, Ok, Err, length, min}
 use Rattle.std.specs.Option.{option_map_or}
 use Rattle.rkt_http.specs.declared.outcome.Outcome.TheVariants.{Success, Error, Forward}
 use Rattle.rkt_request.specs.Guarding.{Guarded, Guarding}
@@ -21,9 +21,11 @@ use Rattle.rkt_answers.specs.declared.answers_data.Taking.{Taking}
 
 -- what the outcome of the guard is answered with: what a value's responder does, or the status with which the body was refused
 -- or left to another route
-abbrev pub IsAnsweredAs : {C R B G E X : Type 0} → (G → Lent C → X → Lent C → Type 0) → (X → Lent C → Answer R → Lent C → Type 0)
+abbrev pub IsAnsweredAs : {C R B G E X : Type 0} → (G → Lent C → X → Lent C → Type 0)
+    → (X → Lent C → Answer R → Lent C → Type 0)
     → Lent C → Guarded B G E → Reply R B → Lent C → Type 0
-IsAnsweredAs Made May before (Success taken) reply after = MadeBy (λ answer. Responds (Made taken) May before answer after) reply
+IsAnsweredAs Made May before (Success taken) reply after =
+    MadeBy (λ answer. Responds (Made taken) May before answer after) reply
 IsAnsweredAs Made May before (Error refused) reply after = (reply ≡ Error refused.0) × (after ≡ before)
 IsAnsweredAs Made May before (Forward left) reply after = (reply ≡ Error left.1) × (after ≡ before)
 
@@ -47,11 +49,12 @@ IsWaiting reading old Fault new = (old.left ≡ 0) × (new ≡ old)
 IsWaiting reading old Starved new = ⊥
 
 module _ {V B G E T : Type 0} (D : Guarding V B G E T) where
-  -- The reading was begun for what is handed, polled under these Gates, and nothing is changed; or it is over, and what is lent
-  -- has grown.
+  -- The reading was begun for what is handed and polled under these Gates, each time Pending, and nothing is changed; or it is
+  -- over, since a poll that was not Pending, and what is lent has grown.
   abbrev pub IsUnderWay : {C : Type 0} → Handed V B → Option T → ℕ → Kept C → Kept C → List Gate → ℕ → Type 0
-  IsUnderWay handed (Some reading) left before now gates n = D.begun handed.request handed.body gates n reading × (now ≡ before) × (n + left ≡ most_pendings)
-  IsUnderWay handed None left before now gates n = Grows before now
+  IsUnderWay handed (Some reading) left before now gates n = D.begun handed.request handed.body gates n reading × (now ≡ before)
+      × (n + left ≡ most_pendings) × (n ≡ length gates)
+  IsUnderWay handed None left before now gates n = Grows before now × (n < length gates)
 
   -- the body was read, polled under these Gates, and answered so, under the last of them
   pub record Took {C R X : Type 0} (Made : G → Lent C → X → Lent C → Type 0) (May : X → Lent C → Answer R → Lent C → Type 0)
@@ -75,25 +78,36 @@ module _ {V B G E T : Type 0} (D : Guarding V B G E T) where
     may_fault = λ handler handed before. MayFault (D.pendings handed.request handed.body);
   }
 
-  under_way_grows : {C : Type 0} (handed : Handed V B) (reading : Option T) (left : ℕ) (before now : Kept C) (gates : List Gate) (n : ℕ) → IsUnderWay handed reading left before now gates n → Grows before now
+  under_way_grows : {C : Type 0} (handed : Handed V B) (reading : Option T) (left : ℕ) (before now : Kept C)
+      (gates : List Gate) (n : ℕ)
+      → IsUnderWay handed reading left before now gates n
+      → Grows before now
   under_way_grows handed (Some reading) left before now gates n is = grows_same before now is.1
-  under_way_grows handed None left before now gates n is = is
+  under_way_grows handed None left before now gates n is = is.0
 
-  no_forward : {R : Type 0} (whole : B → Option (List ℕ)) (body : B) (answer : Answer R) → GivesBack whole body (reply_of answer)
+  no_forward : {R : Type 0} (whole : B → Option (List ℕ)) (body : B) (answer : Answer R)
+      → GivesBack whole body (reply_of answer)
   no_forward whole body (Ok response) = tt
   no_forward whole body (Err status) = tt
 
-  answered_back : {C R X : Type 0} (whole : B → Option (List ℕ)) (Made : G → Lent C → X → Lent C → Type 0) (May : X → Lent C → Answer R → Lent C → Type 0) (body : B) (before : Lent C) (outcome : Guarded B G E) (reply : Reply R B) (after : Lent C)
-      → IsAnsweredAs Made May before outcome reply after → GivesBack whole body reply
+  answered_back : {C R X : Type 0} (whole : B → Option (List ℕ)) (Made : G → Lent C → X → Lent C → Type 0)
+      (May : X → Lent C → Answer R → Lent C → Type 0) (body : B) (before : Lent C) (outcome : Guarded B G E)
+      (reply : Reply R B) (after : Lent C)
+      → IsAnsweredAs Made May before outcome reply after
+      → GivesBack whole body reply
   answered_back whole Made May body before (Success taken) reply after is = rw is.2 (no_forward whole body is.0)
   answered_back whole Made May body before (Error refused) reply after is = rw is.0 tt
   answered_back whole Made May body before (Forward left) reply after is = rw is.0 tt
 
-  pub taking_keeps : {Self C R X : Type 0} (whole : B → Option (List ℕ)) (Made : Self → Seen V → G → Lent C → X → Lent C → Type 0) (May : X → Seen V → Lent C → Answer R → Lent C → Type 0) → KeepsHandler whole (taking Made May)
+  pub taking_keeps : {Self C R X : Type 0} (whole : B → Option (List ℕ))
+      (Made : Self → Seen V → G → Lent C → X → Lent C → Type 0) (May : X → Seen V → Lent C → Answer R → Lent C → Type 0)
+      → KeepsHandler whole (taking Made May)
   taking_keeps whole Made May = record {
     keeps = record {
       done = λ handler handed before after gates reply is. is.grows;
-      begun = λ handler handed task before now gates n begun. under_way_grows handed task.reading task.left before now gates n begun;
+      begun = λ handler handed task before now gates n begun.
+          under_way_grows handed task.reading task.left before now gates n begun;
     };
-    forwards = λ handler handed before after gates reply is. answered_back whole _ _ handed.body (lent_under is.last before) is.outcome reply (lent_under is.last after) is.answered;
+    forwards = λ handler handed before after gates reply is.
+        answered_back whole _ _ handed.body (lent_under is.last before) is.outcome reply (lent_under is.last after) is.answered;
   }

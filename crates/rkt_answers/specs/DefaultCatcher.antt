@@ -11,9 +11,12 @@ use Rattle.rkt_router.specs.Page.{IsDefaultPage}
 use Rattle.rkt_answers.specs.declared.default_catcher.DefaultCatcher.{DefaultCatcher}
 
 -- the default page of the status, with nothing changed
-abbrev pub default_calling : {V C R : Type 0} → Calling DefaultCatcher (Refused V) (Kept C) (Result (ResponseOf R) Status) Status
-default_calling {R = R} = at_once (λ catcher refused task. task ≡ refused.status)
-    (λ catcher refused before answer after. (page : ResponseOf R) × IsDefaultPage refused.status.code refused.request page × (answer ≡ Ok page) × (after ≡ before))
+abbrev pub default_calling : {V C R : Type 0}
+    → Calling DefaultCatcher (Refused V) (Kept C) (Result (ResponseOf R) Status) Status
+default_calling {R = R} =
+    at_once (λ catcher refused task. task ≡ refused.status)
+    (λ catcher refused before answer after.
+    (page : ResponseOf R) × IsDefaultPage refused.status.code refused.request page × (answer ≡ Ok page) × (after ≡ before))
 
 pub default_keeps : {V C R : Type 0} → Keeps (default_calling {V = V} {C = C} {R = R})
 default_keeps = at_once_keeps _ _ (λ catcher refused before after answer is. grows_same before after is.3)

@@ -52,7 +52,8 @@ pub trait AnswersIf<T: Types> {
     type Value: Responder<T>;
 
     /// What it may answer to a request, and what it leaves of the context that it is lent.
-    ghost may: { Self → Seen T.Value → Lent T.Cached → Outcome Self.Value Status Status → Lent T.Cached → Type 0 } = { λ _ _ _ _ _. ⊤ };
+    ghost may: { Self → Seen T.Value → Lent T.Cached → Outcome Self.Value Status Status → Lent T.Cached
+        → Type 0 } = { λ _ _ _ _ _. ⊤ };
 
     /// The value, or why there is none.
     fn answer(
@@ -97,7 +98,8 @@ pub trait CatchesWith<T: Types> {
         request: &Request<'_, T>,
         ctx: &mut Ctx<T>,
     ) -> Result<Self::Value, NoMemory>
-        ensures answers { IfOk result (λ value. may self.now (record { status = status; request = request.now }) ctx.old value ctx.new) }
+        ensures answers { IfOk result (λ value.
+            may self.now (record { status = status; request = request.now }) ctx.old value ctx.new) }
         ensures grows { MayGrow ctx.old ctx.new };
 }
 
@@ -132,7 +134,8 @@ impl<T: Types, A: Answers<T>> Handler<T> for Answering<A> {
     type Task = Option<()>;
 
     // Its value leaves the context as it was.
-    ghost calling = { answering (λ handler request before value after. A.may handler.0 request value × (after ≡ before)) A.Value.may };
+    ghost calling = { answering (λ handler request before value after. A.may handler.0 request value × (after ≡ before))
+        A.Value.may };
 
     fn start(&self, _request: &Request<'_, T>, _body: Body0<T>) -> Option<()> {
         Some(())
@@ -202,7 +205,8 @@ fn outcome_step<T: Types, R: Responder<T>>(
     outcome: Outcome<R, Status, Status>,
     body: Body0<T>,
 ) -> Step<RouteOutcome<T>>
-    ensures steps { StepsTo result (λ reply. RepliesAs (λ value. R.may value request.now) body outcome ctx.old reply ctx.new) ⊤ }
+    ensures steps { StepsTo result
+        (λ reply. RepliesAs (λ value. R.may value request.now) body outcome ctx.old reply ctx.new) ⊤ }
     ensures grows { MayGrow ctx.old ctx.new }
 {
     match outcome {
@@ -254,7 +258,8 @@ impl<T: Types, A: Catches<T>> CatchHandler<T> for Answering<A> {
     type Task = Option<Status>;
 
     // Its value leaves the context as it was.
-    ghost calling = { catching (λ catcher refused before value after. A.may catcher.0 refused value × (after ≡ before)) A.Value.may };
+    ghost calling = { catching (λ catcher refused before value after. A.may catcher.0 refused value × (after ≡ before))
+        A.Value.may };
 
     fn start(&self, status: Status, _request: &Request<'_, T>) -> Option<Status> {
         Some(status)

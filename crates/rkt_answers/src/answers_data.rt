@@ -59,7 +59,9 @@ fn data_step<T: Types, A: AnswersData<T>>(
     ctx: &mut Ctx<T>,
     outcome: DataOutcome<A::Data, <A::Data as FromData<T>>::Error, Body0<T>>,
 ) -> Step<RouteOutcome<T>>
-    ensures steps { StepsTo result (λ reply. IsAnsweredAs (A.may handler.now request.now) (λ value. A.Value.may value request.now) ctx.old outcome reply ctx.new) ⊤ }
+    ensures steps { StepsTo result
+        (λ reply.
+        IsAnsweredAs (A.may handler.now request.now) (λ value. A.Value.may value request.now) ctx.old outcome reply ctx.new) ⊤ }
     ensures grows { MayGrow ctx.old ctx.new }
 {
     match outcome {
@@ -77,8 +79,10 @@ fn value_step<T: Types, A: AnswersData<T>>(
     ctx: &mut Ctx<T>,
     taken: A::Data,
 ) -> Step<RouteOutcome<T>>
-    ensures steps { StepsTo result (λ reply. MadeBy (λ answer.
-        Responds (A.may handler.now request.now taken) (λ value. A.Value.may value request.now) ctx.old answer ctx.new) reply) ⊤ }
+    ensures steps { StepsTo result
+        (λ reply. MadeBy (λ answer.
+        Responds (A.may handler.now request.now taken) (λ value. A.Value.may value request.now) ctx.old answer ctx.new) reply)
+        ⊤ }
     ensures grows { MayGrow ctx.old ctx.new }
 {
     let Ok(value) = handler.answer(alloc, request, taken, ctx) else {

@@ -5,8 +5,8 @@ use rkt_request::{Ctx, Request, Types};
 use rkt_response::{Responder, ResponseResult};
 use std::alloc::Global;
 
-/// A text, which is answered as a `String` is. An application's `Answers` names it where it makes texts, since its bounds cannot
-/// be stated over a `String`.
+/// A text, which is answered as a `String` is. An application's `Answers` names it where it makes texts, since its
+/// bounds cannot be stated over a `String`.
 #[derive(Debug, Drop)]
 pub struct PlainText(pub String);
 
@@ -17,7 +17,8 @@ impl<T: Types> Responder<T> for PlainText {
     ghost use Rattle.rkt_request.specs.FromRequest.{Answers};
     ghost use Rattle.rkt_response.specs.Responder.{typed_bytes};
 
-    ghost may = { λ text _ before answer after. Answers answer (Ok (typed_bytes (known_text Plain) (string_bytes text.0))) before after };
+    ghost may = { λ text _ before answer after.
+        Answers answer (Ok (typed_bytes (known_text Plain) (string_bytes text.0))) before after };
 
     fn respond_to(
         self,

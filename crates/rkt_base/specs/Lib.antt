@@ -1,3 +1,4 @@
 pub mod Counts
 pub mod Poll
+pub mod Trail
 pub mod Want

@@ -177,6 +177,16 @@ module _ {C S K : Type 0} where
   none_found (Down calls ∷ es) none = none_found es none
   none_found (Close m ∷ es) none = none_found es none
 
+  -- where there is no Trip, none is found
+  pub no_trip : (es : List (EventOf C S K)) → list_any is_trip es ≡ false → trip_of es ≡ None
+  no_trip [] none = refl
+  no_trip (Trip w m ∷ es) none = absurd (cc none)
+  no_trip (Lift calls ∷ es) none = no_trip es none
+  no_trip (Admit n m b ∷ es) none = no_trip es none
+  no_trip (End n x m b ∷ es) none = no_trip es none
+  no_trip (Down calls ∷ es) none = no_trip es none
+  no_trip (Close m ∷ es) none = no_trip es none
+
   pub tripped_word : (es : List (EventOf C S K)) (found : Option (ℕ × ℕ)) → found ≡ trip_of es → IfSome found (λ trip. Ordered es → 0 < trip.0)
   tripped_word es None is = tt
   tripped_word es (Some trip) is = λ ordered. subst (λ (n : ℕ). 0 < n) (sym (ap word_of is)) (worded es ordered (found_trip es trip (sym is)))

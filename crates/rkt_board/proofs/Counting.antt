@@ -1,4 +1,4 @@
--- How the numbers of a book count its marks.
+-- How the numbers of a log count its records.
 use Rattle.std.proofs.Common.{inl, inr, ◌⊎◌, ⊎_elim, zero, suc, ◌≡◌, ◌≢◌, ◌<◌, ◌≤◌, ◌+◌, ◌-◌, ◌++◌, ◌==◌, ℕ, cond, Bool, true, false, ◌||◌, List, [], ◌∷◌, length, refl, ap, ◌∙◌, sym, subst, add-one, arith}
 use Rattle.std.proofs.lemmas.Grind.{common_steps}
 use Rattle.std.proofs.lemmas.Bool.Decides.{nat_tests}
@@ -10,12 +10,12 @@ use Rattle.rkt_board.proofs.Core.{any_by, given_below, below_given, ended_given,
 use Rattle.rkt_board.proofs.Pushes.{any_push, count_push, map_push, ended_same}
 use Rattle.rkt_board.specs.Board.{Counts}
 use Rattle.rkt_board.specs.Events.{is_trip, is_admit, is_down, is_close, admits, admits_by, admitted, ends, ended_below, Ordered}
-use Rattle.rkt_board.specs.Marks.{events}
-use Rattle.rkt_board.specs.Turns.{mark, admit_mark}
+use Rattle.rkt_board.specs.Records.{events}
+use Rattle.rkt_board.specs.Turns.{logged, admit_mark}
 use Rattle.rkt_board.specs.declared.history.EntryOf.{EntryOf}
 use Rattle.rkt_board.specs.declared.history.EventOf.{EventOf}
 use Rattle.rkt_board.specs.declared.history.EventOf.TheVariants.{Admit, End}
-use Rattle.rkt_board.specs.declared.mark.MarkOf.{MarkOf}
+use Rattle.rkt_board.specs.declared.log_record.RecordOf.{RecordOf}
 
 -- what is not true is false
 pub is_not : (t : Bool) {x : Bool} → x ≡ t → (x ≡ true → ⊥) → x ≡ false
@@ -104,12 +104,12 @@ module _ {C S K : Type 0} where
   no_end_yet : (n : ℕ) (es : List (EventOf C S K)) (k m by : ℕ) → ended_below n (es ++ Admit k m by ∷ []) ≡ ended_below n es
   no_end_yet n es k m by = ended_same n es (Admit k m by) (λ j. refl)
 
-  pub length_events : (ms : List (MarkOf C S K)) → length (events ms) ≡ length ms
+  pub length_events : (ms : List (RecordOf C S K)) → length (events ms) ≡ length ms
   length_events [] = refl
   length_events (m ∷ ms) = ap suc (length_events ms)
 
-  -- a mark that opens and ends nothing
-  pub counts_push : (ms : List (MarkOf C S K)) (m : MarkOf C S K) (gave opens : ℕ) (trip down closed trip' down' closed' : Bool) → Counts ms gave opens trip down closed
+  -- a logged that opens and ends nothing
+  pub counts_push : (ms : List (RecordOf C S K)) (m : RecordOf C S K) (gave opens : ℕ) (trip down closed trip' down' closed' : Bool) → Counts ms gave opens trip down closed
       → is_admit m.event ≡ false → ((k : ℕ) → ends k m.event ≡ false) → trip' ≡ (trip || is_trip m.event) → down' ≡ (down || is_down m.event) → closed' ≡ (closed || is_close m.event)
       → Counts (ms ++ m ∷ []) gave opens trip' down' closed'
   counts_push ms m gave opens trip down closed trip' down' closed' c other none t d l =
@@ -125,7 +125,7 @@ module _ {C S K : Type 0} where
       }
 
   -- where a number has no End yet, some are open
-  pub opens_some : (ms : List (MarkOf C S K)) (gave opens : ℕ) (trip down closed : Bool) (by number : ℕ) → Counts ms gave opens trip down closed → Ordered (events ms)
+  pub opens_some : (ms : List (RecordOf C S K)) (gave opens : ℕ) (trip down closed : Bool) (by number : ℕ) → Counts ms gave opens trip down closed → Ordered (events ms)
       → list_any (admits_by number by) (events ms) ≡ true → list_any (ends number) (events ms) ≡ false → 0 < opens
   opens_some ms gave opens trip down closed by number c ordered there none =
       let es = events ms in
@@ -133,12 +133,12 @@ module _ {C S K : Type 0} where
       positive opens (λ z. let x : ℕ = ended_below gave es in let h : x + opens ≡ gave = c.open_is in let f : x ≡ gave = omega (arith, h, z) in cc (ended_all gave es f number less, none))
 
   -- an End
-  pub counts_end : (ms : List (MarkOf C S K)) (gave opens : ℕ) (trip down closed : Bool) (by number moment : ℕ) (entry : EntryOf C S K) → Counts ms gave opens trip down closed → Ordered (events ms)
-      → list_any (admits_by number by) (events ms) ≡ true → list_any (ends number) (events ms) ≡ false → Counts (ms ++ mark by (End number entry moment by) ∷ []) gave (opens - 1) trip down closed
+  pub counts_end : (ms : List (RecordOf C S K)) (gave opens : ℕ) (trip down closed : Bool) (by number moment : ℕ) (entry : EntryOf C S K) → Counts ms gave opens trip down closed → Ordered (events ms)
+      → list_any (admits_by number by) (events ms) ≡ true → list_any (ends number) (events ms) ≡ false → Counts (ms ++ logged by (End number entry moment by) ∷ []) gave (opens - 1) trip down closed
   counts_end ms gave opens trip down closed by number moment entry c ordered there none =
       let es = events ms in
       let e : EventOf C S K = End number entry moment by in
-      let m : MarkOf C S K = mark by e in
+      let m : RecordOf C S K = logged by e in
       let now : events (ms ++ m ∷ []) ≡ es ++ e ∷ [] = map_push (λ m. m.event) ms m in
       let less : number < gave = subst (λ (n : ℕ). number < n) (sym c.gave_is) (given_below number es ordered (any_by number by es there)) in
       let more : ended_below gave (es ++ e ∷ []) ≡ ended_below gave es + 1 = ended_more gave es number e (same_number number) (λ j ne. other_number number j ne) less none in
@@ -152,12 +152,12 @@ module _ {C S K : Type 0} where
       }
 
   -- an Admit
-  pub counts_admit : (ms : List (MarkOf C S K)) (gave opens next : ℕ) (trip down closed : Bool) (by moment : ℕ) (copy : Snapshot K) → Counts ms gave opens trip down closed → Ordered (events ms)
+  pub counts_admit : (ms : List (RecordOf C S K)) (gave opens next : ℕ) (trip down closed : Bool) (by moment : ℕ) (copy : Snapshot K) → Counts ms gave opens trip down closed → Ordered (events ms)
       → next ≡ gave + 1 → Counts (ms ++ admit_mark by gave moment copy ∷ []) next (opens + 1) trip down closed
   counts_admit ms gave opens next trip down closed by moment copy c ordered step =
       let es = events ms in
       let e : EventOf C S K = Admit gave moment by in
-      let m : MarkOf C S K = admit_mark by gave moment copy in
+      let m : RecordOf C S K = admit_mark by gave moment copy in
       let now : events (ms ++ m ∷ []) ≡ es ++ e ∷ [] = map_push (λ m. m.event) ms m in
       let counted : admitted (events (ms ++ m ∷ [])) ≡ admitted es + 1 = ap (count_by is_admit) now ∙ (count_push is_admit es e).0 refl in
       record {
@@ -171,7 +171,7 @@ module _ {C S K : Type 0} where
       }
 
   -- where none is counted as open, each number that was admitted has an End, and no other
-  pub none_open : (ms : List (MarkOf C S K)) (gave : ℕ) (trip down closed : Bool) → Counts ms gave 0 trip down closed → Ordered (events ms)
+  pub none_open : (ms : List (RecordOf C S K)) (gave : ℕ) (trip down closed : Bool) → Counts ms gave 0 trip down closed → Ordered (events ms)
       → (k : ℕ) → list_any (admits k) (events ms) ≡ list_any (ends k) (events ms)
   none_open ms gave trip down closed c ordered k = both (list_any (admits k) es) (list_any (ends k) es) refl refl
     where
@@ -187,7 +187,7 @@ module _ {C S K : Type 0} where
       both false true p q = absurd (cc (ended_given k (events ms) ordered q, p))
 
   -- where each number that was admitted has an End, none is counted as open
-  pub open_none : (ms : List (MarkOf C S K)) (gave opens : ℕ) (trip down closed : Bool) → Counts ms gave opens trip down closed → Ordered (events ms)
+  pub open_none : (ms : List (RecordOf C S K)) (gave opens : ℕ) (trip down closed : Bool) → Counts ms gave opens trip down closed → Ordered (events ms)
       → ((k : ℕ) → list_any (admits k) (events ms) ≡ list_any (ends k) (events ms)) → opens ≡ 0
   open_none ms gave opens trip down closed c ordered each =
       let x : ℕ = ended_below gave (events ms) in

@@ -15,13 +15,13 @@ use Rattle.rkt_board.proofs.Pushes.{any_push, count_push, all_push, after_push, 
 use Rattle.rkt_board.specs.After.{AfterFrom}
 use Rattle.rkt_board.specs.Board.{Told, SoundAs, TimedIn, Holds}
 use Rattle.rkt_board.specs.Events.{is_trip, is_admit, moment_of, latest, admitted, trip_word, InOrder, Ordered}
-use Rattle.rkt_board.specs.Marks.{events, asked_by, carried, carries, IsOwn, AsksAt, Legal}
+use Rattle.rkt_board.specs.Records.{events, asked_by, carried, carries, IsOwn, AsksAt, Legal}
 use Rattle.rkt_board.specs.Turns.{admit_mark}
-use Rattle.rkt_board.specs.declared.board.Name.{Name}
-use Rattle.rkt_board.specs.declared.board.Near.{Near}
+use Rattle.rkt_board.specs.declared.board.Initial.{Initial}
+use Rattle.rkt_board.specs.declared.board.Outside.{Outside}
 use Rattle.rkt_board.specs.declared.history.EventOf.{EventOf}
 use Rattle.rkt_board.specs.declared.history.EventOf.TheVariants.{Lift, Trip, Admit, End, Down, Close}
-use Rattle.rkt_board.specs.declared.mark.MarkOf.{MarkOf}
+use Rattle.rkt_board.specs.declared.log_record.RecordOf.{RecordOf}
 
 -- a link more was given, which asks this
 told_more : (first old new : Option (List Asked)) (asks : List (Option Asked)) (ask : Option Asked) → Told first old asks → GivesMore old ask new → Told first new (asks ++ ask ∷ [])
@@ -57,7 +57,7 @@ looked_on (suc n) new old x l again load = let q : new ≡ old = again (omega ar
 
 module _ {C S K : Type 0} where
   module _ (links : K → LinkMeaning) where
-    pub carries_other : (ms : List (MarkOf C S K)) (m : MarkOf C S K) → is_admit m.event ≡ false → carries links (ms ++ m ∷ []) ≡ carries links ms
+    pub carries_other : (ms : List (RecordOf C S K)) (m : RecordOf C S K) → is_admit m.event ≡ false → carries links (ms ++ m ∷ []) ≡ carries links ms
     carries_other [] m other = none_carried m.event (asked_by links m.link) other
       where
         none_carried : (e : EventOf C S K) (a : Option Asked) → is_admit e ≡ false → carried links e a [] ≡ []
@@ -69,7 +69,7 @@ module _ {C S K : Type 0} where
         none_carried (Close t) a o = refl
     carries_other (x ∷ xs) m other = ap (carried links x.event (asked_by links x.link)) (carries_other xs m other)
 
-    pub carries_admit : (ms : List (MarkOf C S K)) (m : MarkOf C S K) → is_admit m.event ≡ true → carries links (ms ++ m ∷ []) ≡ carries links ms ++ asked_by links m.link ∷ []
+    pub carries_admit : (ms : List (RecordOf C S K)) (m : RecordOf C S K) → is_admit m.event ≡ true → carries links (ms ++ m ∷ []) ≡ carries links ms ++ asked_by links m.link ∷ []
     carries_admit [] m admit = one_carried m.event (asked_by links m.link) admit
       where
         one_carried : (e : EventOf C S K) (a : Option Asked) → is_admit e ≡ true → carried links e a [] ≡ a ∷ []
@@ -90,7 +90,7 @@ module _ {C S K : Type 0} where
         carried_on (Close t) a rest z = refl
 
     -- as many are carried as were admitted
-    pub length-carries : (ms : List (MarkOf C S K)) → length (carries links ms) ≡ admitted (events ms)
+    pub length-carries : (ms : List (RecordOf C S K)) → length (carries links ms) ≡ admitted (events ms)
     length-carries [] = refl
     length-carries (m ∷ ms) = one m.event (asked_by links m.link) (carries links ms) (events ms) (length-carries ms)
       where
@@ -102,7 +102,7 @@ module _ {C S K : Type 0} where
         one (Down calls) a rest es h = h
         one (Close t) a rest es h = h
 
-    pub legal_push : (cause : List (EventOf C S K) → EventOf C S K → Type 0) (ms : List (MarkOf C S K)) (m : MarkOf C S K) → Legal links cause ms
+    pub legal_push : (cause : List (EventOf C S K) → EventOf C S K → Type 0) (ms : List (RecordOf C S K)) (m : RecordOf C S K) → Legal links cause ms
         → InOrder (events ms) m.event → cause (events ms) m.event → IsOwn m → AsksAt links ms m → Legal links cause (ms ++ m ∷ [])
     legal_push cause ms m l order caused own asks = record {
       ordered = subst (λ es. Ordered es) (sym (map_push (λ m. m.event) ms m)) (after_push InOrder [] (events ms) m.event l.ordered order);
@@ -113,11 +113,11 @@ module _ {C S K : Type 0} where
 
 module _ {A C S K P L Q : Type 0} (links : K → LinkMeaning) (listeners : L → ListenerMeaning) (clocks : Q → ClockMeaning) where
   -- one event more, which is no Admit
-  pub holds_push : (name : Name A P L Q Handle) (near : Near L Q Handle) (ms : List (MarkOf C S K)) (m : MarkOf C S K) → Holds links listeners clocks name near ms
-      → is_admit m.event ≡ false → TimedIn (clocks name.clock.value).window m.event → moment_of m.event ≤ (clocks near.clock).last
-      → (list_any is_trip (events ms ++ m.event ∷ []) ≡ true → near.handle.seen ≡ trip_word (events ms ++ m.event ∷ []))
-      → Holds links listeners clocks name near (ms ++ m ∷ [])
-  holds_push name near ms m h other timed late seen =
+  pub holds_push : (name : Initial A P L Q Handle) (outside : Outside L Q Handle) (ms : List (RecordOf C S K)) (m : RecordOf C S K) → Holds links listeners clocks name outside ms
+      → is_admit m.event ≡ false → TimedIn (clocks name.clock.value).window m.event → moment_of m.event ≤ (clocks outside.clock).last
+      → (list_any is_trip (events ms ++ m.event ∷ []) ≡ true → outside.handle.seen ≡ trip_word (events ms ++ m.event ∷ []))
+      → Holds links listeners clocks name outside (ms ++ m ∷ [])
+  holds_push name outside ms m h other timed late seen =
       let es = events ms in
       let e = m.event in
       let now : events (ms ++ m ∷ []) ≡ es ++ e ∷ [] = map_push (λ m. m.event) ms m in
@@ -125,9 +125,9 @@ module _ {A C S K P L Q : Type 0} (links : K → LinkMeaning) (listeners : L →
       record {
         wire = h.wire;
         word = λ t. seen (sym (ap (list_any is_trip) now) ∙ t) ∙ sym (ap trip_word now);
-        looked = subst (λ (n : ℕ). name.handle.value.looked + n ≤ near.handle.looked) (sym same) h.looked;
+        looked = subst (λ (n : ℕ). name.handle.value.looked + n ≤ outside.handle.looked) (sym same) h.looked;
         still = λ p. ((h.still p).0, same ∙ (h.still p).1);
-        told = subst (Told (listeners name.listener.value).given (listeners near.listener).given) (sym (carries_other links ms m other)) h.told;
+        told = subst (Told (listeners name.listener.value).given (listeners outside.listener).given) (sym (carries_other links ms m other)) h.told;
         settled = h.settled;
         sound = h.sound;
         ended = h.ended;
@@ -135,35 +135,35 @@ module _ {A C S K P L Q : Type 0} (links : K → LinkMeaning) (listeners : L →
         offers = h.offers;
         clock = h.clock;
         timed = subst (AllByRecursion (TimedIn (clocks name.clock.value).window)) (sym now) (all_push (TimedIn (clocks name.clock.value).window) es e h.timed timed);
-        latest_by = let x : ℕ = latest es in let y : ℕ = moment_of e in let z : ℕ = (clocks near.clock).last in let p : x ≤ z = h.latest_by in let q : y ≤ z = late in let g : max x y ≤ z = omega (arith, p, q) in subst (λ (n : ℕ). n ≤ z) (sym (ap latest now ∙ latest_push es e)) g;
+        latest_by = let x : ℕ = latest es in let y : ℕ = moment_of e in let z : ℕ = (clocks outside.clock).last in let p : x ≤ z = h.latest_by in let q : y ≤ z = late in let g : max x y ≤ z = omega (arith, p, q) in subst (λ (n : ℕ). n ≤ z) (sym (ap latest now ∙ latest_push es e)) g;
       }
 
   -- where a Trip stands before, the handle has seen its word
-  pub seen_before : (name : Name A P L Q Handle) (near : Near L Q Handle) (ms : List (MarkOf C S K)) (e : EventOf C S K) → Holds links listeners clocks name near ms → is_trip e ≡ false
-      → list_any is_trip (events ms ++ e ∷ []) ≡ true → near.handle.seen ≡ trip_word (events ms ++ e ∷ [])
-  seen_before name near ms e h other t =
+  pub seen_before : (name : Initial A P L Q Handle) (outside : Outside L Q Handle) (ms : List (RecordOf C S K)) (e : EventOf C S K) → Holds links listeners clocks name outside ms → is_trip e ≡ false
+      → list_any is_trip (events ms ++ e ∷ []) ≡ true → outside.handle.seen ≡ trip_word (events ms ++ e ∷ [])
+  seen_before name outside ms e h other t =
       let u : list_any is_trip (events ms) ≡ true = grind (arith, common_steps, any_push is_trip (events ms) e, other, t) in
       h.word u ∙ sym (word_old (events ms) e u)
 
   -- a handle that has seen no word has entered no Trip
-  pub untripped : (name : Name A P L Q Handle) (near : Near L Q Handle) (ms : List (MarkOf C S K)) → Holds links listeners clocks name near ms → Ordered (events ms)
-      → near.handle.seen ≡ 0 → list_any is_trip (events ms) ≡ false
-  untripped name near ms h ordered unseen =
-      is_not (list_any is_trip (events ms)) refl (λ t. let x : ℕ = trip_word (events ms) in let p : 0 < x = worded (events ms) ordered t in let q : near.handle.seen ≡ x = h.word t in absurd (omega (arith, p, q, unseen)))
+  pub untripped : (name : Initial A P L Q Handle) (outside : Outside L Q Handle) (ms : List (RecordOf C S K)) → Holds links listeners clocks name outside ms → Ordered (events ms)
+      → outside.handle.seen ≡ 0 → list_any is_trip (events ms) ≡ false
+  untripped name outside ms h ordered unseen =
+      is_not (list_any is_trip (events ms)) refl (λ t. let x : ℕ = trip_word (events ms) in let p : 0 < x = worded (events ms) ordered t in let q : outside.handle.seen ≡ x = h.word t in absurd (omega (arith, p, q, unseen)))
 
   -- an Admit of a link that the listener gave
-  pub holds_admit : (name : Name A P L Q Handle) (near : Near L Q Handle) (listener : L) (ms : List (MarkOf C S K)) (by number moment : ℕ) (copy : Snapshot K) → Holds links listeners clocks name near ms → Ordered (events ms)
-      → near.handle.seen ≡ 0 → name.handle.value.looked + admitted (events ms) < near.handle.looked → near.over ≡ false
-      → moment ≤ (clocks near.clock).last → IsWithin (clocks name.clock.value).window moment
-      → GivesMore (listeners near.listener).given (links copy.value).asked (listeners listener).given → Settled (listeners near.listener) (listeners listener) → (listeners listener).faults ≡ (listeners near.listener).faults
-      → (listeners listener).ended ≡ (listeners near.listener).ended
-      → Holds links listeners clocks name (record { listener = listener; clock = near.clock; handle = near.handle; over = near.over; faulted = near.faulted }) (ms ++ admit_mark by number moment copy ∷ [])
-  holds_admit name near listener ms by number moment copy h ordered unseen looked ongoing late within gives settled same goes_on =
+  pub holds_admit : (name : Initial A P L Q Handle) (outside : Outside L Q Handle) (listener : L) (ms : List (RecordOf C S K)) (by number moment : ℕ) (copy : Snapshot K) → Holds links listeners clocks name outside ms → Ordered (events ms)
+      → outside.handle.seen ≡ 0 → name.handle.value.looked + admitted (events ms) < outside.handle.looked → outside.over ≡ false
+      → moment ≤ (clocks outside.clock).last → IsWithin (clocks name.clock.value).window moment
+      → GivesMore (listeners outside.listener).given (links copy.value).asked (listeners listener).given → Settled (listeners outside.listener) (listeners listener) → (listeners listener).faults ≡ (listeners outside.listener).faults
+      → (listeners listener).ended ≡ (listeners outside.listener).ended
+      → Holds links listeners clocks name (record { listener = listener; clock = outside.clock; handle = outside.handle; over = outside.over; faulted = outside.faulted }) (ms ++ admit_mark by number moment copy ∷ [])
+  holds_admit name outside listener ms by number moment copy h ordered unseen looked ongoing late within gives settled same goes_on =
       let es = events ms in
       let e : EventOf C S K = Admit number moment by in
-      let m : MarkOf C S K = admit_mark by number moment copy in
+      let m : RecordOf C S K = admit_mark by number moment copy in
       let now : events (ms ++ m ∷ []) ≡ es ++ e ∷ [] = map_push (λ m. m.event) ms m in
-      let none = untripped name near ms h ordered unseen in
+      let none = untripped name outside ms h ordered unseen in
       let counted : admitted (events (ms ++ m ∷ [])) ≡ admitted es + 1 = ap (count_by is_admit) now ∙ (count_push is_admit es e).0 refl in
       record {
         wire = h.wire;
@@ -171,21 +171,21 @@ module _ {A C S K P L Q : Type 0} (links : K → LinkMeaning) (listeners : L →
         looked = let x : ℕ = admitted (events (ms ++ m ∷ [])) in let y : ℕ = admitted es in let q : x ≡ y + 1 = counted in omega (arith, q, looked);
         still = λ p. absurd (omega (arith, p, (h.still p).0, unseen));
         told = subst (Told (listeners name.listener.value).given (listeners listener).given) (sym (carries_admit links ms m refl))
-            (told_more (listeners name.listener.value).given (listeners near.listener).given (listeners listener).given (carries links ms) (links copy.value).asked h.told gives);
+            (told_more (listeners name.listener.value).given (listeners outside.listener).given (listeners listener).given (carries links ms) (links copy.value).asked h.told gives);
         settled = record { offers = settled.offers ∙ h.settled.offers; never_faults = settled.never_faults ∙ h.settled.never_faults };
-        sound = sound_same near.faulted (listeners name.listener.value) (listeners near.listener) (listeners listener) h.sound same;
+        sound = sound_same outside.faulted (listeners name.listener.value) (listeners outside.listener) (listeners listener) h.sound same;
         ended = λ o. absurd (cc (o, ongoing));
         goes_on = λ o. goes_on ∙ h.goes_on o;
         offers = λ o. absurd (cc (o, ongoing));
         clock = h.clock;
         timed = subst (AllByRecursion (TimedIn (clocks name.clock.value).window)) (sym now) (all_push (TimedIn (clocks name.clock.value).window) es e h.timed within);
-        latest_by = let x : ℕ = latest es in let z : ℕ = (clocks near.clock).last in let p : x ≤ z = h.latest_by in let g : max x moment ≤ z = omega (arith, p, late) in subst (λ (n : ℕ). n ≤ z) (sym (ap latest now ∙ latest_push es e)) g;
+        latest_by = let x : ℕ = latest es in let z : ℕ = (clocks outside.clock).last in let p : x ≤ z = h.latest_by in let g : max x moment ≤ z = omega (arith, p, late) in subst (λ (n : ℕ). n ≤ z) (sym (ap latest now ∙ latest_push es e)) g;
       }
 
   -- the clock is read
-  pub holds_clock : (name : Name A P L Q Handle) (near : Near L Q Handle) (clock : Q) (ms : List (MarkOf C S K)) → Holds links listeners clocks name near ms → TellsOn (clocks near.clock) (clocks clock)
-      → Holds links listeners clocks name (record { listener = near.listener; clock = clock; handle = near.handle; over = near.over; faulted = near.faulted }) ms
-  holds_clock name near clock ms h on = record {
+  pub holds_clock : (name : Initial A P L Q Handle) (outside : Outside L Q Handle) (clock : Q) (ms : List (RecordOf C S K)) → Holds links listeners clocks name outside ms → TellsOn (clocks outside.clock) (clocks clock)
+      → Holds links listeners clocks name (record { listener = outside.listener; clock = clock; handle = outside.handle; over = outside.over; faulted = outside.faulted }) ms
+  holds_clock name outside clock ms h on = record {
     wire = h.wire;
     word = h.word;
     looked = h.looked;
@@ -196,18 +196,18 @@ module _ {A C S K P L Q : Type 0} (links : K → LinkMeaning) (listeners : L →
     ended = h.ended;
     goes_on = h.goes_on;
     offers = h.offers;
-    clock = tells_on (clocks name.clock.value) (clocks near.clock) (clocks clock) h.clock on;
+    clock = tells_on (clocks name.clock.value) (clocks outside.clock) (clocks clock) h.clock on;
     timed = h.timed;
     latest_by = omega (arith, h.latest_by, on.rises);
   }
 
   -- the listener is polled, and gives nothing
-  pub holds_listener : (name : Name A P L Q Handle) (near : Near L Q Handle) (listener : L) (over faulted : Bool) (ms : List (MarkOf C S K)) → Holds links listeners clocks name near ms
-      → (listeners listener).given ≡ (listeners near.listener).given → Settled (listeners near.listener) (listeners listener) → SoundAs faulted (listeners name.listener.value) (listeners listener)
-      → (over ≡ true → ((listeners listener).ended ≡ true) × ForSome (listeners near.listener).offers (λ all. (listeners near.listener).given ≡ Some all))
+  pub holds_listener : (name : Initial A P L Q Handle) (outside : Outside L Q Handle) (listener : L) (over faulted : Bool) (ms : List (RecordOf C S K)) → Holds links listeners clocks name outside ms
+      → (listeners listener).given ≡ (listeners outside.listener).given → Settled (listeners outside.listener) (listeners listener) → SoundAs faulted (listeners name.listener.value) (listeners listener)
+      → (over ≡ true → ((listeners listener).ended ≡ true) × ForSome (listeners outside.listener).offers (λ all. (listeners outside.listener).given ≡ Some all))
       → (over ≡ false → (listeners listener).ended ≡ (listeners name.listener.value).ended)
-      → Holds links listeners clocks name (record { listener = listener; clock = near.clock; handle = near.handle; over = over; faulted = faulted }) ms
-  holds_listener name near listener over faulted ms h same settled sound ends goes_on = record {
+      → Holds links listeners clocks name (record { listener = listener; clock = outside.clock; handle = outside.handle; over = over; faulted = faulted }) ms
+  holds_listener name outside listener over faulted ms h same settled sound ends goes_on = record {
     wire = h.wire;
     word = h.word;
     looked = h.looked;
@@ -224,13 +224,13 @@ module _ {A C S K P L Q : Type 0} (links : K → LinkMeaning) (listeners : L →
   }
 
   -- the handle is another one, of the same wire, that has looked no less; a word that was seen stays
-  pub holds_handle : (name : Name A P L Q Handle) (near : Near L Q Handle) (handle : Handle) (ms : List (MarkOf C S K)) → Holds links listeners clocks name near ms → Ordered (events ms)
-      → handle.wire ≡ near.handle.wire → near.handle.looked ≤ handle.looked → (0 < near.handle.seen → handle.seen ≡ near.handle.seen)
-      → Holds links listeners clocks name (record { listener = near.listener; clock = near.clock; handle = handle; over = near.over; faulted = near.faulted }) ms
-  holds_handle name near handle ms h ordered wire looked again = record {
+  pub holds_handle : (name : Initial A P L Q Handle) (outside : Outside L Q Handle) (handle : Handle) (ms : List (RecordOf C S K)) → Holds links listeners clocks name outside ms → Ordered (events ms)
+      → handle.wire ≡ outside.handle.wire → outside.handle.looked ≤ handle.looked → (0 < outside.handle.seen → handle.seen ≡ outside.handle.seen)
+      → Holds links listeners clocks name (record { listener = outside.listener; clock = outside.clock; handle = handle; over = outside.over; faulted = outside.faulted }) ms
+  holds_handle name outside handle ms h ordered wire looked again = record {
     wire = wire ∙ h.wire;
-    word = λ t. let x : ℕ = trip_word (events ms) in let p : 0 < x = worded (events ms) ordered t in let q : near.handle.seen ≡ x = h.word t in again (omega (arith, p, q)) ∙ q;
-    looked = let x : ℕ = name.handle.value.looked + admitted (events ms) in let l : x ≤ near.handle.looked = h.looked in let g : x ≤ handle.looked = omega (arith, l, looked) in g;
+    word = λ t. let x : ℕ = trip_word (events ms) in let p : 0 < x = worded (events ms) ordered t in let q : outside.handle.seen ≡ x = h.word t in again (omega (arith, p, q)) ∙ q;
+    looked = let x : ℕ = name.handle.value.looked + admitted (events ms) in let l : x ≤ outside.handle.looked = h.looked in let g : x ≤ handle.looked = omega (arith, l, looked) in g;
     still = λ p. let q = h.still p in (again (omega (arith, p, q.0)) ∙ q.0, q.1);
     told = h.told;
     settled = h.settled;

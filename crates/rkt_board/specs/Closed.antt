@@ -14,7 +14,8 @@ module _ {C S K : Type 0} where
   AllAdmitted given events = ForSome given (λ asks. admitted events ≡ length asks)
 
   -- the number k has an entry with its cause, and its link asks what was given as the k-th
-  pub record HasEntry (links : K → LinkMeaning) (cause : List (EventOf C S K) → EventOf C S K → Type 0) (given : Option (List Asked)) (events : List (EventOf C S K)) (k : ℕ) : Type 0 where
+  pub record HasCausedEntry (links : K → LinkMeaning) (cause : List (EventOf C S K) → EventOf C S K → Type 0)
+      (given : Option (List Asked)) (events : List (EventOf C S K)) (k : ℕ) : Type 0 where
     pub before : List (EventOf C S K)
     pub entry : EntryOf C S K
     pub moment : ℕ

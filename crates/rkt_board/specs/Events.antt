@@ -3,7 +3,7 @@ use Rattle.std.specs.Prelude.{◌≡◌, ◌<◌, ◌≤◌, ◌+◌, ◌++◌, 
 use Rattle.std.specs.List.{list_any, count_by}
 use Rattle.std.specs.Option.{ForSome}
 use Rattle.rkt_board.specs.After.{AfterFrom}
-use Rattle.rkt_orbit.specs.declared.called.Called.{Called}
+use Rattle.rkt_fairing.specs.declared.called.Called.{Called}
 use Rattle.rkt_board.specs.declared.history.End.{End as Ending}
 use Rattle.rkt_board.specs.declared.history.End.TheVariants.{Answered, Lost, Cut, Failed, Abandoned, Starved}
 use Rattle.rkt_board.specs.declared.history.EntryOf.{EntryOf}
@@ -176,23 +176,33 @@ module _ {C S K : Type 0} where
 
   -- a run of this number, where there is one, has a moment between those of its Admit and of its End
   abbrev pub IsRunBetween : List (EventOf C S K) → ℕ → EntryOf C S K → ℕ → Type 0
-  IsRunBetween before number entry moment = ForSome entry.run (λ run. (list_any (admits_until number run.moment) before ≡ true) × (run.moment ≤ moment))
+  IsRunBetween before number entry moment =
+      ForSome entry.run (λ run. (list_any (admits_until number run.moment) before ≡ true) × (run.moment ≤ moment))
 
   -- what each event needs of those before it
   abbrev pub MayCome : List (EventOf C S K) → EventOf C S K → Type 0
   -- it is the first
   MayCome before (Lift calls) = before ≡ []
   -- it is the only one, and has a word
-  MayCome before (Trip word moment) = (0 < length before) × (list_any is_trip before ≡ false) × (0 < word) × (latest before ≤ moment)
+  MayCome before (Trip word moment) =
+      (0 < length before) × (list_any is_trip before ≡ false) × (0 < word) × (latest before ≤ moment)
   -- numbers are given in order, and none after a Trip
-  MayCome before (Admit number moment by) = (0 < length before) × (list_any is_trip before ≡ false) × (number ≡ admitted before) × (latest before ≤ moment)
+  MayCome before (Admit number moment by) =
+      (0 < length before) × (list_any is_trip before ≡ false) × (number ≡ admitted before) × (latest before ≤ moment)
   -- the number was admitted by the same worker, and has not ended
-  MayCome before (End number entry moment by) = (list_any (admits_by number by) before ≡ true) × (list_any (ends number) before ≡ false) × (latest before ≤ moment)
+  MayCome before (End number entry moment by) =
+      (list_any (admits_by number by) before ≡ true)
+      × (list_any (ends number) before ≡ false)
+      × (latest before ≤ moment)
       × IsRunBetween before number entry moment
   -- it is the only one after a Trip
   MayCome before (Down calls) = (list_any is_trip before ≡ true) × (list_any is_down before ≡ false)
   -- no number is open, and a Down stands where a Trip does
-  MayCome before (Close moment) = (0 < length before) × ((k : ℕ) → list_any (admits k) before ≡ list_any (ends k) before) × (list_any is_down before ≡ list_any is_trip before) × (latest before ≤ moment)
+  MayCome before (Close moment) =
+      (0 < length before)
+      × ((k : ℕ) → list_any (admits k) before ≡ list_any (ends k) before)
+      × (list_any is_down before ≡ list_any is_trip before)
+      × (latest before ≤ moment)
 
   -- nothing comes after a Close
   abbrev pub InOrder : List (EventOf C S K) → EventOf C S K → Type 0

@@ -3,5 +3,5 @@ pub mod Board
 pub mod Causes
 pub mod Closed
 pub mod Events
-pub mod Marks
+pub mod Records
 pub mod Turns

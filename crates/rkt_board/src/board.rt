@@ -1,16 +1,17 @@
 //! The state of a launch.
-use crate::{Event, Mark};
+use crate::{Event, Record};
 use rkt_base::Seq;
-use rkt_link::Listener;
-use rkt_orbit::Called;
+use rkt_fairing::Called;
+use rkt_link::{CancellableListener, Listener};
 use rkt_request::Types;
+use rkt_source::CancellableIo;
 use rkt_turn::Shutdown;
 use std::marker::PhantomData;
 use std::snapshot::Snapshot;
 
 /// What a board stands for: what is served of an application, the calls at liftoff, and the rest as it was handed in.
 #[derive(Drop)]
-pub struct Name<A, P, L, C, H> {
+pub struct Initial<A, P, L, C, H> {
     pub app: PhantomData<A>,
     pub served: P,
     pub listener: Snapshot<L>,
@@ -21,8 +22,8 @@ pub struct Name<A, P, L, C, H> {
 
 /// What has happened, counted, with room for what is to come and for the history of it all.
 #[derive(Drop)]
-pub struct Book<M, E> {
-    pub marks: Vec<M>,
+pub struct Log<M, E> {
+    pub records: Vec<M>,
     pub history: Vec<E>,
     /// How many links were given.
     pub admitted: u64,
@@ -35,7 +36,7 @@ pub struct Book<M, E> {
 
 /// What is looked at.
 #[derive(Drop)]
-pub struct Near<L, C, H> {
+pub struct Outside<L, C, H> {
     pub listener: L,
     pub clock: C,
     pub handle: H,
@@ -49,25 +50,29 @@ pub struct Near<L, C, H> {
 #[derive(Drop)]
 pub struct Board<N, B, X> {
     pub name: N,
-    pub book: B,
-    pub near: X,
+    pub log: B,
+    pub outside: X,
 }
 
 /// The name of the board of an application's launch.
-pub type NameOf<A, P, L, C> = Name<A, P, L, C, Shutdown<<A as Types>::Reason>>;
+pub type InitialOf<A, P, L, C> = Initial<A, P, L, C, Shutdown<<A as Types>::Reason>>;
 
 /// The state of an application's launch.
 pub type BoardOf<A, P, L, C> = Board<
-    NameOf<A, P, L, C>,
-    Book<Mark<A, <L as Listener>::Link>, Event<A, <L as Listener>::Link>>,
-    Near<L, C, Shutdown<<A as Types>::Reason>>,
+    InitialOf<A, P, L, C>,
+    Log<Record<A, <L as Listener>::Link>, Event<A, <L as Listener>::Link>>,
+    Outside<CancellableListener<L>, C, Shutdown<<A as Types>::Reason>>,
 >;
 
 /// What a turn of a worker came to.
 #[derive(Drop)]
-pub enum Turned<K> {
-    /// A link was admitted under this number, at this moment.
-    Given { number: u64, moment: u64, link: K },
+pub enum Stepped<K> {
+    /// A link was admitted under this number, at this moment, and nothing has cut it off yet.
+    Given {
+        number: u64,
+        moment: u64,
+        link: CancellableIo<K>,
+    },
     /// This turn has entered the Trip.
     Tripped,
     /// There is no link yet.

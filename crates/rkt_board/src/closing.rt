@@ -7,11 +7,11 @@ ghost use Rattle.rkt_link.specs.Clock.{TellsOn};
 ghost use Rattle.rkt_link.specs.Listener.{Settled};
 ghost use Rattle.rkt_board.specs.After.{AfterFrom};
 ghost use Rattle.rkt_board.specs.Board.{Keeps, SoundAs, TimedIn};
-ghost use Rattle.rkt_board.specs.Closed.{AllAdmitted, HasEntry};
+ghost use Rattle.rkt_board.specs.Closed.{AllAdmitted, HasCausedEntry};
 ghost use Rattle.rkt_board.specs.Events.{is_abandoned, is_close, is_trip, admitted, lift_calls, trip_of, Ordered, IsClosed, EachEndsOnce};
-ghost use Rattle.rkt_board.specs.Marks.{events};
+ghost use Rattle.rkt_board.specs.Records.{events};
 
-use crate::{Board, BoardOf, Book, Event, History, HistoryOf, Mark, MarkOf, Near, Served};
+use crate::{Board, BoardOf, Event, History, HistoryOf, Log, Outside, Record, RecordOf, Served};
 use rkt_base::Seq;
 use rkt_link::{Clock, Link, Listener};
 use rkt_request::Types;
@@ -59,20 +59,20 @@ impl<L, T, H, C, S, K> ClosedOf<L, T, H, HistoryOf<C, S, K>> {
     }
 }
 
-// Moves the events of marks behind others, where there is room for them.
+// Moves the events of records behind others, where there is room for them.
 fn moved<A: Types, K: Link>(
-    marks: Vec<Mark<A, K>>,
+    records: Vec<Record<A, K>>,
     mut history: Vec<Event<A, K>>,
 ) -> Vec<Event<A, K>>
-    requires room { vec_len history + vec_len marks ≤ vec_capacity history }
-    ensures { result.items ≡ history.items ++ events marks.items }
+    requires room { vec_len history + vec_len records ≤ vec_capacity history }
+    ensures { result.items ≡ history.items ++ events records.items }
 {
-    for mark in marks {
-        let MarkOf {
+    for logged in records {
+        let RecordOf {
             by: _,
             event,
             link: _,
-        } = mark;
+        } = logged;
         history.push_reserved(event);
     }
     history
@@ -83,18 +83,24 @@ pub fn finish<A: Types, P: Served<A, L::Link>, L: Listener, C: Clock>(
     board: BoardOf<A, P, L, C>,
 ) -> Closed<A, L, C>
     requires keeps { Keeps L.Link.meaning L.meaning C.meaning P.cause board }
-    requires closed { list_any is_close (events board.book.marks.items) ≡ true }
+    requires closed { list_any is_close (events board.log.records.items) ≡ true }
     requires fresh { ForSome (L.meaning board.name.listener.value).given (λ given. given ≡ []) }
-    ensures history { result.history.events ≡ events board.book.marks.items }
+    ensures history { result.history.events ≡ events board.log.records.items }
     ensures lifted { lift_calls result.history.events ≡ board.name.calls.value }
-    ensures near { (result.listener ≡ board.near.listener) × (result.clock ≡ board.near.clock) × (result.handle ≡ board.near.handle) × (result.over ≡ board.near.over) × (result.faulted ≡ board.near.faulted) }
+    ensures outside { (result.listener ≡ board.outside.listener)
+        × (result.clock ≡ board.outside.clock)
+        × (result.handle ≡ board.outside.handle)
+        × (result.over ≡ board.outside.over)
+        × (result.faulted ≡ board.outside.faulted) }
     ensures ordered { Ordered result.history.events }
     ensures caused { AfterFrom (P.cause board.name.served (C.meaning board.name.clock.value).window) [] result.history.events }
     ensures closed { IsClosed result.history.events }
     ensures ends { EachEndsOnce result.history.events }
     ensures requests { AllAdmitted (L.meaning result.listener).given result.history.events }
-    ensures entries { (k : ℕ) → k < admitted result.history.events
-        → HasEntry L.Link.meaning (P.cause board.name.served (C.meaning board.name.clock.value).window) (L.meaning result.listener).given result.history.events k }
+    ensures entries { (k : ℕ)
+        → k < admitted result.history.events
+        → HasCausedEntry L.Link.meaning (P.cause board.name.served (C.meaning board.name.clock.value).window)
+        (L.meaning result.listener).given result.history.events k }
     ensures moments { AllByRecursion (TimedIn (C.meaning board.name.clock.value).window) result.history.events }
     ensures clock { TellsOn (C.meaning board.name.clock.value) (C.meaning result.clock) }
     // The wire was looked at once for each link at least.
@@ -107,29 +113,34 @@ pub fn finish<A: Types, P: Served<A, L::Link>, L: Listener, C: Clock>(
     ensures sound { SoundAs result.faulted (L.meaning board.name.listener.value) (L.meaning result.listener) }
     ensures ended { result.over ≡ true → (L.meaning result.listener).ended ≡ true }
     ensures goes_on { result.over ≡ false → (L.meaning result.listener).ended ≡ (L.meaning board.name.listener.value).ended }
-    ensures offers { result.over ≡ true → ForSome (L.meaning board.name.listener.value).offers (λ all. (L.meaning result.listener).given ≡ Some all) }
+    ensures offers { result.over ≡ true
+        → ForSome (L.meaning board.name.listener.value).offers (λ all. (L.meaning result.listener).given ≡ Some all) }
 {
     let Board {
         name: _,
-        book,
-        near,
+        log,
+        outside,
     } = board;
-    let Book { marks, history, .. } = book;
-    let Near {
+    let Log {
+        records,
+        history,
+        ..
+    } = log;
+    let Outside {
         listener,
         clock,
         handle,
         over,
         faulted,
-    } = near;
+    } = outside;
     ClosedOf {
-        listener,
+        listener: listener.into_inner(),
         clock,
         handle,
         over,
         faulted,
         history: HistoryOf {
-            events: Seq::from_vec(moved::<A, L::Link>(marks, history)),
+            events: Seq::from_vec(moved::<A, L::Link>(records, history)),
         },
     }
 }

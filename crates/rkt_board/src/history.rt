@@ -5,13 +5,12 @@ ghost use Rattle.std.specs.Option.{option_copied};
 ghost use Rattle.rkt_board.specs.declared.history.EventOf.{EventOf};
 ghost use Rattle.rkt_board.specs.Events.{noted, with_first, is_admit, is_abandoned, is_trip, admitted, admits, ends, end_of, trip_of, Ordered, IsClosed};
 
-use rkt_base::{NoMemory, Seq};
-use rkt_cancel::CancellableIo;
-use rkt_lifecycle::RunOf;
-use rkt_link::Boxed;
+use rkt_base::{Boxed, NoMemory, Seq};
+use rkt_exchange::RunOf;
+use rkt_fairing::Called;
 use rkt_message::Response;
-use rkt_orbit::Called;
 use rkt_request::Types;
+use rkt_source::CancellableIo;
 use std::alloc::{AllocError, Global};
 
 /// Why a response could not be sent.
@@ -197,7 +196,9 @@ impl<C, S, K> HistoryOf<C, S, K> {
     /// How many requests were admitted.
     pub fn admitted(&self) -> u64
         ensures count { result ≡ admitted self.now.events }
-        ensures numbers { Ordered self.now.events → (k : ℕ) → count_by (admits k) self.now.events ≡ (if nat_lt k result then 1 else 0) }
+        ensures numbers { Ordered self.now.events
+            → (k : ℕ)
+            → count_by (admits k) self.now.events ≡ (if nat_lt k result then 1 else 0) }
     {
         count_admits(self.events.as_slice())
     }
@@ -206,7 +207,9 @@ impl<C, S, K> HistoryOf<C, S, K> {
     pub fn entry(&self, number: u64) -> Option<&EntryOf<C, S, K>>
         ensures found { option_copied result ≡ end_of number self.now.events }
         ensures once { Ordered self.now.events → count_by (ends number) self.now.events ≤ 1 }
-        ensures closed { Ordered self.now.events → IsClosed self.now.events → IsSome result ↔ (number < admitted self.now.events) }
+        ensures closed { Ordered self.now.events
+            → IsClosed self.now.events
+            → IsSome result ↔ (number < admitted self.now.events) }
     {
         find_entry(&self.events, number)
     }
@@ -217,7 +220,11 @@ impl<C, S, K> HistoryOf<C, S, K> {
         ensures once { Ordered self.now.events → count_by is_trip self.now.events ≤ 1 }
         ensures word { IfSome result (λ trip. Ordered self.now.events → 0 < trip.0) }
         // Nothing is admitted behind it.
-        ensures last { Ordered self.now.events → (front rest : List (EventOf C S K)) → self.now.events ≡ front ++ rest → list_any is_trip front ≡ true → admitted rest ≡ 0 }
+        ensures last { Ordered self.now.events
+            → (front rest : List (EventOf C S K))
+            → self.now.events ≡ front ++ rest
+            → list_any is_trip front ≡ true
+            → admitted rest ≡ 0 }
     {
         find_trip(&self.events)
     }
@@ -235,7 +242,9 @@ impl<C, S, K> HistoryOf<C, S, K> {
     /// The entries of the numbers that were admitted, by number, in one walk over the events.
     pub fn entries(&self, alloc: Global) -> Result<Vec<Option<&EntryOf<C, S, K>>>, NoMemory>
         ensures count { IfOk result (λ entries. length entries.items ≡ admitted self.now.events) }
-        ensures each { IfOk result (λ entries. (k : ℕ) → k < admitted self.now.events → slice_get (map (λ entry. option_copied entry) entries.items) k ≡ Some (end_of k self.now.events)) }
+        ensures each { IfOk result (λ entries. (k : ℕ)
+            → k < admitted self.now.events
+            → slice_get (map (λ entry. option_copied entry) entries.items) k ≡ Some (end_of k self.now.events)) }
     {
         let mut entries = none_of(alloc, self.admitted() as usize)?;
         for event in self.events.as_slice() {
@@ -261,7 +270,8 @@ fn none_of<'a, C, S, K>(
 
 // Notes the entry of an End at the place of its number.
 fn note<'a, C, S, K>(entries: &mut Vec<Option<&'a EntryOf<C, S, K>>>, event: &'a EventOf<C, S, K>)
-    ensures { map (λ entry. option_copied entry) entries.new.items ≡ noted event.now (map (λ entry. option_copied entry) entries.old.items) }
+    ensures { map (λ entry. option_copied entry) entries.new.items
+        ≡ noted event.now (map (λ entry. option_copied entry) entries.old.items) }
 {
     if let EventOf::End { number, entry, .. } = event {
         enter_first(entries, *number as usize, entry);
@@ -274,7 +284,8 @@ fn enter_first<'a, C, S, K>(
     at: usize,
     entry: &'a EntryOf<C, S, K>,
 )
-    ensures { map (λ entry. option_copied entry) entries.new.items ≡ with_first at entry.now (map (λ entry. option_copied entry) entries.old.items) }
+    ensures { map (λ entry. option_copied entry) entries.new.items
+        ≡ with_first at entry.now (map (λ entry. option_copied entry) entries.old.items) }
 {
     if at < entries.len() && entries[at].is_none() {
         entries[at] = Some(entry);

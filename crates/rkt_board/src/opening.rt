@@ -1,13 +1,13 @@
 //! How a launch begins.
 ghost use Rattle.std.specs.Prelude.{◌≡◌, ◌∷◌, [], IfOk};
 ghost use Rattle.rkt_board.specs.Board.{IsBlank, Keeps};
-ghost use Rattle.rkt_board.specs.Turns.{mark};
+ghost use Rattle.rkt_board.specs.Turns.{logged};
 ghost use Rattle.rkt_board.specs.declared.history.EventOf.TheVariants.{Lift};
 
-use crate::{Board, BoardOf, Book, Event, EventOf, Mark, MarkOf, Name, Near, Served};
+use crate::{Board, BoardOf, Event, EventOf, Initial, Log, Outside, Record, RecordOf, Served};
 use rkt_base::{NoMemory, Seq};
-use rkt_link::{Clock, Listener};
-use rkt_orbit::Called;
+use rkt_fairing::Called;
+use rkt_link::{CancellableListener, Clock, Listener};
 use rkt_request::Types;
 use rkt_turn::Shutdown;
 use std::alloc::Global;
@@ -17,15 +17,15 @@ use std::snapshot::Snapshot;
 // How many events a launch without a link has at most: a Lift, a Trip, a Down and a Close.
 const FEWEST: usize = 4;
 
-impl<M: Drop, E: Drop> Book<M, E> {
-    /// A book without an event, with room for those of a launch that admits nothing.
-    pub fn new(alloc: Global) -> Result<Book<M, E>, NoMemory>
+impl<M: Drop, E: Drop> Log<M, E> {
+    /// A log without an event, with room for those of a launch that admits nothing.
+    pub fn new(alloc: Global) -> Result<Log<M, E>, NoMemory>
         ensures { IfOk result IsBlank }
     {
-        let marks = Vec::with_capacity(alloc, FEWEST)?;
+        let records = Vec::with_capacity(alloc, FEWEST)?;
         let history = Vec::with_capacity(alloc, FEWEST)?;
-        Ok(Book {
-            marks,
+        Ok(Log {
+            records,
             history,
             admitted: 0,
             opens: 0,
@@ -38,7 +38,7 @@ impl<M: Drop, E: Drop> Book<M, E> {
 
 /// Enters the Lift, with the calls of the callbacks of liftoff. It takes no memory.
 pub fn lift<A: Types, P: Served<A, L::Link>, L: Listener, C: Clock>(
-    mut book: Book<Mark<A, L::Link>, Event<A, L::Link>>,
+    mut log: Log<Record<A, L::Link>, Event<A, L::Link>>,
     served: P,
     listener: L,
     clock: C,
@@ -46,14 +46,18 @@ pub fn lift<A: Types, P: Served<A, L::Link>, L: Listener, C: Clock>(
     by: u64,
     calls: Seq<Called>,
 ) -> BoardOf<A, P, L, C>
-    requires blank { IsBlank book }
+    requires blank { IsBlank log }
     requires caused { P.cause served (C.meaning clock).window [] (Lift calls) }
-    ensures name { (result.name.served ≡ served) × (result.name.listener.value ≡ listener) × (result.name.clock.value ≡ clock) × (result.name.handle.value ≡ handle) × (result.name.calls.value ≡ calls) }
-    ensures handle { result.near.handle ≡ handle }
-    ensures adds { result.book.marks.items ≡ mark by (Lift calls) ∷ [] }
+    ensures name { (result.name.served ≡ served)
+        × (result.name.listener.value ≡ listener)
+        × (result.name.clock.value ≡ clock)
+        × (result.name.handle.value ≡ handle)
+        × (result.name.calls.value ≡ calls) }
+    ensures handle { result.outside.handle ≡ handle }
+    ensures adds { result.log.records.items ≡ logged by (Lift calls) ∷ [] }
     ensures keeps { Keeps L.Link.meaning L.meaning C.meaning P.cause result }
 {
-    let name = Name {
+    let name = Initial {
         app: PhantomData,
         served,
         listener: Snapshot::of(&listener),
@@ -61,17 +65,17 @@ pub fn lift<A: Types, P: Served<A, L::Link>, L: Listener, C: Clock>(
         handle: Snapshot::of(&handle),
         calls: Snapshot::of(&calls),
     };
-    book.marks.push_reserved(MarkOf {
+    log.records.push_reserved(RecordOf {
         by,
         event: EventOf::Lift { calls },
         link: None,
     });
-    let near = Near {
-        listener,
+    let outside = Outside {
+        listener: CancellableListener::new(listener),
         clock,
         handle,
         over: false,
         faulted: false,
     };
-    Board { name, book, near }
+    Board { name, log, outside }
 }

@@ -43,7 +43,9 @@ first_bad table = find (λ entry. not (fits entry.0 entry.1)) table
 -- the limits with that of an entry, where it sets one
 abbrev pub with_entry : List (List ℕ × ByteUnit) → List ℕ × List ℕ → List (List ℕ × ByteUnit)
 with_entry limits entry =
-    option_map_or (λ name. option_map_or (λ bytes. insert_entry (slice_cmp nat_cmp) limits (map to_ascii_lowercase name) (record { 0 = bytes })) (number_below 64 entry.1) limits) (limit_name_of entry.0) limits
+    option_map_or (λ name.
+    option_map_or (λ bytes. insert_entry (slice_cmp nat_cmp) limits (map to_ascii_lowercase name) (record { 0 = bytes }))
+    (number_below 64 entry.1) limits) (limit_name_of entry.0) limits
 
 -- the default limits, and over them those of the table, a later one over an earlier
 abbrev pub limits_in : List (List ℕ × List ℕ) → List (List ℕ × ByteUnit)

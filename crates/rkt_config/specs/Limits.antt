@@ -26,7 +26,9 @@ IsLimitOf limits name (Some limit) = IsOfLongest limits name limit
 -- a name has one answer
 abbrev pub HasOneLimit : Type 0
 HasOneLimit =
-    (limits : List (List ℕ × ByteUnit)) (name : List ℕ) (a b : Option ByteUnit) → IsLimitOf limits name a → IsLimitOf limits name b
+    (limits : List (List ℕ × ByteUnit)) (name : List ℕ) (a b : Option ByteUnit)
+    → IsLimitOf limits name a
+    → IsLimitOf limits name b
     → a ≡ b
 
 -- the limits where none is set

@@ -105,7 +105,8 @@ impl Limits {
     /// What `get` gives for the layers, joined by `/`, without the memory for such a text.
     pub fn find(&self, layers: &[String]) -> Option<ByteUnit>
         ensures none { layers.now ≡ [] → result ≡ None }
-        ensures law { layers.now ≢ [] → IsLimitOf self.now (map to_ascii_lowercase (join_with_byte slash (map string_bytes layers.now))) result }
+        ensures law { layers.now ≢ []
+            → IsLimitOf self.now (map to_ascii_lowercase (join_with_byte slash (map string_bytes layers.now))) result }
     {
         let (piece, pieces) = layers.split_first()?;
         self.longest(Joined {

@@ -31,7 +31,8 @@ cookie_of name cookies = find (is_named name) cookies
 abbrev pub with_cookie : List Parts → Parts → List Parts
 with_cookie [] cookie = cookie ∷ []
 with_cookie (other ∷ others) cookie =
-    match_ordering (slice_cmp nat_cmp cookie.name other.name) (cookie ∷ other ∷ others) (cookie ∷ others) (other ∷ with_cookie others cookie)
+    match_ordering (slice_cmp nat_cmp cookie.name other.name) (cookie ∷ other ∷ others) (cookie ∷ others)
+    (other ∷ with_cookie others cookie)
 
 -- a cookie with the path `/` and this SameSite, where it has none of its own
 abbrev pub with_defaults : SameSite → Parts → Parts

@@ -146,7 +146,8 @@ with_last_said name value attributes =
       expires = last_said expires_in attributes;
     }
 
--- a text that is read as this cookie: a name and a value, and then attributes, of each kind the last one. A piece that says none is passed over
+-- a text that is read as this cookie: a name and a value, and then attributes, of each kind the last one. A piece that
+-- says none is passed over
 pub record Reads (text : List ℕ) (cookie : Parts) : Type 0 where
   pub name : List ℕ
   pub value : List ℕ

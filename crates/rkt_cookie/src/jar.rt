@@ -7,7 +7,7 @@ ghost use Rattle.rkt_cookie.specs.Jar.{NamesAscend, addition, cookie_of, delta, 
 use crate::change::Change;
 use crate::cookie::Cookie;
 use crate::same_site::SameSite;
-use rkt_base::NoMemory;
+use rkt_base::{NoMemory, copy_all};
 use std::alloc::Global;
 use std::collections::btree_map::Values;
 use std::collections::{BTreeMap, BTreeSet};
@@ -70,19 +70,6 @@ pub(crate) fn removed(alloc: Global, cookie: Cookie) -> Result<Change, NoMemory>
     })
 }
 
-fn copied_log(alloc: Global, log: &[Change]) -> Result<Vec<Change>, NoMemory>
-    ensures { IfOk result (λ copy. copy.items ≡ log.now) }
-{
-    let mut copy = Vec::with_capacity(alloc, log.len())?;
-    for change in log {
-        copy.push(Change {
-            cookie: change.cookie.try_clone(alloc)?,
-            removal: change.removal,
-        })?;
-    }
-    Ok(copy)
-}
-
 fn push_any(cookies: &mut Vec<Cookie>, cookie: Option<Cookie>) -> Result<(), NoMemory>
     ensures { OnOk result (cookies.new.items ≡ cookies.old.items ++ option_to_list cookie) }
 {
@@ -142,7 +129,7 @@ impl CookieJar {
         } = self.copied_originals()?;
         Ok(CookieJar {
             originals,
-            log: copied_log(*self.log.allocator(), self.log.as_slice())?,
+            log: copy_all(*self.log.allocator(), self.log.as_slice())?,
             floor: self.floor,
         })
     }
@@ -201,7 +188,9 @@ impl CookieJar {
     /// Keeps a cookie that came with the request, in place of an earlier one of its name.
     pub fn add_original(&mut self, cookie: Cookie) -> Result<(), NoMemory>
         // It is found under its name, and under any other name what was found before.
-        ensures found { OnOk result ((name : List ℕ) → cookie_of name self.new.originals ≡ (if is_named name cookie then Some cookie else cookie_of name self.old.originals)) }
+        ensures found { OnOk result ((name : List ℕ)
+            → cookie_of name self.new.originals
+            ≡ (if is_named name cookie then Some cookie else cookie_of name self.old.originals)) }
         ensures ok { OnOk result (self.new ≡ record self.old { originals = with_cookie self.old.originals cookie }) }
         ensures err { OnErr result (self.new ≡ self.old) }
     {

@@ -1,8 +1,9 @@
 //! One job from any number of posts over one lock.
-ghost use Rattle.std.specs.Prelude.{◌≡◌, ◌<◌, ◌≤◌, ◌+◌, ◌-◌, ◌++◌, ◌∷◌, [], length, map, vec_len, All, IfOk, IfErr};
+ghost use Rattle.std.specs.Prelude.{◌≡◌, ◌<◌, ◌≤◌, ◌+◌, ◌-◌, ◌++◌, ◌∷◌, [], length, map, vec_len, All, IfOk, IfErr, IfSome, Some};
 ghost use Rattle.rkt_turn.specs.Booked.{AreOf, StartsWith};
-ghost use Rattle.rkt_crew.specs.Crew.{from_post, HasSeenOf, IsCrew, IsFresh, IsMade, IsOver, IsReady, IsWorked};
+ghost use Rattle.rkt_crew.specs.Crew.{from_post, HandsOver, HasSeenOf, IsCrew, IsFresh, IsMade, IsOver, IsReady, IsWorked};
 ghost use Rattle.rkt_turn.specs.HandsBack.{HandsBack};
+ghost use Rattle.rkt_turn.specs.Known.{last_number};
 ghost use Rattle.rkt_turn.specs.Pass.{known, IsFirst, IsIdle, IsPassOf};
 
 use crate::each::for_each_in;
@@ -24,6 +25,7 @@ fn hire<'b, S: Booked, W: Reason, R>(
 ) -> Vec<Post<'b, S, W, R>>
     requires first { IsPassOf lock.now first.old × IsFirst first.old × IsIdle first.old }
     requires alone { ((known first.old).out ≡ []) × ((known first.old).next ≡ 1) }
+    requires few { count < last_number }
     ensures first { IsPassOf lock.entry.now first.new × IsFirst first.new × IsIdle first.new }
     ensures name { (known first.new).name ≡ (known first.old).name }
     ensures entries { ((known first.new).mine ≡ (known first.old).mine) × ((known first.new).seen ≡ (known first.old).seen) }
@@ -44,7 +46,9 @@ fn hire<'b, S: Booked, W: Reason, R>(
             rt,
             lock,
             pass,
-            handle,
+            handle: Some(handle),
+            moment: 0,
+            trip: None,
         });
     }
     posts
@@ -59,7 +63,7 @@ fn take_back<'b, S: Booked, W: Reason, R>(
 )
     requires first { IsPassOf lock.now first.old × IsFirst first.old × IsIdle first.old }
     requires pass { IsPassOf lock.now post.pass × IsIdle post.pass }
-    requires wire { post.handle.wire ≡ handle.old.wire }
+    requires wire { IfSome post.handle (λ theirs. theirs.wire ≡ handle.old.wire) }
     ensures first { IsPassOf lock.entry.now first.new × IsFirst first.new × IsIdle first.new }
     ensures name { (known first.new).name ≡ (known first.old).name }
     ensures mine { (known first.new).mine ≡ (known first.old).mine }
@@ -67,11 +71,13 @@ fn take_back<'b, S: Booked, W: Reason, R>(
     ensures back { (known first.new).back ≡ from_post post.entry ∷ (known first.old).back }
     ensures out { length (known first.new).out ≡ length (known first.old).out - 1 }
     ensures handle { HandsBack handle.old handle.new }
-    ensures word { HasSeenOf handle.new post.entry }
+    ensures word { HasSeenOf (Some handle.new) post.entry }
 {
     let (pass, theirs) = post.into_parts();
     first.join(lock, pass);
-    handle.rejoin(theirs);
+    if let Some(theirs) = theirs {
+        handle.rejoin(theirs);
+    }
 }
 
 // Takes all posts back.
@@ -83,7 +89,7 @@ fn gather<'b, S: Booked, W: Reason, R>(
 )
     requires first { IsPassOf lock.now first.old × IsFirst first.old × IsIdle first.old }
     requires passes { All (λ post. IsPassOf lock.now post.pass × IsIdle post.pass) posts.items }
-    requires wires { All (λ post. post.handle.wire ≡ handle.old.wire) posts.items }
+    requires wires { All (λ post. IfSome post.handle (λ theirs. theirs.wire ≡ handle.old.wire)) posts.items }
     requires out { length (known first.old).out ≡ vec_len posts }
     ensures first { IsPassOf lock.entry.now first.new × IsFirst first.new × IsIdle first.new }
     ensures name { (known first.new).name ≡ (known first.old).name }
@@ -92,7 +98,7 @@ fn gather<'b, S: Booked, W: Reason, R>(
     ensures back { (known first.new).back ≡ map from_post posts.entry.items ++ (known first.old).back }
     ensures out { (known first.new).out ≡ [] }
     ensures handle { HandsBack handle.old handle.new }
-    ensures words { All (HasSeenOf handle.new) posts.entry.items }
+    ensures words { All (HasSeenOf (Some handle.new)) posts.entry.items }
 {
     while let Some(post) = posts.pop() {
         take_back(lock, first, handle, post);
@@ -133,7 +139,7 @@ fn work_alone<'b, S: Booked, W: Reason, R: Wait, J: Job<S, W, R>>(
     handle: Shutdown<W>,
     job: &J,
     count: usize,
-) -> Shutdown<W>
+) -> Option<Shutdown<W>>
     requires first { IsPassOf lock.now first.old × IsFirst first.old × IsIdle first.old }
     requires alone { ((known first.old).out ≡ []) × ((known first.old).back ≡ []) × ((known first.old).next ≡ 1) }
     requires ready { IsReady (J.ready job.now) (known first.old) handle }
@@ -142,7 +148,7 @@ fn work_alone<'b, S: Booked, W: Reason, R: Wait, J: Job<S, W, R>>(
     ensures mine { (known first.new).mine ≡ (known first.old).mine }
     ensures seen { StartsWith (known first.new).seen (known first.old).seen }
     ensures out { (known first.new).out ≡ [] }
-    ensures handle { HandsBack handle result }
+    ensures handle { HandsOver (Some handle) result }
     ensures crew { IsCrew (J.done job.now) count result (known first.new).back }
 {
     let pass = first.split(lock);
@@ -150,7 +156,9 @@ fn work_alone<'b, S: Booked, W: Reason, R: Wait, J: Job<S, W, R>>(
         rt,
         lock,
         pass,
-        handle,
+        handle: Some(handle),
+        moment: 0,
+        trip: None,
     };
     job.work(alloc, &mut post);
     let (pass, handle) = post.into_parts();
@@ -173,16 +181,17 @@ fn work<
     mut handle: Shutdown<W>,
     job: &J,
     count: usize,
-) -> Shutdown<W>
+) -> Option<Shutdown<W>>
     requires first { IsPassOf lock.now first.old × IsFirst first.old × IsIdle first.old }
     requires alone { ((known first.old).out ≡ []) × ((known first.old).back ≡ []) × ((known first.old).next ≡ 1) }
+    requires few { count < last_number }
     requires ready { IsReady (J.ready job.now) (known first.old) handle }
     ensures first { IsPassOf lock.entry.now first.new × IsFirst first.new × IsIdle first.new }
     ensures name { (known first.new).name ≡ (known first.old).name }
     ensures mine { (known first.new).mine ≡ (known first.old).mine }
     ensures seen { StartsWith (known first.new).seen (known first.old).seen }
     ensures out { (known first.new).out ≡ [] }
-    ensures handle { HandsBack handle result }
+    ensures handle { HandsOver (Some handle) result }
     ensures crew { IsCrew (J.done job.now) count result (known first.new).back }
 {
     let mut posts = hire(rt, alloc, lock, first, &mut handle, count);
@@ -191,7 +200,7 @@ fn work<
     }
     work_all(rt, alloc, lock, &handle, &mut posts, job, count);
     gather(lock, first, &mut handle, posts);
-    handle
+    Some(handle)
 }
 
 /// Does a job behind a lock, from so many posts, each on a thread of its own where one can be made, and hands the state out
@@ -210,10 +219,11 @@ pub fn work_in_threads<
     handle: Shutdown<W>,
     job: &J,
     count: usize,
-) -> Result<(S, Shutdown<W>), (S, Shutdown<W>)>
+) -> Result<(S, Option<Shutdown<W>>), (S, Shutdown<W>)>
     requires name { S.name state ≡ name }
     requires legal { S.legal name (S.entries state) }
     requires keeps { S.keeps state }
+    requires few { count < last_number }
     requires first { AreOf S.number 0 (S.entries state) }
     requires ready { J.ready job.now name (S.entries state) handle }
     ensures name { IfOk result (λ r. S.name r.0 ≡ name) }
@@ -222,7 +232,8 @@ pub fn work_in_threads<
     ensures begins { IfOk result (λ r. StartsWith (S.entries r.0) (S.entries state)) }
     // Of each number below the last one the list has what was entered from the post with that number, which is done.
     ensures worked { IfOk result (λ r. IsWorked (J.done job.now) count r.1 S.number (S.entries state) (S.entries r.0)) }
-    ensures handle { IfOk result (λ r. HandsBack handle r.1) }
+    // The handle comes back, unless one on the caller worked with it and has given it away.
+    ensures handle { IfOk result (λ r. HandsOver (Some handle) r.1) }
     // For want of memory for the lock, nothing is done.
     ensures err { IfErr result (λ r. (r.0 ≡ state) × (r.1 ≡ handle)) }
 {

@@ -9,12 +9,12 @@ use Rattle.std.proofs.lemmas.List.{drop-take}
 use Rattle.rkt_data.specs.Gathering.{Gained, Gathered, Draws, IsUsedUp, Completes}
 use Rattle.rkt_source.specs.Source.{Meaning, Polled}
 use Rattle.rkt_data.specs.Stream.{AsksOnce, Opened, Piped, room_for, Follows, TakesAtMost, IsComplete, whole_of}
-use Rattle.rkt_data.specs.Tap.{ByGate, Ending, ended, ending_of, gave}
+use Rattle.rkt_data.specs.CountedSource.{ByGate, Ending, ended, ending_of, gave}
 use Rattle.rkt_data.specs.declared.capped.N.{N}
 use Rattle.rkt_source.specs.declared.source.Gate.{Gate}
 use Rattle.rkt_source.specs.declared.source.SourceError.{SourceError}
 use Rattle.rkt_data.proofs.Pulls.{front_of, same_front}
-use Rattle.rkt_data.proofs.Taps.{ByGate-refl, ByGate-trans, ByGate-over, ByGate-once, ByGate-gave, ByGate-unmet, SameTap-refl, SameTap-trans, body_same}
+use Rattle.rkt_data.proofs.CountedSources.{ByGate-refl, ByGate-trans, ByGate-over, ByGate-once, ByGate-gave, ByGate-unmet, SameTap-refl, SameTap-trans, body_same}
 
 pub Follows-refl : {S : Type 0} (meaning : S → Meaning) (trip : Option ℕ) (a : Opened S) → Follows meaning trip a a
 Follows-refl meaning trip a = record { front = refl; limit = refl; tap = SameTap-refl meaning trip a.tap }

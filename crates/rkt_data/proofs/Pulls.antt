@@ -5,7 +5,7 @@ use Rattle.std.proofs.Math.Seq.{take-append-add}
 use Rattle.std.proofs.lemmas.List.{take-append-le}
 use Rattle.rkt_source.specs.Source.{Meaning, Keeps, Gives}
 use Rattle.rkt_source.proofs.Sources.{Keeps-trans}
-use Rattle.rkt_data.specs.Tap.{Pulled, Gave}
+use Rattle.rkt_data.specs.CountedSource.{Pulled, Gave}
 
 -- the front of two parts and a rest
 pub front_of : {A : Type 0} (n k : ℕ) (xs buf post : List A) → length xs ≡ n → k ≤ length buf → take (n + k) (xs ++ (buf ++ post)) ≡ xs ++ take k buf

@@ -12,7 +12,7 @@ use Rattle.rkt_data.specs.Sending.{Fed, Calls, CallsAs, Pumps, SentOf, Sends, Se
 use Rattle.rkt_source.specs.Sink.{SinkMeaning, SinkKeeps, SinkWaits, SinkErrs, Gains, Feeds, FeedEnding, FeedsTo}
 use Rattle.rkt_source.specs.Source.{Meaning, Polled}
 use Rattle.rkt_data.specs.Stream.{Opened, Piped, Follows, TakesAtMost}
-use Rattle.rkt_data.specs.Tap.{ByGate, Ending, TapErrs, Tapped, ending_of, gave}
+use Rattle.rkt_data.specs.CountedSource.{ByGate, Ending, TapErrs, Tapped, ending_of, gave}
 use Rattle.rkt_data.specs.declared.error.DataError.{DataError}
 use Rattle.rkt_data.specs.declared.error.DataError.TheVariants as error
 use Rattle.rkt_source.specs.declared.sink.SinkError.{SinkError}
@@ -21,7 +21,7 @@ use Rattle.rkt_source.specs.declared.source.Gate.{Gate}
 use Rattle.rkt_source.specs.declared.source.SourceError.{SourceError}
 use Rattle.rkt_source.specs.declared.source.SourceError.TheVariants as source_error
 use Rattle.rkt_data.proofs.Drains.{Follows-refl, Follows-trans, Gained-none, Gained-trans, Gathered-more, cut-gathered, whole_same}
-use Rattle.rkt_data.proofs.Taps.{ByGate-refl, ByGate-trans}
+use Rattle.rkt_data.proofs.CountedSources.{ByGate-refl, ByGate-trans}
 use Rattle.rkt_source.proofs.Sinks.{FeedsTo-after}
 
 pub SinkKeeps-refl : (m : SinkMeaning) → SinkKeeps m m

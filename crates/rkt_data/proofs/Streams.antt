@@ -5,7 +5,7 @@ use Rattle.std.proofs.lemmas.List.{drop-take, take-append-le}
 use Rattle.std.proofs.lemmas.Bool.{eqb-true, eqb-false}
 use Rattle.rkt_source.specs.Source.{Meaning, Gives}
 use Rattle.rkt_data.specs.Stream.{Drawn, DrawnBy}
-use Rattle.rkt_data.specs.Tap.{Tapped, body}
+use Rattle.rkt_data.specs.CountedSource.{Tapped, body}
 use Rattle.rkt_source.proofs.Sources.{mapped}
 
 -- the front is the beginning of the body

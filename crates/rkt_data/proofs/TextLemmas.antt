@@ -6,7 +6,7 @@ use Rattle.rkt_base.specs.declared.poll.Poll.TheVariants.{Ready}
 use Rattle.rkt_data.specs.Gathering.{Gathered, Draws, IsUsedUp, cause_of, data_error_of}
 use Rattle.rkt_source.specs.Source.{Meaning, Polled}
 use Rattle.rkt_data.specs.Stream.{Opened, Piped, Follows}
-use Rattle.rkt_data.specs.Tap.{Ending, TapErrs}
+use Rattle.rkt_data.specs.CountedSource.{Ending, TapErrs}
 use Rattle.rkt_data.specs.Text.{IsRead, TextFails, TextErr, found_bytes, found_so_far}
 use Rattle.rkt_data.specs.declared.error.DataError.{DataError}
 use Rattle.rkt_data.specs.declared.error.DataError.TheVariants as error
@@ -32,7 +32,7 @@ pub TextErr-failed : {S : Type 0} {meaning : S → Meaning} {polled : Polled S} 
 TextErr-failed o p from old got error.SourceFault h d l f = (f.0, λ q. absurd (omega (arith, q, f.1)))
 TextErr-failed o p from old got error.Gone h d l f = (f.0, λ q. absurd (omega (arith, q, f.1)))
 TextErr-failed o p from old got error.TimedOut h d l f = (f.0, λ q. absurd (omega (arith, q, f.1)))
-TextErr-failed o p from old got (error.NotUtf8 n) h d l f = λ b t. let is = cut-gathered (Gathered-drawn h d) d.follows f.0 l b t in rw (← is) (f.1, f.2)
+TextErr-failed o p from old got (error.NotUtf8 n) h d l f = (f.0, λ b t. let is = cut-gathered (Gathered-drawn h d) d.follows f.0 l b t in rw (← is) (f.1, f.2))
 TextErr-failed o p from old got error.SinkFault h d l f = f
 TextErr-failed o p from old got error.NoMemory h d l f = f
 

@@ -8,7 +8,7 @@ use Rattle.rkt_source.specs.Source.{Meaning, Faulted, Polled}
 use Rattle.rkt_source.specs.declared.source.Gate.{Gate}
 use Rattle.rkt_source.specs.declared.source.SourceError.{SourceError}
 use Rattle.rkt_data.specs.Stream.{Opened, PullsAtMost}
-use Rattle.rkt_data.specs.Tap.{Tapped, ByGate, SameTap, TapWaits, Gave, body}
+use Rattle.rkt_data.specs.CountedSource.{Tapped, ByGate, SameTap, TapWaits, Gave, body}
 
 pub record Body (S : Type 0) : Type 0 where
   -- the bytes held: all of a local body, else those that were peeked
@@ -24,11 +24,13 @@ EndSeen complete m = IsTrue complete → ForSome m.whole (λ w. length w ≤ m.t
 -- what is so of each body, whose buffer has this much room
 abbrev pub HoldsFront : {S : Type 0} → (S → Meaning) → List ℕ → ℕ → Bool → Option (Tapped S) → Type 0
 HoldsFront meaning held room complete None = complete ≡ true
-HoldsFront meaning held room complete (Some t) = Gave (meaning t.begun) (meaning t.now) held × (512 ≤ room) × EndSeen complete (meaning t.now)
+HoldsFront meaning held room complete (Some t) =
+    Gave (meaning t.begun) (meaning t.now) held × (512 ≤ room) × EndSeen complete (meaning t.now)
 
 -- the bytes held are the first of the body, and all of it where it is complete
 abbrev pub FrontOf : {S : Type 0} → (S → Meaning) → Body S → Type 0
-FrontOf meaning b = ForSome (body meaning b.held b.tap) (λ w. (b.held ≡ take (length b.held) w) × (IsTrue b.complete → b.held ≡ w))
+FrontOf meaning b =
+    ForSome (body meaning b.held b.tap) (λ w. (b.held ≡ take (length b.held) w) × (IsTrue b.complete → b.held ≡ w))
 
 -- what an opened body reads from: nothing, where all that it has is held
 abbrev pub opened_tap : {T : Type 0} → Bool → Option T → Option T
@@ -65,7 +67,8 @@ pub record Peeked {S : Type 0} (meaning : S → Meaning) (trip : Option ℕ) (nu
 abbrev pub PeeksByGate : {S X : Type 0} → Polled S → Gate → Poll X → Body S → Body S → Type 0
 PeeksByGate polled gate Pending b c = ByGate polled gate Pending b.tap c.tap
 PeeksByGate polled gate (Ready x) b c =
-    ByGate polled gate (Ready (Ok c.complete)) b.tap c.tap ⊎ ((e : SourceError) × ByGate polled gate (Ready (Err e)) b.tap c.tap)
+    ByGate polled gate (Ready (Ok c.complete)) b.tap c.tap
+    ⊎ ((e : SourceError) × ByGate polled gate (Ready (Err e)) b.tap c.tap)
 
 -- why a peek stopped: enough is held, the end came, a read was refused, or the source was Pending
 abbrev pub PeekStops : {S : Type 0} → (S → Meaning) → ℕ → Body S → Body S → Poll (Unit {0}) → Type 0
@@ -80,5 +83,10 @@ Shows meaning num b c (Ready r) = (r.now ≡ take (min num 512) c.held) × PeekS
 -- a body of which nothing was held, peeked at up to p bytes and then opened, takes at most the greater of p and its limit plus
 -- one from its source, whatever is read of it
 abbrev pub PeekedPulls : {S : Type 0} → (S → Meaning) → Type 0
-PeekedPulls {S} meaning = (trip : Option ℕ) (p : ℕ) (b c : Body S) (o : Opened S) → b.held ≡ [] → Peeked meaning trip p b c → o.front ≡ c.held → PullsAtMost meaning o
+PeekedPulls {S} meaning =
+    (trip : Option ℕ) (p : ℕ) (b c : Body S) (o : Opened S)
+    → b.held ≡ []
+    → Peeked meaning trip p b c
+    → o.front ≡ c.held
+    → PullsAtMost meaning o
     → ForSome o.tap (λ t. (meaning t.now).taken ≤ (meaning t.begun).taken + max p (o.limit + 1))

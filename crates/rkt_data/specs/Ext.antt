@@ -19,23 +19,32 @@ pub record Chunks (R : Type 0) : Type 0 where
 
 -- when a chunk may fail with each error
 abbrev pub ChunkErr : {R : Type 0} → (R → Meaning) → Chunks R → Chunks R → DataError → Type 0
-ChunkErr meaning a b e = Causes (λ cause. (b.ended ≡ true) × Errs cause (meaning a.reader) (meaning b.reader)) ⊥ (λ valid_up_to. ⊥) (b ≡ a) e
+ChunkErr meaning a b e =
+    Causes (λ cause. (b.ended ≡ true) × Errs cause (meaning a.reader) (meaning b.reader)) ⊥ (λ valid_up_to. ⊥) (b ≡ a) e
 
 -- a chunk is the next bytes of the source, and there is none at its end
-abbrev pub ReadsChunk : {R : Type 0} → (R → Meaning) → Chunks R → Chunks R → Poll (Option (Result (Vec ℕ Global) DataError)) → Type 0
+abbrev pub ReadsChunk : {R : Type 0} → (R → Meaning) → Chunks R → Chunks R → Poll (Option (Result (Vec ℕ Global) DataError))
+    → Type 0
 ReadsChunk meaning a b Pending = (b.ended ≡ false) × Waits (meaning a.reader) (meaning b.reader)
-ReadsChunk meaning a b (Ready None) = (b.ended ≡ true) × ForSome (meaning a.reader).whole (λ w. (meaning a.reader).taken ≡ length w)
+ReadsChunk meaning a b (Ready None) =
+    (b.ended ≡ true) × ForSome (meaning a.reader).whole (λ w. (meaning a.reader).taken ≡ length w)
 ReadsChunk meaning a b (Ready (Some (Err e))) = ((meaning b.reader).taken ≡ (meaning a.reader).taken) × ChunkErr meaning a b e
 ReadsChunk meaning a b (Ready (Some (Ok v))) =
-    (b.ended ≡ false) × (0 < length v.items) × (length v.items ≤ a.cap) × ((meaning b.reader).taken ≡ (meaning a.reader).taken + length v.items)
+    (b.ended ≡ false)
+    × (0 < length v.items)
+    × (length v.items ≤ a.cap)
+    × ((meaning b.reader).taken ≡ (meaning a.reader).taken + length v.items)
     × ForSome (meaning a.reader).whole (λ w. v.items ≡ take (length v.items) (drop (meaning a.reader).taken w))
 
-abbrev pub GivesUnlessEnded : {R : Type 0} → (R → Meaning) → Option ℕ → Bool → Chunks R → Chunks R → Poll (Option (Result (Vec ℕ Global) DataError)) → Type 0
+abbrev pub GivesUnlessEnded : {R : Type 0} → (R → Meaning) → Option ℕ → Bool → Chunks R → Chunks R
+    → Poll (Option (Result (Vec ℕ Global) DataError)) → Type 0
 GivesUnlessEnded meaning trip true a b answer = (b ≡ a) × (answer ≡ Ready None)
-GivesUnlessEnded meaning trip false a b answer = Keeps trip (meaning a.reader) (meaning b.reader) × ReadsChunk meaning a b answer
+GivesUnlessEnded meaning trip false a b answer =
+    Keeps trip (meaning a.reader) (meaning b.reader) × ReadsChunk meaning a b answer
 
 -- what a poll for the next chunk answers; once it has ended it answers None
-abbrev pub GivesChunk : {R : Type 0} → (R → Meaning) → Option ℕ → Chunks R → Chunks R → Poll (Option (Result (Vec ℕ Global) DataError)) → Type 0
+abbrev pub GivesChunk : {R : Type 0} → (R → Meaning) → Option ℕ → Chunks R → Chunks R
+    → Poll (Option (Result (Vec ℕ Global) DataError)) → Type 0
 GivesChunk meaning trip a b answer = GivesUnlessEnded meaning trip a.ended a b answer
 
 -- an error comes of a read that it has answered, or of none

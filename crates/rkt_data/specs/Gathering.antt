@@ -6,7 +6,7 @@ use Rattle.rkt_base.specs.declared.poll.Poll.{Poll}
 use Rattle.rkt_base.specs.declared.poll.Poll.TheVariants.{Ready, Pending}
 use Rattle.rkt_source.specs.Source.{Meaning, Polled}
 use Rattle.rkt_data.specs.Stream.{Opened, Piped, Follows, TakesAtMost, IsComplete, cut, whole_of}
-use Rattle.rkt_data.specs.Tap.{ByGate, Ending, TapErrs, TapWaits, ended, gave}
+use Rattle.rkt_data.specs.CountedSource.{ByGate, Ending, TapErrs, TapWaits, ended, gave}
 use Rattle.rkt_data.specs.declared.capped.Capped.{Capped}
 use Rattle.rkt_data.specs.declared.capped.N.{N}
 use Rattle.rkt_data.specs.declared.drain.Drained.{Drained}
@@ -18,8 +18,8 @@ use Rattle.rkt_data.specs.declared.into_bytes.Finished.TheVariants as finished
 use Rattle.rkt_source.specs.declared.source.Gate.{Gate}
 use Rattle.rkt_source.specs.declared.source.SourceError.{SourceError}
 use Rattle.rkt_source.specs.declared.source.SourceError.TheVariants as source_error
-use Rattle.rkt_data.specs.declared.tap.Stop.{Stop}
-use Rattle.rkt_data.specs.declared.tap.Stop.TheVariants as stop
+use Rattle.rkt_data.specs.declared.counted_source.Stop.{Stop}
+use Rattle.rkt_data.specs.declared.counted_source.Stop.TheVariants as stop
 
 pub record Gathering (S : Type 0) : Type 0 where
   pub stream : Opened S
@@ -69,7 +69,8 @@ pub record Gained {S : Type 0} (meaning : S → Meaning) (o p : Opened S) (more 
   pub bytes : ForSome (whole_of meaning o) (λ b. more ≡ take (length more) (drop o.given b))
 
 -- several reads of an opened body under one Gate that have ended so, by which the bytes that a buffer holds became more
-pub record Draws {S : Type 0} (meaning : S → Meaning) (polled : Polled S) (gate : Gate) (how : Ending) (o p : Piped S) (old new : List ℕ) : Type 0 where
+pub record Draws {S : Type 0} (meaning : S → Meaning) (polled : Polled S) (gate : Gate) (how : Ending) (o p : Piped S)
+    (old new : List ℕ) : Type 0 where
   pub follows : Follows meaning gate.tripped o.opened p.opened
   pub by_gate : ByGate polled gate how o.opened.tap p.opened.tap
   pub bound : TakesAtMost meaning p.opened p.opened.limit
@@ -111,7 +112,8 @@ drained_end drained.NoMemory = gave
 -- whether the body has no more than its limit
 abbrev pub Closes : {S : Type 0} → (S → Meaning) → Piped S → Piped S → Poll (Result Bool SourceError) → Type 0
 Closes meaning o p Pending = (p.probed ≡ false) × TapWaits meaning o.opened.tap p.opened.tap
-Closes meaning o p (Ready (Err e)) = (p.probed ≡ false) × (p.opened.given ≡ p.opened.limit) × TapErrs meaning e o.opened.tap p.opened.tap
+Closes meaning o p (Ready (Err e)) =
+    (p.probed ≡ false) × (p.opened.given ≡ p.opened.limit) × TapErrs meaning e o.opened.tap p.opened.tap
 Closes meaning o p (Ready (Ok complete)) = ForSome (whole_of meaning o.opened) (λ b. IsComplete complete b o.opened.limit)
 
 -- when a reading of bytes may fail with each error
@@ -120,7 +122,10 @@ BytesErr meaning o p e = Causes (λ cause. TapErrs meaning cause o.tap p.tap) �
 
 -- how far a poll has come
 abbrev pub Finishes : {S : Type 0} → (S → Meaning) → Piped S → Piped S → Finished → Type 0
-Finishes meaning o p (finished.Bytes complete) = IsUsedUp meaning p.opened × (p.opened.given ≤ p.opened.limit) × ForSome (whole_of meaning o.opened) (λ b. IsComplete complete b o.opened.limit)
+Finishes meaning o p (finished.Bytes complete) =
+    IsUsedUp meaning p.opened
+    × (p.opened.given ≤ p.opened.limit)
+    × ForSome (whole_of meaning o.opened) (λ b. IsComplete complete b o.opened.limit)
 Finishes meaning o p finished.Waiting = (p.probed ≡ false) × TapWaits meaning o.opened.tap p.opened.tap
 Finishes meaning o p (finished.Failed e) = BytesErr meaning o.opened p.opened e
 
@@ -138,10 +143,13 @@ Gathers meaning p from got None false = Gathered meaning p.opened from got × (p
 
 -- the value is the body from that position on, cut at the limit; n counts it and says whether the body has no more
 abbrev pub Completes : {S : Type 0} → (S → Meaning) → Opened S → ℕ → List ℕ → N → Type 0
-Completes meaning o from value n = (n.written ≡ length value) × ForSome (whole_of meaning o) (λ b. (value ≡ cut_from from b o.limit) × IsComplete n.complete b o.limit)
+Completes meaning o from value n =
+    (n.written ≡ length value)
+    × ForSome (whole_of meaning o) (λ b. (value ≡ cut_from from b o.limit) × IsComplete n.complete b o.limit)
 
 -- what a poll answers that gathers bytes
-abbrev pub GathersBytes : {S : Type 0} → (S → Meaning) → Gathering S → Gathering S → Poll (Result (Capped (Vec ℕ Global)) DataError) → Type 0
+abbrev pub GathersBytes : {S : Type 0} → (S → Meaning) → Gathering S → Gathering S
+    → Poll (Result (Capped (Vec ℕ Global)) DataError) → Type 0
 GathersBytes meaning a b Pending = (b.failed ≡ None) × (b.done ≡ false) × TapWaits meaning a.stream.tap b.stream.tap
 GathersBytes meaning a b (Ready (Err e)) = (b.failed ≡ Some e) × (b.done ≡ false) × BytesErr meaning a.stream b.stream e
 GathersBytes meaning a b (Ready (Ok c)) = (b.done ≡ true) × Completes meaning a.stream a.from c.value.items c.n

@@ -1,7 +1,7 @@
 pub mod Body
+pub mod CountedSource
 pub mod Ext
 pub mod Gathering
 pub mod Sending
 pub mod Stream
-pub mod Tap
 pub mod Text

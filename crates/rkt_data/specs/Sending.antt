@@ -8,14 +8,14 @@ use Rattle.rkt_data.specs.Gathering.{Causes, Gained, Gathered, IsUsedUp, cut_fro
 use Rattle.rkt_source.specs.Sink.{SinkMeaning, SinkKeeps, SinkWaits, SinkFaulted, SinkErrs, Gains, FeedEnding, FeedsTo}
 use Rattle.rkt_source.specs.Source.{Meaning, Polled}
 use Rattle.rkt_data.specs.Stream.{Opened, Piped, Follows, TakesAtMost, IsComplete, whole_of}
-use Rattle.rkt_data.specs.Tap.{Tapped, ByGate, Ending, TapErrs, TapWaits, gave}
+use Rattle.rkt_data.specs.CountedSource.{Tapped, ByGate, Ending, TapErrs, TapWaits, gave}
 use Rattle.rkt_data.specs.declared.capped.N.{N}
 use Rattle.rkt_data.specs.declared.error.DataError.{DataError}
 use Rattle.rkt_data.specs.declared.error.DataError.TheVariants as error
-use Rattle.rkt_data.specs.declared.pump.Pumped.{Pumped}
-use Rattle.rkt_data.specs.declared.pump.Pumped.TheVariants as pumped
-use Rattle.rkt_data.specs.declared.pump.Sent.{Sent}
-use Rattle.rkt_data.specs.declared.pump.Sent.TheVariants as sent
+use Rattle.rkt_data.specs.declared.copy.Copied.{Copied}
+use Rattle.rkt_data.specs.declared.copy.Copied.TheVariants as pumped
+use Rattle.rkt_data.specs.declared.copy.Sent.{Sent}
+use Rattle.rkt_data.specs.declared.copy.Sent.TheVariants as sent
 use Rattle.rkt_source.specs.declared.sink.SinkError.{SinkError}
 use Rattle.rkt_source.specs.declared.sink.SinkError.TheVariants as sink_error
 use Rattle.rkt_source.specs.declared.source.Gate.{Gate}
@@ -48,7 +48,8 @@ between at end buf = take (end - at) (drop at buf)
 
 -- what was sent and what is pending are the bytes read since the sender was made; the sink has gained what was sent
 abbrev pub SentOf : {S K : Type 0} → (S → Meaning) → (K → SinkMeaning) → Opened S → Fed K → ℕ → List ℕ → Type 0
-SentOf meaning sinks o fed from pending = (out : List ℕ) × Gathered meaning o from (out ++ pending) × Gains (sinks fed.begun) (sinks fed.now) out
+SentOf meaning sinks o fed from pending =
+    (out : List ℕ) × Gathered meaning o from (out ++ pending) × Gains (sinks fed.begun) (sinks fed.now) out
 
 -- a buffer, where there is one, is not empty
 abbrev pub HasRoom : Option (Vec ℕ Global) → Type 0
@@ -57,7 +58,11 @@ HasRoom (Some v) = 0 < length v.items
 
 -- the sink has gained the first bytes of the body from that position on, cut at the limit, as many as were sent
 abbrev pub Sends : {S K : Type 0} → (S → Meaning) → (K → SinkMeaning) → Opened S → Fed K → ℕ → ℕ → Type 0
-Sends meaning sinks o fed from n = (out : List ℕ) × (length out ≡ n) × Gains (sinks fed.begun) (sinks fed.now) out × ForSome (whole_of meaning o) (λ b. out ≡ take n (cut_from from b o.limit))
+Sends meaning sinks o fed from n =
+    (out : List ℕ)
+    × (length out ≡ n)
+    × Gains (sinks fed.begun) (sinks fed.now) out
+    × ForSome (whole_of meaning o) (λ b. out ≡ take n (cut_from from b o.limit))
 
 -- how sending one piece stopped, n bytes of which were taken
 abbrev pub SendStops : {K : Type 0} → (K → SinkMeaning) → K → K → ℕ → ℕ → Sent → Type 0
@@ -76,7 +81,8 @@ sent_end sent.Waiting = Pending
 sent_end (sent.Failed e) = Ready (Err e)
 
 -- the reads of a call were under this Gate alone and have ended so, and so have its writes, by which the sink took these bytes
-abbrev pub Calls : {S K : Type 0} → Polled S → (K → List ℕ → Poll (Result ℕ SinkError) → K → Type 0) → Gate → Ending → FeedEnding → Option (Tapped S) → Option (Tapped S) → K → List ℕ → K → Type 0
+abbrev pub Calls : {S K : Type 0} → Polled S → (K → List ℕ → Poll (Result ℕ SinkError) → K → Type 0) → Gate → Ending
+    → FeedEnding → Option (Tapped S) → Option (Tapped S) → K → List ℕ → K → Type 0
 Calls polled written gate reads writes t u k bytes l = ByGate polled gate reads t u × FeedsTo written writes k bytes l
 
 -- an answer without its value: of one that is no error, that the end may have been met
@@ -87,10 +93,12 @@ outcome_of (Ready (Err e)) = Ready (Err e)
 
 -- what the answer of a call tells of its reads and writes: none was refused or Pending but the last, of which the answer comes;
 -- for want of memory there may be no such call, and the end may have been met only where nothing is left to be sent
-abbrev pub CallsAs : {S K : Type 0} → Polled S → (K → List ℕ → Poll (Result ℕ SinkError) → K → Type 0) → Gate → Poll (Result Bool DataError) → Option (Tapped S) → Option (Tapped S) → K → List ℕ → K → Type 0
+abbrev pub CallsAs : {S K : Type 0} → Polled S → (K → List ℕ → Poll (Result ℕ SinkError) → K → Type 0) → Gate
+    → Poll (Result Bool DataError) → Option (Tapped S) → Option (Tapped S) → K → List ℕ → K → Type 0
 CallsAs polled written gate Pending t u k bytes l =
     Calls polled written gate Pending (Ready (Ok tt)) t u k bytes l ⊎ Calls polled written gate gave Pending t u k bytes l
-CallsAs polled written gate (Ready (Ok over)) t u k bytes l = Calls polled written gate (Ready (Ok over)) (Ready (Ok tt)) t u k bytes l
+CallsAs polled written gate (Ready (Ok over)) t u k bytes l =
+    Calls polled written gate (Ready (Ok over)) (Ready (Ok tt)) t u k bytes l
 CallsAs polled written gate (Ready (Err e)) t u k bytes l = Causes
     (λ cause. Calls polled written gate (Ready (Err cause)) (Ready (Ok tt)) t u k bytes l)
     (Calls polled written gate gave (Ready (Err sink_error.SinkFault)) t u k bytes l)
@@ -101,7 +109,9 @@ CallsAs polled written gate (Ready (Err e)) t u k bytes l = Causes
 
 -- reads and writes of a call that answers so, by which the bytes that are pending became others: what was pending and what was
 -- read is what was sent and what is pending now
-pub record Pumps {S K : Type 0} (meaning : S → Meaning) (polled : Polled S) (sinks : K → SinkMeaning) (written : K → List ℕ → Poll (Result ℕ SinkError) → K → Type 0) (gate : Gate) (answer : Poll (Result Bool DataError)) (o p : Piped S) (k l : K) (old new : List ℕ) : Type 0 where
+pub record Pumps {S K : Type 0} (meaning : S → Meaning) (polled : Polled S) (sinks : K → SinkMeaning)
+    (written : K → List ℕ → Poll (Result ℕ SinkError) → K → Type 0) (gate : Gate) (answer : Poll (Result Bool DataError))
+    (o p : Piped S) (k l : K) (old new : List ℕ) : Type 0 where
   pub follows : Follows meaning gate.tripped o.opened p.opened
   pub bound : TakesAtMost meaning p.opened p.opened.limit
   pub not_probed : p.probed ≡ false
@@ -117,42 +127,50 @@ pub record Pumps {S K : Type 0} (meaning : S → Meaning) (polled : Polled S) (s
       → CallsAs polled written gate (Ready (Ok false)) o.opened.tap p.opened.tap k out l
 
 -- reads and writes of a call that answers so, by which the sink took the bytes of the body between two positions
-pub record SendsNext {S K : Type 0} (meaning : S → Meaning) (polled : Polled S) (written : K → List ℕ → Poll (Result ℕ SinkError) → K → Type 0) (gate : Gate) (answer : Poll (Result Bool DataError)) (o p : Opened S) (k l : K) (at next : ℕ) : Type 0 where
+pub record SendsNext {S K : Type 0} (meaning : S → Meaning) (polled : Polled S)
+    (written : K → List ℕ → Poll (Result ℕ SinkError) → K → Type 0) (gate : Gate) (answer : Poll (Result Bool DataError))
+    (o p : Opened S) (k l : K) (at next : ℕ) : Type 0 where
   pub bytes : List ℕ
   pub calls : CallsAs polled written gate answer o.tap p.tap k bytes l
   pub count : next ≡ at + length bytes
   pub are : ForSome (whole_of meaning o) (λ b. bytes ≡ take (length bytes) (drop at b))
 
 -- a poll that answers so sent the next bytes of the body
-abbrev pub SendsBy : {S K X : Type 0} → (S → Meaning) → Polled S → (K → List ℕ → Poll (Result ℕ SinkError) → K → Type 0) → Gate → Poll (Result X DataError) → Sending S K → Sending S K → Type 0
-SendsBy meaning polled written gate answer a b = SendsNext meaning polled written gate (outcome_of answer) a.stream b.stream a.sink.now b.sink.now (a.from + a.sent) (b.from + b.sent)
+abbrev pub SendsBy : {S K X : Type 0} → (S → Meaning) → Polled S → (K → List ℕ → Poll (Result ℕ SinkError) → K → Type 0) → Gate
+    → Poll (Result X DataError) → Sending S K → Sending S K → Type 0
+SendsBy meaning polled written gate answer a b =
+    SendsNext meaning polled written gate (outcome_of answer) a.stream b.stream a.sink.now b.sink.now (a.from + a.sent)
+    (b.from + b.sent)
 
 -- how far into the body a sender has sent
 abbrev pub place_of : {S K : Type 0} → SentState S K → ℕ
 place_of a = a.from + (a.piped.opened.given - (a.from + length a.pending))
 
 -- a sender that answers so sent the next bytes of the body
-abbrev pub SenderSends : {S K : Type 0} → (S → Meaning) → Polled S → (K → List ℕ → Poll (Result ℕ SinkError) → K → Type 0) → Gate
+abbrev pub SenderSends : {S K : Type 0} → (S → Meaning) → Polled S → (K → List ℕ → Poll (Result ℕ SinkError) → K → Type 0)
+    → Gate
     → Poll (Result Bool DataError) → SentState S K → SentState S K → Type 0
 SenderSends meaning polled written gate answer a b =
     SendsNext meaning polled written gate answer a.piped.opened b.piped.opened a.sink.now b.sink.now (place_of a) (place_of b)
 
 -- when sending may fail with each error
 abbrev pub SendErr : {S K : Type 0} → (S → Meaning) → (K → SinkMeaning) → Opened S → Opened S → K → K → DataError → Type 0
-SendErr meaning sinks o p k l e = Causes (λ cause. TapErrs meaning cause o.tap p.tap) (SinkFaulted (sinks k) (sinks l)) (λ valid_up_to. ⊥) ⊤ e
+SendErr meaning sinks o p k l e =
+    Causes (λ cause. TapErrs meaning cause o.tap p.tap) (SinkFaulted (sinks k) (sinks l)) (λ valid_up_to. ⊥) ⊤ e
 
 -- the source or the sink was Pending
 abbrev pub SendWaits : {S K : Type 0} → (S → Meaning) → (K → SinkMeaning) → Opened S → Opened S → K → K → Type 0
 SendWaits meaning sinks o p k l = TapWaits meaning o.tap p.tap ⊎ SinkWaits (sinks k) (sinks l)
 
 -- why sending stopped
-abbrev pub PumpStops : {S K : Type 0} → (S → Meaning) → (K → SinkMeaning) → Opened S → Opened S → K → K → List ℕ → Pumped → Type 0
+abbrev pub PumpStops : {S K : Type 0} → (S → Meaning) → (K → SinkMeaning) → Opened S → Opened S → K → K → List ℕ → Copied
+    → Type 0
 PumpStops meaning sinks o p k l pending pumped.Done = IsUsedUp meaning p × (pending ≡ [])
 PumpStops meaning sinks o p k l pending pumped.Waiting = SendWaits meaning sinks o p k l
 PumpStops meaning sinks o p k l pending (pumped.Failed e) = SendErr meaning sinks o p k l e
 
 -- what sending answers then
-abbrev pub pumped_answer : Pumped → Poll (Result Bool DataError)
+abbrev pub pumped_answer : Copied → Poll (Result Bool DataError)
 pumped_answer pumped.Done = Ready (Ok true)
 pumped_answer pumped.Waiting = Pending
 pumped_answer (pumped.Failed e) = Ready (Err e)
@@ -168,13 +186,24 @@ abbrev pub SentAll : {S : Type 0} → (S → Meaning) → Opened S → ℕ → �
 SentAll meaning o from n = ForSome (whole_of meaning o) (λ b. n ≡ length (cut_from from b o.limit))
 
 -- what a poll answers that sends
-abbrev pub AnswersSent : {S K : Type 0} → (S → Meaning) → (K → SinkMeaning) → Sending S K → Sending S K → Poll (Result N DataError) → Type 0
-AnswersSent meaning sinks a b Pending = (b.failed ≡ None) × (b.done ≡ false) × SendWaits meaning sinks a.stream b.stream a.sink.now b.sink.now
-AnswersSent meaning sinks a b (Ready (Err e)) = (b.failed ≡ Some e) × (b.done ≡ false) × SendErr meaning sinks a.stream b.stream a.sink.now b.sink.now e
-AnswersSent meaning sinks a b (Ready (Ok n)) = (b.done ≡ true) × (n.written ≡ b.sent) × SentAll meaning a.stream a.from b.sent × ForSome (whole_of meaning a.stream) (λ w. IsComplete n.complete w a.stream.limit)
+abbrev pub AnswersSent : {S K : Type 0} → (S → Meaning) → (K → SinkMeaning) → Sending S K → Sending S K
+    → Poll (Result N DataError) → Type 0
+AnswersSent meaning sinks a b Pending =
+    (b.failed ≡ None) × (b.done ≡ false) × SendWaits meaning sinks a.stream b.stream a.sink.now b.sink.now
+AnswersSent meaning sinks a b (Ready (Err e)) =
+    (b.failed ≡ Some e) × (b.done ≡ false) × SendErr meaning sinks a.stream b.stream a.sink.now b.sink.now e
+AnswersSent meaning sinks a b (Ready (Ok n)) =
+    (b.done ≡ true)
+    × (n.written ≡ b.sent)
+    × SentAll meaning a.stream a.from b.sent
+    × ForSome (whole_of meaning a.stream) (λ w. IsComplete n.complete w a.stream.limit)
 
 -- what a poll answers that sends and does not look past the limit
-abbrev pub AnswersPrecise : {S K : Type 0} → (S → Meaning) → (K → SinkMeaning) → Sending S K → Sending S K → Poll (Result ℕ DataError) → Type 0
-AnswersPrecise meaning sinks a b Pending = (b.failed ≡ None) × (b.done ≡ false) × SendWaits meaning sinks a.stream b.stream a.sink.now b.sink.now
-AnswersPrecise meaning sinks a b (Ready (Err e)) = (b.failed ≡ Some e) × (b.done ≡ false) × SendErr meaning sinks a.stream b.stream a.sink.now b.sink.now e
-AnswersPrecise meaning sinks a b (Ready (Ok written)) = (b.done ≡ true) × (written ≡ b.sent) × SentAll meaning a.stream a.from b.sent
+abbrev pub AnswersPrecise : {S K : Type 0} → (S → Meaning) → (K → SinkMeaning) → Sending S K → Sending S K
+    → Poll (Result ℕ DataError) → Type 0
+AnswersPrecise meaning sinks a b Pending =
+    (b.failed ≡ None) × (b.done ≡ false) × SendWaits meaning sinks a.stream b.stream a.sink.now b.sink.now
+AnswersPrecise meaning sinks a b (Ready (Err e)) =
+    (b.failed ≡ Some e) × (b.done ≡ false) × SendErr meaning sinks a.stream b.stream a.sink.now b.sink.now e
+AnswersPrecise meaning sinks a b (Ready (Ok written)) =
+    (b.done ≡ true) × (written ≡ b.sent) × SentAll meaning a.stream a.from b.sent

@@ -5,7 +5,7 @@ use Rattle.rkt_base.specs.declared.poll.Poll.{Poll}
 use Rattle.rkt_base.specs.declared.poll.Poll.TheVariants.{Ready, Pending}
 use Rattle.rkt_source.specs.Source.{Meaning, Polled}
 use Rattle.rkt_source.specs.declared.source.Gate.{Gate}
-use Rattle.rkt_data.specs.Tap.{Tapped, SameTap, TapErrs, TapWaits, AsksTap, body}
+use Rattle.rkt_data.specs.CountedSource.{Tapped, SameTap, TapErrs, TapWaits, AsksTap, body}
 use Rattle.rkt_source.specs.declared.source.SourceError.{SourceError}
 
 pub record Opened (S : Type 0) : Type 0 where
@@ -76,11 +76,15 @@ pub record Follows {S : Type 0} (meaning : S → Meaning) (trip : Option ℕ) (o
 abbrev pub Reads : {S : Type 0} → (S → Meaning) → Opened S → Opened S → List ℕ → List ℕ → Poll (Result ℕ SourceError) → Type 0
 Reads meaning o p old new Pending = (p.given ≡ o.given) × TapWaits meaning o.tap p.tap
 Reads meaning o p old new (Ready (Err e)) = (p.given ≡ o.given) × (o.given < o.limit) × TapErrs meaning e o.tap p.tap
-Reads meaning o p old new (Ready (Ok n)) = (n ≤ length old) × (p.given ≡ o.given + n)
-    × ForSome (whole_of meaning o) (λ b. (take n new ≡ take n (drop o.given b)) × (0 < length old → o.given < o.limit → n ≡ 0 → length b ≤ o.given))
+Reads meaning o p old new (Ready (Ok n)) =
+    (n ≤ length old)
+    × (p.given ≡ o.given + n)
+    × ForSome (whole_of meaning o) (λ b.
+    (take n new ≡ take n (drop o.given b)) × (0 < length old → o.given < o.limit → n ≡ 0 → length b ≤ o.given))
 
 -- whether the body ends at its limit, all of which was given
 abbrev pub Probes : {S : Type 0} → (S → Meaning) → Piped S → Piped S → Poll (Result Bool SourceError) → Type 0
 Probes meaning o p Pending = (p.probed ≡ false) × TapWaits meaning o.opened.tap p.opened.tap
 Probes meaning o p (Ready (Err e)) = (p.probed ≡ false) × TapErrs meaning e o.opened.tap p.opened.tap
-Probes meaning o p (Ready (Ok complete)) = ForSome (whole_of meaning o.opened) (λ b. (IsTrue complete → length b ≤ o.opened.given) × (complete ≡ false → o.opened.given < length b))
+Probes meaning o p (Ready (Ok complete)) = ForSome (whole_of meaning o.opened) (λ b.
+    (IsTrue complete → length b ≤ o.opened.given) × (complete ≡ false → o.opened.given < length b))

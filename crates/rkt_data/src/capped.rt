@@ -117,7 +117,8 @@ impl<T> DerefMut for Capped<T> {
 
     fn deref_mut(&mut self) -> &mut T
         ensures shows { result.now ≡ self.old.value }
-        ensures* writes_back { sem 𝓛 (Lends (the_row T.row) T.row self.entry result (λ value. record self.old { value = value })) }
+        ensures* writes_back { sem 𝓛 (Lends (the_row T.row) T.row self.entry result (λ value.
+            record self.old { value = value })) }
     {
         &mut self.value
     }

@@ -2,9 +2,9 @@
 ghost use Rattle.std.specs.Prelude.{◌≡◌, [], IfOk, IsTrue, false, min, take, true};
 ghost use Rattle.rkt_data.specs.Body.{PeekedPulls, opened_tap};
 
+use crate::counted_source::{CountedSource, Stop, top_up};
 use crate::data_stream::{ByteUnit, DataStream};
-use crate::pipe::Pipe;
-use crate::tap::{Stop, Tap, top_up};
+use crate::limited_reader::LimitedReader;
 use rkt_base::{NoMemory, Poll};
 use rkt_source::{Gate, Source};
 use std::alloc::Global;
@@ -19,20 +19,21 @@ pub const PEEK_BYTES: usize = 512;
 pub struct Data<S: Source> {
     bytes: Vec<u8>,
     held: usize,
-    tap: Option<Tap<S>>,
+    tap: Option<CountedSource<S>>,
     complete: bool,
 }
 
 impl<S: Source> Model for Data<S> {
     ghost use Rattle.rkt_data.specs.Body.{Body, HoldsFront};
-    ghost use Rattle.rkt_data.specs.Tap.{tapped};
+    ghost use Rattle.rkt_data.specs.CountedSource.{tapped};
     ghost use Rattle.std.specs.Prelude.{◌≤◌, take, vec_len};
 
     ghost Value = { Body S };
 
     ghost view = { λ d. record { held = take d.held d.bytes.items; tap = tapped d.tap; complete = d.complete } };
 
-    ghost invariant = { λ d. HoldsFront S.meaning (take d.held d.bytes.items) (vec_len d.bytes) d.complete (tapped d.tap) × (d.held ≤ vec_len d.bytes) };
+    ghost invariant = { λ d. HoldsFront S.meaning (take d.held d.bytes.items) (vec_len d.bytes) d.complete (tapped d.tap)
+        × (d.held ≤ vec_len d.bytes) };
 }
 
 impl<S: Source> Data<S> {
@@ -65,7 +66,7 @@ impl<S: Source> Data<S> {
         Ok(Data {
             bytes,
             held: 0,
-            tap: Some(Tap { source, begun }),
+            tap: Some(CountedSource { source, begun }),
             complete: false,
         })
     }
@@ -81,7 +82,8 @@ impl<S: Source> Data<S> {
     /// Opens the body for reading, up to a limit. Where a peek has met the end, the source is let go: all that the body
     /// has is held, and nothing asks the source again.
     pub fn open(self, limit: ByteUnit) -> DataStream<S>
-        ensures opened { result ≡ record { front = self.held; tap = opened_tap self.complete self.tap; limit = limit.0; given = 0 } }
+        ensures opened { result
+            ≡ record { front = self.held; tap = opened_tap self.complete self.tap; limit = limit.0; given = 0 } }
         ensures bound { PullsAtMost S.meaning result }
     {
         let Data {
@@ -91,7 +93,7 @@ impl<S: Source> Data<S> {
             complete,
         } = self;
         let tap = unless_complete(complete, tap);
-        DataStream::new(Pipe::new(bytes, held, tap, limit.0))
+        DataStream::new(LimitedReader::new(bytes, held, tap, limit.0))
     }
 
     // The bytes that a peek shows.

@@ -1,7 +1,7 @@
 //! An opened body.
 ghost use Rattle.std.specs.Prelude.{◌≡◌, ◌-◌, ◌≤◌, Ok, false, length, min};
 
-use crate::pipe::Pipe;
+use crate::limited_reader::LimitedReader;
 use rkt_base::Poll;
 use rkt_source::{Gate, Source, SourceError};
 use std::marker::Model;
@@ -13,7 +13,7 @@ pub struct ByteUnit(pub u64);
 /// Gives the bytes of a body, up to its limit.
 #[derive(Drop)]
 pub struct DataStream<S: Source> {
-    pipe: Pipe<S>,
+    pipe: LimitedReader<S>,
 }
 
 impl<S: Source> Model for DataStream<S> {
@@ -30,14 +30,14 @@ impl<S: Source> Model for DataStream<S> {
 impl<S: Source> DataStream<S> {
     ghost use Rattle.rkt_data.specs.Stream.{AsksOnce, Follows, Reads, TakesAtMost, room_for};
 
-    pub(crate) fn new(pipe: Pipe<S>) -> DataStream<S>
+    pub(crate) fn new(pipe: LimitedReader<S>) -> DataStream<S>
         requires { pipe.probed ≡ false }
         ensures { result ≡ pipe.opened }
     {
         DataStream { pipe }
     }
 
-    pub(crate) fn into_pipe(self) -> Pipe<S>
+    pub(crate) fn into_pipe(self) -> LimitedReader<S>
         ensures { result ≡ record { opened = self; probed = false } }
     {
         self.pipe

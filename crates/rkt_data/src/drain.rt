@@ -1,15 +1,13 @@
 //! Reads all of an opened body, up to its limit.
-ghost use Rattle.std.specs.Prelude.{◌≡◌, ◌≤◌, ◌<◌, None, OnOk, false, length, take, vec_len};
+ghost use Rattle.std.specs.Prelude.{◌≡◌, ◌≤◌, ◌<◌, OnOk, false, length, take, vec_len};
 ghost use Rattle.rkt_data.specs.Gathering.{Draws, Drains, Pours, drained_end};
-ghost use Rattle.rkt_source.specs.Buffer.{items_of};
 ghost use Rattle.rkt_data.specs.Stream.{TakesAtMost};
-ghost use Rattle.rkt_data.specs.Tap.{ending_at};
+ghost use Rattle.rkt_data.specs.CountedSource.{ending_at};
 
-use crate::pipe::Pipe;
-use crate::tap::Stop;
+use crate::counted_source::Stop;
+use crate::limited_reader::LimitedReader;
 use rkt_base::{NoMemory, Poll};
 use rkt_source::{Gate, Source, SourceError};
-use std::alloc::Global;
 
 /// Why reading stopped.
 #[derive(Clone, Copy, Debug, Drop, PartialEq, Eq)]
@@ -22,7 +20,7 @@ pub(crate) enum Drained {
 
 // Reads behind the first `count` bytes of a buffer that grows, and answers how many bytes it has then.
 pub(crate) fn drain<S: Source>(
-    pipe: &mut Pipe<S>,
+    pipe: &mut LimitedReader<S>,
     gate: Gate,
     room: &mut Vec<u8>,
     count: usize,
@@ -30,7 +28,8 @@ pub(crate) fn drain<S: Source>(
     requires not_probed { pipe.old.probed ≡ false }
     requires within { count ≤ vec_len room.old }
     ensures within { result.0 ≤ vec_len room.new }
-    ensures draws { Draws S.meaning S.polled gate (drained_end result.1) pipe.old pipe.new (take count room.old.items) (take result.0 room.new.items) }
+    ensures draws { Draws S.meaning S.polled gate (drained_end result.1) pipe.old pipe.new (take count room.old.items)
+        (take result.0 room.new.items) }
     ensures drains { Drains S.meaning pipe.old.opened pipe.new.opened result.1 }
 {
     let mut n = count;
@@ -53,12 +52,18 @@ pub(crate) fn drain<S: Source>(
 }
 
 // Reads behind the first `count` bytes of a buffer until it is full, and answers how many bytes it has then.
-fn pour<S: Source>(pipe: &mut Pipe<S>, gate: Gate, room: &mut [u8], count: usize) -> (usize, Stop)
+fn pour<S: Source>(
+    pipe: &mut LimitedReader<S>,
+    gate: Gate,
+    room: &mut [u8],
+    count: usize,
+) -> (usize, Stop)
     requires not_probed { pipe.old.probed ≡ false }
     requires within { count ≤ length room.old }
     requires bound { TakesAtMost S.meaning pipe.old.opened pipe.old.opened.limit }
     ensures within { result.0 ≤ length room.new }
-    ensures draws { Draws S.meaning S.polled gate (ending_at result.1) pipe.old pipe.new (take count room.old) (take result.0 room.new) }
+    ensures draws { Draws S.meaning S.polled gate (ending_at result.1) pipe.old pipe.new (take count room.old)
+        (take result.0 room.new) }
     ensures pours { Pours S.meaning pipe.old.opened pipe.new.opened (length room.new) result.0 result.1 }
 {
     let mut n = count;
@@ -71,17 +76,6 @@ fn pour<S: Source>(pipe: &mut Pipe<S>, gate: Gate, room: &mut [u8], count: usize
         }
     }
     (n, Stop::Full)
-}
-
-// The buffer that an earlier poll has left, or a new one.
-pub(crate) fn resume(room: &mut Option<Vec<u8>>, alloc: Global) -> Vec<u8>
-    ensures items { result.items ≡ items_of room.old }
-    ensures taken { room.new ≡ None }
-{
-    match room.take() {
-        Some(room) => room,
-        None => Vec::new(alloc),
-    }
 }
 
 // Makes room for at least one byte more, but for no more than are left: as many as there are at first, then a block. So

@@ -61,7 +61,8 @@ impl<R: Source> ReaderStream<R> {
     ) -> Poll<Option<Result<Vec<u8>, DataError>>>
         ensures cap { self.new.cap ≡ self.old.cap }
         // The source is asked once, for as many bytes as a chunk has, until the end was met, or a fault.
-        ensures by_gate { self.old.ended ≡ false → AsksForChunk R.polled gate self.old.cap self.old.reader result self.new.reader }
+        ensures by_gate { self.old.ended ≡ false
+            → AsksForChunk R.polled gate self.old.cap self.old.reader result self.new.reader }
         ensures answer { GivesChunk R.meaning gate.tripped self.old self.new result }
     {
         if self.ended {

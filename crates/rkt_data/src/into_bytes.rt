@@ -4,22 +4,22 @@ ghost use Rattle.std.specs.Prelude.{◌≡◌, ◌≤◌, ◌++◌, [], Err, Non
 ghost use Rattle.rkt_base.specs.declared.poll.Poll.TheVariants.{Ready};
 ghost use Rattle.rkt_data.specs.Gathering.{Gained, Finishes, finished_end, reads_end};
 ghost use Rattle.rkt_data.specs.Stream.{Follows, PullsAtMost};
-ghost use Rattle.rkt_data.specs.Tap.{ByGate};
+ghost use Rattle.rkt_data.specs.CountedSource.{ByGate};
 
 use crate::capped::{Capped, N};
 use crate::data_stream::DataStream;
-use crate::drain::{Drained, drain, resume};
+use crate::drain::{Drained, drain};
 use crate::error::DataError;
-use crate::pipe::Pipe;
+use crate::limited_reader::LimitedReader;
 use rkt_base::Poll;
-use rkt_source::{Gate, Source};
+use rkt_source::{Gate, Source, resume_buffer};
 use std::alloc::Global;
 use std::marker::Model;
 
 /// Gathers the bytes of an opened body, up to its limit.
 #[derive(Drop)]
 pub struct IntoBytes<S: Source> {
-    pipe: Pipe<S>,
+    pipe: LimitedReader<S>,
     from: u64,
     room: Option<Vec<u8>>,
     count: usize,
@@ -34,9 +34,16 @@ impl<S: Source> Model for IntoBytes<S> {
 
     ghost Value = { Gathering S };
 
-    ghost view = { λ d. record { stream = d.pipe.opened; from = d.from; got = take d.count (items_of d.room); failed = d.failed; done = d.done } };
+    ghost view = { λ d. record {
+      stream = d.pipe.opened;
+      from = d.from;
+      got = take d.count (items_of d.room);
+      failed = d.failed;
+      done = d.done;
+    } };
 
-    ghost invariant = { λ d. Gathers S.meaning d.pipe d.from (take d.count (items_of d.room)) d.failed d.done × (d.count ≤ length (items_of d.room)) };
+    ghost invariant = { λ d. Gathers S.meaning d.pipe d.from (take d.count (items_of d.room)) d.failed d.done
+        × (d.count ≤ length (items_of d.room)) };
 }
 
 impl<S: Source> DataStream<S> {
@@ -64,7 +71,8 @@ impl<S: Source> IntoBytes<S> {
         requires { self.old.done ≡ false }
         ensures from { self.new.from ≡ self.old.from }
         ensures follows { Follows S.meaning gate.tripped self.old.stream self.new.stream }
-        ensures by_gate { self.old.failed ≡ None → ByGate S.polled gate (reads_end result) self.old.stream.tap self.new.stream.tap }
+        ensures by_gate { self.old.failed ≡ None
+            → ByGate S.polled gate (reads_end result) self.old.stream.tap self.new.stream.tap }
         ensures bound { PullsAtMost S.meaning self.new.stream }
         ensures repeats { ForSome self.old.failed (λ e. (result ≡ Ready (Err e)) × (self.new ≡ self.old)) }
         ensures answer { self.old.failed ≡ None → GathersBytes S.meaning self.old self.new result }
@@ -74,7 +82,7 @@ impl<S: Source> IntoBytes<S> {
             let _ = self.pipe.left();
             return Poll::Ready(Err(e));
         }
-        let mut room = resume(&mut self.room, alloc);
+        let mut room = resume_buffer(&mut self.room, alloc);
         let (count, finished) = finish(&mut self.pipe, gate, &mut room, self.count);
         match finished {
             Finished::Bytes(complete) => {
@@ -107,7 +115,7 @@ pub(crate) enum Finished {
 
 // Reads to the limit, and learns whether the body has more.
 fn finish<S: Source>(
-    pipe: &mut Pipe<S>,
+    pipe: &mut LimitedReader<S>,
     gate: Gate,
     room: &mut Vec<u8>,
     count: usize,
@@ -118,7 +126,9 @@ fn finish<S: Source>(
     ensures follows { Follows S.meaning gate.tripped pipe.old.opened pipe.new.opened }
     ensures by_gate { ByGate S.polled gate (finished_end result.1) pipe.old.opened.tap pipe.new.opened.tap }
     ensures bound { PullsAtMost S.meaning pipe.new.opened }
-    ensures gained { (more : _) × (take result.0 room.new.items ≡ take count room.old.items ++ more) × Gained S.meaning pipe.old.opened pipe.new.opened more }
+    ensures gained { (more : _)
+        × (take result.0 room.new.items ≡ take count room.old.items ++ more)
+        × Gained S.meaning pipe.old.opened pipe.new.opened more }
     ensures finishes { Finishes S.meaning pipe.old pipe.new result.1 }
 {
     let (count, drained) = drain(pipe, gate, room, count);

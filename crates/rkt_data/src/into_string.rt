@@ -5,13 +5,13 @@ ghost use Rattle.rkt_base.specs.declared.poll.Poll.TheVariants.{Ready};
 ghost use Rattle.rkt_data.specs.Gathering.{reads_end};
 ghost use Rattle.rkt_data.specs.Text.{Texts, IsRead};
 ghost use Rattle.rkt_data.specs.Stream.{Follows, PullsAtMost};
-ghost use Rattle.rkt_data.specs.Tap.{ByGate};
+ghost use Rattle.rkt_data.specs.CountedSource.{ByGate};
 
 use crate::capped::{Capped, N};
 use crate::data_stream::DataStream;
 use crate::drain::{Drained, drain};
 use crate::error::DataError;
-use crate::pipe::Pipe;
+use crate::limited_reader::LimitedReader;
 use rkt_base::Poll;
 use rkt_source::{Gate, Source};
 use std::alloc::Global;
@@ -27,7 +27,7 @@ pub(crate) enum Found {
 /// Gathers the text of an opened body, up to its limit.
 #[derive(Drop)]
 pub struct IntoString<S: Source> {
-    pipe: Pipe<S>,
+    pipe: LimitedReader<S>,
     from: u64,
     found: Option<Found>,
     failed: Option<DataError>,
@@ -40,7 +40,8 @@ impl<S: Source> Model for IntoString<S> {
 
     ghost Value = { Gathering S };
 
-    ghost view = { λ d. record { stream = d.pipe.opened; from = d.from; got = found_so_far d.found; failed = d.failed; done = d.done } };
+    ghost view = { λ d.
+        record { stream = d.pipe.opened; from = d.from; got = found_so_far d.found; failed = d.failed; done = d.done } };
 
     ghost invariant = { λ d. GathersText S.meaning d.pipe d.from d.found d.failed d.done };
 }
@@ -69,7 +70,8 @@ impl<S: Source> IntoString<S> {
         requires { self.old.done ≡ false }
         ensures from { self.new.from ≡ self.old.from }
         ensures follows { Follows S.meaning gate.tripped self.old.stream self.new.stream }
-        ensures by_gate { self.old.failed ≡ None → ByGate S.polled gate (reads_end result) self.old.stream.tap self.new.stream.tap }
+        ensures by_gate { self.old.failed ≡ None
+            → ByGate S.polled gate (reads_end result) self.old.stream.tap self.new.stream.tap }
         ensures bound { PullsAtMost S.meaning self.new.stream }
         ensures repeats { ForSome self.old.failed (λ e. (result ≡ Ready (Err e)) × (self.new ≡ self.old)) }
         ensures answer { self.old.failed ≡ None → AnswersText S.meaning self.old self.new result }
@@ -135,7 +137,7 @@ fn resume(found: &mut Option<Found>, alloc: Global) -> Found
 }
 
 // Reads to the limit, unless that was done, and takes the bytes for a text.
-fn read_text<S: Source>(pipe: &mut Pipe<S>, gate: Gate, found: Found) -> Texted
+fn read_text<S: Source>(pipe: &mut LimitedReader<S>, gate: Gate, found: Found) -> Texted
     requires not_probed { pipe.old.probed ≡ false }
     requires found { IsRead S.meaning pipe.old.opened (Some found) }
     ensures texts { Texts S.meaning S.polled gate found pipe.old pipe.new result }
@@ -150,7 +152,12 @@ fn read_text<S: Source>(pipe: &mut Pipe<S>, gate: Gate, found: Found) -> Texted
     }
 }
 
-fn read_bytes<S: Source>(pipe: &mut Pipe<S>, gate: Gate, mut room: Vec<u8>, count: usize) -> Texted
+fn read_bytes<S: Source>(
+    pipe: &mut LimitedReader<S>,
+    gate: Gate,
+    mut room: Vec<u8>,
+    count: usize,
+) -> Texted
     requires not_probed { pipe.old.probed ≡ false }
     requires within { count ≤ vec_len room }
     ensures texts { Texts S.meaning S.polled gate (Found.Bytes room count) pipe.old pipe.new result }

@@ -3,6 +3,8 @@
 #![tactic(auto)]
 
 mod capped;
+mod copy;
+mod counted_source;
 mod data;
 mod data_stream;
 mod drain;
@@ -10,12 +12,10 @@ mod error;
 pub mod ext;
 mod into_bytes;
 mod into_string;
+mod limited_reader;
 mod peek;
-mod pipe;
-mod pump;
 mod sender;
 mod stream_to;
-mod tap;
 
 pub use capped::{Capped, N};
 pub use data::{Data, PEEK_BYTES, peeked_pulls};
@@ -24,7 +24,9 @@ pub use error::DataError;
 pub use ext::{AsyncReadExt, PollExt};
 pub use into_bytes::IntoBytes;
 pub use into_string::IntoString;
-pub use rkt_cancel::{CancellableIo, Refused, Stage, cuts_after_grace};
-pub use rkt_source::{Gate, MemorySink, MemorySource, Shut, Sink, SinkError, Source, SourceError};
+pub use rkt_source::{
+    CancellableIo, Gate, MemorySink, MemorySource, Refused, Shut, Sink, SinkError, Source,
+    SourceError, Stage, cuts_after_grace, resume_buffer,
+};
 pub use rkt_stream::{Chain, Join, One, Stream, StreamExt, StreamReader, stream};
 pub use stream_to::{StreamPrecise, StreamTo};

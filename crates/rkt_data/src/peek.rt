@@ -16,7 +16,12 @@ impl<S: Source> Data<S> {
     /// fewer where the body ends or a read is refused.
     pub fn peek(&mut self, gate: Gate, num: usize) -> Poll<&[u8]>
         // Once the loan is over, the body is one that `num` was peeked of, and it was lent as it is then.
-        ensures* peeked { sem 𝓛 (follows_so (the_row S.row (record { meaning = S.meaning; polled = S.polled }) (record { shuts = S.shuts })) (the_row S.row (record { meaning = S.meaning; polled = S.polled }) (record { shuts = S.shuts })) self.entry.ghost_name none (λ _ _. ⊤) (λ after. Peeked S.meaning gate.tripped num self.old after × PeeksByGate S.polled gate result self.old after × Shows S.meaning num self.old after result)) }
+        ensures* peeked { sem 𝓛
+            (follows_so (the_row S.row (record { meaning = S.meaning; polled = S.polled }) (record { shuts = S.shuts }))
+            (the_row S.row (record { meaning = S.meaning; polled = S.polled }) (record { shuts = S.shuts }))
+            self.entry.ghost_name none (λ _ _. ⊤) (λ after. Peeked S.meaning gate.tripped num self.old after
+            × PeeksByGate S.polled gate result self.old after
+            × Shows S.meaning num self.old after result)) }
     {
         match self.fill(gate, num) {
             Poll::Pending => Poll::Pending,

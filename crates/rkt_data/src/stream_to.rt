@@ -7,9 +7,9 @@ ghost use Rattle.rkt_source.specs.Sink.{SinkKeeps};
 ghost use Rattle.rkt_data.specs.Stream.{Follows, PullsAtMost, TakesAtMost};
 
 use crate::capped::N;
+use crate::copy::Copied;
 use crate::data_stream::DataStream;
 use crate::error::DataError;
-use crate::pump::Pumped;
 use crate::sender::Sender;
 use rkt_base::Poll;
 use rkt_source::{Gate, Sink, Source};
@@ -30,7 +30,14 @@ impl<S: Source, K: Sink> Model for StreamTo<S, K> {
 
     ghost Value = { Sending S K };
 
-    ghost view = { λ d. record { stream = d.sender.piped.opened; sink = d.sender.sink; from = d.sender.from; sent = d.sender.piped.opened.given - (d.sender.from + length d.sender.pending); failed = d.failed; done = d.done } };
+    ghost view = { λ d. record {
+      stream = d.sender.piped.opened;
+      sink = d.sender.sink;
+      from = d.sender.from;
+      sent = d.sender.piped.opened.given - (d.sender.from + length d.sender.pending);
+      failed = d.failed;
+      done = d.done;
+    } };
 
     ghost invariant = { λ d. SendsOn d.sender.piped.probed d.failed d.done };
 }
@@ -64,7 +71,8 @@ impl<S: Source, K: Sink> StreamTo<S, K> {
         ensures from { self.new.from ≡ self.old.from }
         ensures begun { self.new.sink.begun ≡ self.old.sink.begun }
         ensures follows { Follows S.meaning gate.tripped self.old.stream self.new.stream }
-        // The source and the sink are asked in turn, and the answer is the last one's. The sink takes the next bytes of the body.
+        // The source and the sink are asked in turn, and the answer is the last one's. The sink takes the next bytes of
+        // the body.
         ensures calls { self.old.failed ≡ None → SendsBy S.meaning S.polled K.written gate result self.old self.new }
         ensures bound { PullsAtMost S.meaning self.new.stream }
         ensures keeps { SinkKeeps (K.meaning self.old.sink.now) (K.meaning self.new.sink.now) }
@@ -78,18 +86,18 @@ impl<S: Source, K: Sink> StreamTo<S, K> {
             return Poll::Ready(Err(e));
         }
         match self.sender.run(alloc, gate) {
-            Pumped::Waiting => {
+            Copied::Waiting => {
                 // For contracts alone: how much was taken from the source and sent so far.
                 let _ = self.sender.sent();
                 Poll::Pending
             }
-            Pumped::Failed(e) => {
+            Copied::Failed(e) => {
                 // For contracts alone: how much was taken from the source and sent so far.
                 let _ = self.sender.sent();
                 self.failed = Some(e);
                 Poll::Ready(Err(e))
             }
-            Pumped::Done => {
+            Copied::Done => {
                 let closed = self.sender.close(gate);
                 let written = self.sender.sent();
                 match closed {
@@ -130,7 +138,14 @@ impl<S: Source, K: Sink> Model for StreamPrecise<S, K> {
 
     ghost Value = { Sending S K };
 
-    ghost view = { λ d. record { stream = d.sender.piped.opened; sink = d.sender.sink; from = d.sender.from; sent = d.sender.piped.opened.given - (d.sender.from + length d.sender.pending); failed = d.failed; done = d.done } };
+    ghost view = { λ d. record {
+      stream = d.sender.piped.opened;
+      sink = d.sender.sink;
+      from = d.sender.from;
+      sent = d.sender.piped.opened.given - (d.sender.from + length d.sender.pending);
+      failed = d.failed;
+      done = d.done;
+    } };
 
     ghost invariant = { λ d. d.sender.piped.probed ≡ false };
 }
@@ -164,7 +179,8 @@ impl<S: Source, K: Sink> StreamPrecise<S, K> {
         ensures from { self.new.from ≡ self.old.from }
         ensures begun { self.new.sink.begun ≡ self.old.sink.begun }
         ensures follows { Follows S.meaning gate.tripped self.old.stream self.new.stream }
-        // The source and the sink are asked in turn, and the answer is the last one's. The sink takes the next bytes of the body.
+        // The source and the sink are asked in turn, and the answer is the last one's. The sink takes the next bytes of
+        // the body.
         ensures calls { self.old.failed ≡ None → SendsBy S.meaning S.polled K.written gate result self.old self.new }
         // No byte past the limit is read.
         ensures bound { TakesAtMost S.meaning self.new.stream self.new.stream.limit }
@@ -181,12 +197,12 @@ impl<S: Source, K: Sink> StreamPrecise<S, K> {
         let pumped = self.sender.run(alloc, gate);
         let written = self.sender.sent();
         match pumped {
-            Pumped::Waiting => Poll::Pending,
-            Pumped::Failed(e) => {
+            Copied::Waiting => Poll::Pending,
+            Copied::Failed(e) => {
                 self.failed = Some(e);
                 Poll::Ready(Err(e))
             }
-            Pumped::Done => {
+            Copied::Done => {
                 self.done = true;
                 Poll::Ready(Ok(written))
             }

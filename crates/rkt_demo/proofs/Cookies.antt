@@ -4,7 +4,7 @@ use Rattle.std.specs.List.{flat_map, list_any}
 use Rattle.rkt_cookie.specs.Cookie.{Parts}
 use Rattle.rkt_cookie.specs.Jar.{addition, is_named, last_changes, sent}
 use Rattle.rkt_cookie.specs.declared.change.Change.{Change}
-use Rattle.rkt_dressing.specs.Dressing.{pending_cookies, settled}
+use Rattle.rkt_dispatch.specs.Finalizing.{pending_cookies, settled}
 use Rattle.rkt_request.specs.Lent.{Kept}
 use Rattle.rkt_sample.specs.Added.{with_added}
 use Rattle.rkt_sample.specs.Replies.{added_by, left_by, told_by}

@@ -15,7 +15,7 @@ use Rattle.rkt_board.specs.Closed.{AllAdmitted}
 use Rattle.rkt_board.specs.Board.{IsCutWithin}
 use Rattle.rkt_board.specs.Events.{is_abandoned, is_trip, was_abandoned, admitted, end_of, InOrder}
 use Rattle.rkt_worker.specs.Headline.{AllTimed, HasEntry}
-use Rattle.rkt_worker.specs.Serving.{gates_of}
+use Rattle.rkt_worker.specs.Serving.{gates_of, launching}
 use Rattle.rkt_link.specs.Listener.{Settled}
 use Rattle.rkt_link.specs.Memory.{LinkInMemory, ListenerInMemory, asked_of, listener_meaning}
 use Rattle.rkt_board.specs.declared.history.End.{End as Ending}
@@ -25,8 +25,8 @@ use Rattle.rkt_board.specs.declared.history.EntryOf.{EntryOf}
 use Rattle.rkt_board.specs.declared.history.EventOf.{EventOf}
 use Rattle.rkt_board.specs.declared.history.EventOf.TheVariants.{Lift, Trip, Admit, End, Down, Close}
 use Rattle.rkt_life.specs.declared.no_fairing.NoFairing.{NoFairing}
-use Rattle.rkt_orbit.specs.Calls.{CallingAtShutdown}
-use Rattle.rkt_lifecycle.specs.declared.ended.RunOf.{RunOf}
+use Rattle.rkt_fairing.specs.Calls.{CallingAtShutdown}
+use Rattle.rkt_exchange.specs.declared.ended.RunOf.{RunOf}
 use Rattle.rkt_sample.specs.Calm.{IsWithinGrace}
 use Rattle.rkt_sample.specs.declared.catcher.SampleCatcher.{SampleCatcher}
 use Rattle.rkt_sample.specs.declared.route.SampleRoute.{SampleRoute}
@@ -71,7 +71,7 @@ timed_end window k (End n other m b ∷ es) entry timed found = by_number (n == 
 
 -- where no word is allowed there is no Trip
 pub none_trips : {Task : Type 0} (allowed : ℕ → Type 0) → ((word : ℕ) → ¬ allowed word) → (shuts : CallingAtShutdown SampleRoute SampleCatcher (Unit {0}) ℕ NoFairing Task) (word : ℕ) (window : Option (ℕ × ℕ)) (tables : SampleTables)
-    (before es : List (EventOf ℕ SourceInMemory LinkInMemory)) → AfterFrom (CauseAt allowed shuts (served_in word window) tables) before es → list_any is_trip es ≡ false
+    (before es : List (EventOf ℕ SourceInMemory LinkInMemory)) → AfterFrom (CauseAt (launching allowed shuts (served_in word window)) tables) before es → list_any is_trip es ≡ false
 none_trips allowed none shuts word window tables before [] caused = refl
 none_trips allowed none shuts word window tables before (Trip w m ∷ es) caused = absurd (none w caused.0)
 none_trips allowed none shuts word window tables before (Lift calls ∷ es) caused = none_trips allowed none shuts word window tables (before ++ Lift calls ∷ []) es caused.1
@@ -82,7 +82,7 @@ none_trips allowed none shuts word window tables before (Close m ∷ es) caused 
 
 -- where there is a Trip, the word of `/stop` is one that may stand
 pub trip_told : {Task : Type 0} (allowed : ℕ → Type 0) (shuts : CallingAtShutdown SampleRoute SampleCatcher (Unit {0}) ℕ NoFairing Task) (word stop : ℕ) (window : Option (ℕ × ℕ)) (tables : SampleTables) → ((w : ℕ) → allowed w → w ≡ stop)
-    → (before es : List (EventOf ℕ SourceInMemory LinkInMemory)) → AfterFrom (CauseAt allowed shuts (served_in word window) tables) before es → AfterFrom InOrder before es → list_any is_trip es ≡ true → 0 < stop
+    → (before es : List (EventOf ℕ SourceInMemory LinkInMemory)) → AfterFrom (CauseAt (launching allowed shuts (served_in word window)) tables) before es → AfterFrom InOrder before es → list_any is_trip es ≡ true → 0 < stop
 trip_told allowed shuts word stop window tables alone before [] caused ordered there = absurd (cc there)
 trip_told allowed shuts word stop window tables alone before (Trip w m ∷ es) caused ordered there = subst (λ (n : ℕ). 0 < n) (alone w caused.0) ordered.0.1.2
 trip_told allowed shuts word stop window tables alone before (Lift calls ∷ es) caused ordered there = trip_told allowed shuts word stop window tables alone (before ++ Lift calls ∷ []) es caused.1 ordered.1 there
@@ -272,7 +272,7 @@ given_front before after asks settled offers =
 
 -- where no word is allowed, a launch admits all that its listener offers
 pub all_served : {Task : Type 0} (allowed : ℕ → Type 0) → ((word : ℕ) → ¬ allowed word) → (shuts : CallingAtShutdown SampleRoute SampleCatcher (Unit {0}) ℕ NoFairing Task) (word : ℕ) (window : Option (ℕ × ℕ)) (tables : SampleTables)
-    (before after : ListenerInMemory) (events : List (EventOf ℕ SourceInMemory LinkInMemory)) (requests : List ScriptRequest) → AllCaused allowed shuts (served_in word window) tables events
+    (before after : ListenerInMemory) (events : List (EventOf ℕ SourceInMemory LinkInMemory)) (requests : List ScriptRequest) → AllCaused (launching allowed shuts (served_in word window)) tables events
     → (list_any is_trip events ≡ false → ForSome (listener_meaning before).offers (λ all. (listener_meaning after).given ≡ Some all)) → AllAdmitted (listener_meaning after).given events → map asked_of before.offered ≡ map asked_for requests
     → admitted events ≡ length requests
 all_served allowed none shuts word window tables before after events requests caused offers all offered =

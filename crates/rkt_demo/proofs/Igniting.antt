@@ -24,7 +24,7 @@ use Rattle.rkt_life.specs.declared.no_fairing.NoFairing.{NoFairing}
 use Rattle.rkt_route.specs.Collisions.{AreCollisions, CatchersCollide, CollidesAt, RoutesCollide}
 use Rattle.rkt_route.specs.declared.catcher.Catcher.{Catcher}
 use Rattle.rkt_route.specs.declared.route.Route.{Route}
-use Rattle.rkt_sentinel.specs.Sentinels.{SeenIgnited}
+use Rattle.rkt_ignition.specs.Sentinels.{SeenIgnited}
 use Rattle.rkt_sample.specs.Mounted.{sample_catchers, sample_routes}
 use Rattle.rkt_sample.specs.declared.catcher.SampleCatcher.{SampleCatcher}
 use Rattle.rkt_sample.specs.declared.route.SampleRoute.{SampleRoute}

@@ -9,9 +9,9 @@ use Rattle.rkt_fairing.specs.declared.slot.Slot.{Slot}
 use Rattle.rkt_fairing.specs.declared.slot.Slot.TheVariants.{Shield}
 use Rattle.rkt_life.specs.Rocket.{SeenRocket}
 use Rattle.rkt_life.specs.declared.no_fairing.NoFairing.{NoFairing}
-use Rattle.rkt_orbit.specs.Calls.{CalledAtLiftoff, CallingAtLiftoff}
-use Rattle.rkt_orbit.specs.Lifts.{Lifting, Lifts, LiftsAt}
-use Rattle.rkt_orbit.specs.declared.called.Called.{Called}
+use Rattle.rkt_fairing.specs.Calls.{CalledAtLiftoff, CallingAtLiftoff}
+use Rattle.rkt_fairing.specs.Lifts.{Lifting, Lifts, LiftsAt}
+use Rattle.rkt_fairing.specs.declared.called.Called.{Called}
 use Rattle.rkt_sample.specs.declared.catcher.SampleCatcher.{SampleCatcher}
 use Rattle.rkt_sample.specs.declared.route.SampleRoute.{SampleRoute}
 use Rattle.rkt_serve.specs.Lifted.{LiftsOff}

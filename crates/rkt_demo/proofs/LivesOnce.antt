@@ -9,14 +9,14 @@ use Rattle.rkt_fairing.specs.InSlot.{shielded}
 use Rattle.rkt_http.specs.Headers.{group_of}
 use Rattle.rkt_http.specs.declared.status.Status.{Status}
 use Rattle.rkt_life.specs.declared.no_fairing.NoFairing.{NoFairing}
-use Rattle.rkt_lifecycle.specs.Beginning.{Over}
-use Rattle.rkt_dressing.specs.Dressing.{pending_cookies, with_body_rule, with_cookies, with_server, without_content}
-use Rattle.rkt_lifecycle.specs.Dressed.{dressed}
-use Rattle.rkt_lifecycle.specs.Lifecycle.{Ends, Lives, Opens}
-use Rattle.rkt_dressing.specs.Overridden.{overridden}
-use Rattle.rkt_lifecycle.specs.Relations.{Relations, callbacks}
-use Rattle.rkt_lifecycle.specs.Tables.{table_of}
-use Rattle.rkt_lifecycle.specs.declared.ended.RunOf.{RunOf}
+use Rattle.rkt_exchange.specs.Beginning.{Over}
+use Rattle.rkt_dispatch.specs.Finalizing.{pending_cookies, with_body_rule, with_cookies, with_server, without_content}
+use Rattle.rkt_exchange.specs.Finalized.{finalized}
+use Rattle.rkt_exchange.specs.Lifecycle.{Ends, Lives, Opens}
+use Rattle.rkt_dispatch.specs.Overridden.{overridden}
+use Rattle.rkt_exchange.specs.Relations.{Relations, callbacks}
+use Rattle.rkt_exchange.specs.Tables.{table_of}
+use Rattle.rkt_exchange.specs.declared.ended.RunOf.{RunOf}
 use Rattle.rkt_media.specs.Media.{Media}
 use Rattle.rkt_message.specs.Body.{stripped}
 use Rattle.rkt_message.specs.Response.{with_body}
@@ -49,7 +49,7 @@ use Rattle.rkt_demo.specs.Shown.{IsMade, LeadsTo, asked_for, served_in}
 use Rattle.rkt_script.specs.Words.{Table}
 use Rattle.rkt_script.specs.declared.script.ScriptRequest.{ScriptRequest}
 
--- what is found is dressed, shielded, and kept to the body rule
+-- what is found is finalized, shielded, and kept to the body rule
 abbrev finished : List ℕ → Bool → List Parts → Response → Response
 finished ident head cookies response = with_body_rule head (shielded default_headers (with_server ident (with_cookies response cookies)))
 
@@ -121,7 +121,7 @@ module _ (table : Table) (tables : SampleTables) (sample : IsSample table tables
       → over.response ≡ finished tables.config.ident (is_head lives.opened.request.method) (pending_cookies lives.found.kept over.moment) lives.found.response
   finishes at calls over lives =
       let asked : lives.asked ≡ lives.opened = asked_nothing (gates_of w tables s) tables.config.turns tables.fairings lives.opened lives.asked lives.before sample.fairings lives.asks in
-      let left = answered_shielded (gates_of w tables s) tables.config.turns tables.fairings (dressed tables.config.ident over.moment lives.found) lives.left lives.behind sample.fairings lives.answers in
+      let left = answered_shielded (gates_of w tables s) tables.config.turns tables.fairings (finalized tables.config.ident over.moment lives.found) lives.left lives.behind sample.fairings lives.answers in
       let head : is_head lives.asked.request.method ≡ is_head lives.opened.request.method = ap (λ (a : RequestAt ℕ Body ℕ). is_head a.request.method) asked in
       lives.response ∙ ap (λ (h : Bool). with_body_rule h lives.left.response) head ∙ ap (with_body_rule (is_head lives.opened.request.method)) left
 

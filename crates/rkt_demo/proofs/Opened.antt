@@ -2,10 +2,10 @@
 use Rattle.std.proofs.Common.{zero, suc, ◌≡◌, ◌≤◌, ◌⊎◌, ◌||◌, inl, inr, ℕ, List, [], ◌∷◌, Bool, true, false, Option, Some, None, length, take, refl, ap, ◌∙◌, sym, arith}
 use Rattle.std.specs.Prelude.{IfSome, IsTrue}
 use Rattle.std.proofs.lemmas.Bool.{false≢true}
-use Rattle.rkt_cancel.specs.Cancel.{Cancellable, is_gone}
+use Rattle.rkt_source.specs.Cancel.{Cancellable, is_gone}
 use Rattle.rkt_data.specs.Body.{WasRefused}
-use Rattle.rkt_data.specs.Tap.{SameTap, Tapped}
-use Rattle.rkt_lifecycle.specs.Peeks.{CutPeekOf, RanBy, cuts}
+use Rattle.rkt_data.specs.CountedSource.{SameTap, Tapped}
+use Rattle.rkt_exchange.specs.Peeks.{CutPeekOf, RanBy, cuts}
 use Rattle.rkt_router.specs.Calls.{GateRule}
 use Rattle.rkt_sample.specs.Bodies.{IsUncut, IsUncutBody, SampleBody, whole}
 use Rattle.rkt_sample.specs.Calm.{IsCalm, StillOpen}

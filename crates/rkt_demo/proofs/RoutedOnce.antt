@@ -22,8 +22,8 @@ use Rattle.rkt_router.specs.declared.turn.Final.{Final}
 use Rattle.rkt_router.specs.declared.turn.Final.TheVariants.{Done}
 use Rattle.rkt_routing.specs.Found.{Found}
 use Rattle.rkt_routing.specs.Relations.{Relations}
-use Rattle.rkt_dressing.specs.Dressing.{settled}
-use Rattle.rkt_routing.specs.Routed.{CatcherReplies, Catches, Chooses, Errors, Fails, Finds, GivesUp, Goes, Retries, RouteCall, Routes, Settles, Steps, Walks, is_head, mounted, turns_of}
+use Rattle.rkt_dispatch.specs.Finalizing.{settled}
+use Rattle.rkt_routing.specs.Routed.{CatcherReplies, Catches, Chooses, HandlesError, Fails, Finds, GivesUp, Goes, Retries, RouteCall, Routes, Settles, InvokesCatcher, TriesRoutes, is_head, mounted, turns_of}
 use Rattle.rkt_routing.specs.Table.{SeenTable}
 use Rattle.rkt_routing.specs.declared.run.Call.{Call}
 use Rattle.rkt_demo.proofs.Choices.{one_chosen, one_next}
@@ -107,13 +107,13 @@ module _ {V B C S H HTask K KTask N : Type 0} (like : Likeness B C S) (rel rel' 
     Going of_ at status calls then_ (Some position) =
         (call : Call) × (rest : List Call) × (reply : Final (Reply S B)) × (after : Kept C) × (call_is : RouteCall of_ table position at call reply after)
         × Goes reply
-        (λ body status'. Walks of_ table (Some position) (record { request = mounted at.request call_is.route position; body = body; kept = after }) status' rest then_)
+        (λ body status'. TriesRoutes of_ table (Some position) (record { request = mounted at.request call_is.route position; body = body; kept = after }) status' rest then_)
         (λ outcome. then_ outcome (mounted at.request call_is.route position) after rest)
 
     abbrev Step : Relations V B C S H HTask K KTask → Option ℕ → RequestAt V B C → Status → List Call → Next V B C S → Type 0
     Step of_ behind at status calls then_ = (next : Option ℕ) × IsNextTry table.router.routes at.request behind next × Going of_ at status calls then_ next
 
-    step_of : (of_ : Relations V B C S H HTask K KTask) (behind : Option ℕ) (at : RequestAt V B C) (status : Status) (calls : List Call) (then_ : Next V B C S) → Walks of_ table behind at status calls then_ → Step of_ behind at status calls then_
+    step_of : (of_ : Relations V B C S H HTask K KTask) (behind : Option ℕ) (at : RequestAt V B C) (status : Status) (calls : List Call) (then_ : Next V B C S) → TriesRoutes of_ table behind at status calls then_ → Step of_ behind at status calls then_
     step_of of_ behind at status [] then_ walks = (None, walks.0, walks.1)
     step_of of_ behind at status (call ∷ calls) then_ walks = by_next walks.0 walks.1 walks.2
       where
@@ -121,7 +121,7 @@ module _ {V B C S H HTask K KTask N : Type 0} (like : Likeness B C S) (rel rel' 
             → MatchOption next (then_ (Forward (at.body, status)) at.request at.kept (call ∷ calls)) (λ position.
             (reply : Final (Reply S B)) × (after : Kept C) × (call_is : RouteCall of_ table position at call reply after)
             × Goes reply
-            (λ body status'. Walks of_ table (Some position) (record { request = mounted at.request call_is.route position; body = body; kept = after }) status' calls then_)
+            (λ body status'. TriesRoutes of_ table (Some position) (record { request = mounted at.request call_is.route position; body = body; kept = after }) status' calls then_)
             (λ outcome. then_ outcome (mounted at.request call_is.route position) after calls))
             → Step of_ behind at status (call ∷ calls) then_
         by_next None is goes = (None, is, goes)
@@ -135,16 +135,16 @@ module _ {V B C S H HTask K KTask N : Type 0} (like : Likeness B C S) (rel rel' 
       -- two walks behind one position
       abbrev More : List Call → Type 0
       More calls = (behind : Option ℕ) (request : Seen V) (body body' : B) (kept kept' : Kept C) (status : Status) (calls' : List Call) → like.bodies body body' → like.kept kept kept'
-          → Walks rel table behind (at_ request body kept) status calls then_ → Walks rel' table behind (at_ request body' kept') status calls' then_' → Goal
+          → TriesRoutes rel table behind (at_ request body kept) status calls then_ → TriesRoutes rel' table behind (at_ request body' kept') status calls' then_' → Goal
 
       -- where both were led on by one route
       routes_on : (position : ℕ) (request : Seen V) (body body' : B) (kept kept' after after' : Kept C) (call call' : Call) (rest rest' : List Call) (reply reply' : Final (Reply S B)) → like.bodies body body' → like.kept kept kept'
           → (call_is : RouteCall rel table position (at_ request body kept) call reply after) (call_is' : RouteCall rel' table position (at_ request body' kept') call' reply' after')
           → Goes reply
-          (λ b s. Walks rel table (Some position) (at_ (mounted request call_is.route position) b after) s rest then_)
+          (λ b s. TriesRoutes rel table (Some position) (at_ (mounted request call_is.route position) b after) s rest then_)
           (λ outcome. then_ outcome (mounted request call_is.route position) after rest)
           → Goes reply'
-          (λ b s. Walks rel' table (Some position) (at_ (mounted request call_is'.route position) b after') s rest' then_')
+          (λ b s. TriesRoutes rel' table (Some position) (at_ (mounted request call_is'.route position) b after') s rest' then_')
           (λ outcome. then_' outcome (mounted request call_is'.route position) after' rest')
           → More rest → Goal
       routes_on position request body body' kept kept' after after' call call' rest rest' reply reply' bodies kepts call_is call_is' goes goes' more =
@@ -153,12 +153,12 @@ module _ {V B C S H HTask K KTask N : Type 0} (like : Likeness B C S) (rel rel' 
           let made' : Made rel'.handlers rel'.gates (turns_of table) route.handler (record { request = mounted request route position; body = body' }) kept' reply' after' =
           subst (λ (r : Route H N). Made rel'.handlers rel'.gates (turns_of table) r.handler (record { request = mounted request r position; body = body' }) kept' reply' after') same call_is'.made in
           let alike = once.handled route.handler (mounted request route position) body body' kept kept' after after' reply reply' bodies kepts call_is.made made' in
-          let on : B → Status → Type 0 = λ b s. Walks rel table (Some position) (at_ (mounted request route position) b after) s rest then_ in
-          let on' : B → Status → Type 0 = λ b s. Walks rel' table (Some position) (at_ (mounted request route position) b after') s rest' then_' in
+          let on : B → Status → Type 0 = λ b s. TriesRoutes rel table (Some position) (at_ (mounted request route position) b after) s rest then_ in
+          let on' : B → Status → Type 0 = λ b s. TriesRoutes rel' table (Some position) (at_ (mounted request route position) b after') s rest' then_' in
           let stop : Reply S B → Type 0 = λ outcome. then_ outcome (mounted request route position) after rest in
           let stop' : Reply S B → Type 0 = λ outcome. then_' outcome (mounted request route position) after' rest' in
           let led' : Goes reply' on' stop' =
-          subst (λ (r : Route H N). Goes reply' (λ b s. Walks rel' table (Some position) (at_ (mounted request r position) b after') s rest' then_') (λ outcome. then_' outcome (mounted request r position) after' rest')) same goes' in
+          subst (λ (r : Route H N). Goes reply' (λ b s. TriesRoutes rel' table (Some position) (at_ (mounted request r position) b after') s rest' then_') (λ outcome. then_' outcome (mounted request r position) after' rest')) same goes' in
           goes_on like alike.answer alike.other on on' stop stop' alike.same
           (subst (λ (r : Final (Reply S B)). Goes r on stop) alike.is goes) (subst (λ (r : Final (Reply S B)). Goes r on' stop') alike.other_is led')
           (λ b b' s like_bodies. more (Some position) (mounted request route position) b b' after after' s rest' like_bodies alike.kept)
@@ -187,7 +187,7 @@ module _ {V B C S H HTask K KTask N : Type 0} (like : Likeness B C S) (rel rel' 
               → MatchOption next (then_ (Forward (body, status)) request kept (call ∷ rest)) (λ position.
               (reply : Final (Reply S B)) × (after : Kept C) × (call_is : RouteCall rel table position (at_ request body kept) call reply after)
               × Goes reply
-              (λ b s. Walks rel table (Some position) (at_ (mounted request call_is.route position) b after) s rest then_)
+              (λ b s. TriesRoutes rel table (Some position) (at_ (mounted request call_is.route position) b after) s rest then_)
               (λ outcome. then_ outcome (mounted request call_is.route position) after rest))
               → Goal
           by_next more None is goes =
@@ -264,7 +264,7 @@ module _ {V B C S H HTask K KTask N : Type 0} (like : Likeness B C S) (rel rel' 
           (fails chooses.1 chooses'.1 calls calls' alike.kept)
 
       steps_once : (status : Status) (request : Seen V) (kept kept' : Kept C) (calls calls' : List Call) (failed failed' : Failing) → like.kept kept kept' → FailsOnce failed failed'
-          → Steps rel table status request kept calls (Finds found) failed → Steps rel' table status request kept' calls' (Finds found') failed' → SameFound like found found'
+          → InvokesCatcher rel table status request kept calls (Finds found) failed → InvokesCatcher rel' table status request kept' calls' (Finds found') failed' → SameFound like found found'
       steps_once status request kept kept' calls calls' failed failed' kepts fails steps steps' =
           let same : steps'.0 ≡ steps.0 = one_chosen table.router.catchers status.code request steps'.0 steps.0 steps'.1 steps.1 in
           chooses_once steps.0 status request (settled kept) (settled kept') calls calls' failed failed' (once.settles kept kept' kepts) fails steps.2
@@ -275,8 +275,8 @@ module _ {V B C S H HTask K KTask N : Type 0} (like : Likeness B C S) (rel rel' 
           both_ways (status.code == 500) failed failed' (gives_up_once request kept kept' calls calls' kepts)
           (steps_once (record { code = 500 }) request kept kept' calls calls' (GivesUp request (Finds found)) (GivesUp request (Finds found')) kepts (gives_up_once request))
 
-      errors_once : (status : Status) (request : Seen V) (kept kept' : Kept C) (calls calls' : List Call) → like.kept kept kept' → Errors rel table status request kept calls (Finds found)
-          → Errors rel' table status request kept' calls' (Finds found') → SameFound like found found'
+      errors_once : (status : Status) (request : Seen V) (kept kept' : Kept C) (calls calls' : List Call) → like.kept kept kept' → HandlesError rel table status request kept calls (Finds found)
+          → HandlesError rel' table status request kept' calls' (Finds found') → SameFound like found found'
       errors_once status request kept kept' calls calls' kepts =
           steps_once status request kept kept' calls calls' (Fails rel table status request (Finds found)) (Fails rel' table status request (Finds found')) kepts (fails_once status request)
 

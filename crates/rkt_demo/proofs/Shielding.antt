@@ -6,9 +6,9 @@ use Rattle.rkt_fairing.specs.Fairings.{SeenFairings}
 use Rattle.rkt_fairing.specs.InSlot.{shielded, slot_request, slot_response}
 use Rattle.rkt_fairing.specs.declared.slot.Slot.TheVariants.{Shield}
 use Rattle.rkt_life.specs.declared.no_fairing.NoFairing.{NoFairing}
-use Rattle.rkt_lifecycle.specs.Answers.{Leads as AnswersLead, Outgoing, answering}
-use Rattle.rkt_lifecycle.specs.Asks.{Leads as AsksLead}
-use Rattle.rkt_lifecycle.specs.Chain.{Chained, Ends}
+use Rattle.rkt_exchange.specs.Answers.{Leads as AnswersLead, Outgoing, answering}
+use Rattle.rkt_exchange.specs.Asks.{Leads as AsksLead}
+use Rattle.rkt_exchange.specs.Chain.{Chained, Ends}
 use Rattle.rkt_request.specs.Seen.{Seen}
 use Rattle.rkt_router.specs.Calls.{GateRule, Made}
 use Rattle.rkt_router.specs.declared.turn.Final.{Final}

@@ -19,8 +19,8 @@ use Rattle.rkt_router.specs.declared.turn.Final.{Final}
 use Rattle.rkt_router.specs.declared.turn.Final.TheVariants.{Done, FailedTurn, Starved}
 use Rattle.rkt_routing.specs.Found.{Found}
 use Rattle.rkt_routing.specs.Relations.{Relations, relations}
-use Rattle.rkt_dressing.specs.Dressing.{settled}
-use Rattle.rkt_routing.specs.Routed.{CatcherReplies, Catches, Chooses, Errors, Fails, Finds, GivesUp, Goes, Retries, RouteCall, Routes, Settles, Steps, Walks, is_head, mounted, turns_of}
+use Rattle.rkt_dispatch.specs.Finalizing.{settled}
+use Rattle.rkt_routing.specs.Routed.{CatcherReplies, Catches, Chooses, HandlesError, Fails, Finds, GivesUp, Goes, Retries, RouteCall, Routes, Settles, InvokesCatcher, TriesRoutes, is_head, mounted, turns_of}
 use Rattle.rkt_routing.specs.Table.{SeenTable}
 use Rattle.rkt_routing.specs.declared.run.Call.{Call}
 use Rattle.rkt_sample.specs.Catching.{answer_of, catch_calling}
@@ -102,7 +102,7 @@ module _ {V B C S H HTask K KTask N : Type 0} (good : ResponseOf S → Type 0) (
         (catcher_good chooses.2.catcher.handler status request kept chooses.1 chooses.0 chooses.2.made) chooses.3 (λ response. finds_good response request chooses.1 calls) (fails chooses.1 calls)
 
     steps_good : (status : Status) (request : Seen V) (kept : Kept C) (calls : List Call) (failed : Kept C → List Call → Type 0) → ((k : Kept C) (cs : List Call) → failed k cs → IsGood)
-        → Steps rel table status request kept calls (Finds found) failed → IsGood
+        → InvokesCatcher rel table status request kept calls (Finds found) failed → IsGood
     steps_good status request kept calls failed fails steps = chooses_good steps.0 status request (settled kept) calls failed fails steps.2
 
     fails_good : (status : Status) (request : Seen V) (kept : Kept C) (calls : List Call) → Fails rel table status request (Finds found) kept calls → IsGood
@@ -110,7 +110,7 @@ module _ {V B C S H HTask K KTask N : Type 0} (good : ResponseOf S → Type 0) (
         either_case (status.code == 500) fails (gives_up_good request kept calls)
         (steps_good (record { code = 500 }) request kept calls (GivesUp request (Finds found)) (gives_up_good request))
 
-    errors_good : (status : Status) (request : Seen V) (kept : Kept C) (calls : List Call) → Errors rel table status request kept calls (Finds found) → IsGood
+    errors_good : (status : Status) (request : Seen V) (kept : Kept C) (calls : List Call) → HandlesError rel table status request kept calls (Finds found) → IsGood
     errors_good status request kept calls = steps_good status request kept calls (Fails rel table status request (Finds found)) (fails_good status request)
 
     settles_good : (reply : Reply S B) (request : Seen V) (kept : Kept C) (calls : List Call) → GoodReply good reply → Settles rel table (Finds found) reply request kept calls → IsGood
@@ -120,22 +120,22 @@ module _ {V B C S H HTask K KTask N : Type 0} (good : ResponseOf S → Type 0) (
 
     module _ (then_ : Reply S B → Seen V → Kept C → List Call → Type 0) (over : (reply : Reply S B) (request : Seen V) (kept : Kept C) (calls : List Call) → GoodReply good reply → then_ reply request kept calls → IsGood) where
       next_good : (at : RequestAt V B C) (status : Status) (call : Call) (calls : List Call) (next : Option ℕ)
-          → ((behind : Option ℕ) (at : RequestAt V B C) (status : Status) → Walks rel table behind at status calls then_ → IsGood)
+          → ((behind : Option ℕ) (at : RequestAt V B C) (status : Status) → TriesRoutes rel table behind at status calls then_ → IsGood)
           → MatchOption next (then_ (Forward (at.body, status)) at.request at.kept (call ∷ calls)) (λ position.
           (reply : Final (Reply S B)) × (after : Kept C) × (call_is : RouteCall rel table position at call reply after)
-          × Goes reply (λ body status'. Walks rel table (Some position) (record { request = mounted at.request call_is.route position; body = body; kept = after }) status' calls then_)
+          × Goes reply (λ body status'. TriesRoutes rel table (Some position) (record { request = mounted at.request call_is.route position; body = body; kept = after }) status' calls then_)
           (λ outcome. then_ outcome (mounted at.request call_is.route position) after calls))
           → IsGood
       next_good at status call calls None more goes = over (Forward (at.body, status)) at.request at.kept (call ∷ calls) tt goes
       next_good at status call calls (Some position) more goes =
           goes_good good goes.0
-          (λ body status'. Walks rel table (Some position) (record { request = mounted at.request goes.2.route position; body = body; kept = goes.1 }) status' calls then_)
+          (λ body status'. TriesRoutes rel table (Some position) (record { request = mounted at.request goes.2.route position; body = body; kept = goes.1 }) status' calls then_)
           (λ outcome. then_ outcome (mounted at.request goes.2.route position) goes.1 calls)
           (all.handled goes.2.route.handler (record { request = mounted at.request goes.2.route position; body = at.body }) at.kept goes.1 goes.0 goes.2.made) goes.3
           (λ body status'. more (Some position) (record { request = mounted at.request goes.2.route position; body = body; kept = goes.1 }) status')
           (λ outcome is. over outcome (mounted at.request goes.2.route position) goes.1 calls is)
 
-      walks_good : (behind : Option ℕ) (at : RequestAt V B C) (status : Status) (calls : List Call) → Walks rel table behind at status calls then_ → IsGood
+      walks_good : (behind : Option ℕ) (at : RequestAt V B C) (status : Status) (calls : List Call) → TriesRoutes rel table behind at status calls then_ → IsGood
       walks_good behind at status [] walks = over (Forward (at.body, status)) at.request at.kept [] tt walks.1
       walks_good behind at status (call ∷ calls) walks = next_good at status call calls walks.0 (λ behind' at' status'. walks_good behind' at' status' calls) walks.2
 

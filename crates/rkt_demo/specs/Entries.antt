@@ -30,6 +30,7 @@ entries_text k [] = last_line k
 entries_text k (entry ∷ entries) = entry_section k entry ++ entries_text (k + 1) entries
 
 -- these are the entries of a history, by number
-pub record AreEntries (events : List (EventOf ℕ SourceInMemory LinkInMemory)) (entries : List (Option (EntryOf ℕ SourceInMemory LinkInMemory))) : Type 0 where
+pub record AreEntries (events : List (EventOf ℕ SourceInMemory LinkInMemory))
+    (entries : List (Option (EntryOf ℕ SourceInMemory LinkInMemory))) : Type 0 where
   pub count : length entries ≡ admitted events
   pub each : (k : ℕ) → k < admitted events → slice_get entries k ≡ Some (end_of k events)

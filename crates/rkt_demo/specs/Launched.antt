@@ -27,12 +27,19 @@ told_of warned Abandoned = served_so warned
 told_of warned Starved = Told.NoMemory
 
 -- whatever its number is, the section of an entry is one of this request
-pub record TellsOf (table : Table) (word : ℕ) (window : Option (ℕ × ℕ)) (request : ScriptRequest) (entry : EntryOf ℕ SourceInMemory LinkInMemory) : Type 0 where
+pub record TellsOf (table : Table) (word : ℕ) (window : Option (ℕ × ℕ)) (request : ScriptRequest)
+    (entry : EntryOf ℕ SourceInMemory LinkInMemory) : Type 0 where
   pub warned : Bool
-  pub section : (k : ℕ) → IsSection (told_of warned entry.end) table word window k request (ended_section k entry.end entry.link.io.held)
+  pub section : (k : ℕ)
+      → IsSection (told_of warned entry.end) table word window k request (ended_section k entry.end entry.link.io.held)
 
 -- a history has admitted the first of these requests, in order, and the entry of each tells of it
-pub record ServesFront (table : Table) (word : ℕ) (window : Option (ℕ × ℕ)) (requests : List ScriptRequest) (events : List (EventOf ℕ SourceInMemory LinkInMemory)) : Type 0 where
+pub record ServesFront (table : Table) (word : ℕ) (window : Option (ℕ × ℕ)) (requests : List ScriptRequest)
+    (events : List (EventOf ℕ SourceInMemory LinkInMemory)) : Type 0 where
   pub within : admitted events ≤ length requests
-  pub each : (k : ℕ) (request : ScriptRequest) → k < admitted events → slice_get requests k ≡ Some request
-      → (entry : EntryOf ℕ SourceInMemory LinkInMemory) × (end_of k events ≡ Some entry) × TellsOf table word window request entry
+  pub each : (k : ℕ) (request : ScriptRequest)
+      → k < admitted events
+      → slice_get requests k ≡ Some request
+      → (entry : EntryOf ℕ SourceInMemory LinkInMemory)
+      × (end_of k events ≡ Some entry)
+      × TellsOf table word window request entry

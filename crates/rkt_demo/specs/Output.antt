@@ -26,7 +26,8 @@ label k = codes "#" ++ decimal k ++ codes " "
 
 -- the section of a request that was answered: the head, the size of the body, and the body
 abbrev pub answered_section : ℕ → List ℕ → List ℕ → List ℕ
-answered_section k head body = label k ++ codes "Answered " ++ head ++ decimal (length body) ++ codes " bytes\n" ++ body ++ codes "\n"
+answered_section k head body =
+    label k ++ codes "Answered " ++ head ++ decimal (length body) ++ codes " bytes\n" ++ body ++ codes "\n"
 
 -- the same, by the pieces that were sent
 abbrev pub sent_section : ℕ → List Piece → List ℕ

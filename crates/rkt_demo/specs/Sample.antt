@@ -5,7 +5,7 @@ use Rattle.rkt_fairing.specs.Fairings.{SeenFairings, no_fairings, with_slot}
 use Rattle.rkt_fairing.specs.Slot.{shield_info}
 use Rattle.rkt_fairing.specs.declared.slot.Slot.TheVariants.{Shield}
 use Rattle.rkt_life.specs.declared.no_fairing.NoFairing.{NoFairing}
-use Rattle.rkt_lifecycle.specs.Tables.{SeenTables}
+use Rattle.rkt_exchange.specs.Tables.{SeenTables}
 use Rattle.rkt_sample.specs.Mounted.{sample_catchers, sample_routes}
 use Rattle.rkt_sample.specs.declared.catcher.SampleCatcher.{SampleCatcher}
 use Rattle.rkt_sample.specs.declared.route.SampleRoute.{SampleRoute}

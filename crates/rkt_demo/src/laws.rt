@@ -3,8 +3,8 @@ ghost use Rattle.rkt_demo.specs.Shown.{PrintedAlone, PrintedOnce, ShownOnce};
 
 use rkt_http::{says_what_it_spells, spells_one_host, spells_one_media_type};
 
-/// A law of texts: so many requests of a script are shown as one text, whatever the moments are, where the same is told of each,
-/// and of none from the first one for `/stop` on that a read of its body may have been refused.
+/// A law of texts: so many requests of a script are shown as one text, whatever the moments are, where the same is told
+/// of each, and of none from the first one for `/stop` on that a read of its body may have been refused.
 pub fn shown_once()
     ensures { ShownOnce }
 {
@@ -13,8 +13,8 @@ pub fn shown_once()
     spells_one_media_type();
 }
 
-/// A law of texts: over moments that are all within the grace so many requests of a script are shown as one text, where there was
-/// memory for each of them.
+/// A law of texts: over moments that are all within the grace so many requests of a script are shown as one text, where
+/// there was memory for each of them.
 pub fn printed_once()
     ensures { PrintedOnce }
 {

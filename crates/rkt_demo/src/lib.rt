@@ -12,5 +12,5 @@ pub use program::{CONFIG_REFUSAL, run};
 pub use rkt_script::{
     BadLine, SCRIPT_LIMIT, ScriptRequest, USAGE, offers_once, parse_script, sets_once,
 };
-pub use sample::{Handler, Quiet, Sample, SampleHistory};
+pub use sample::{ByHandler, NeverStops, Sample, SampleHistory};
 pub use serving::launch_sample;

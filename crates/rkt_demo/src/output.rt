@@ -186,7 +186,8 @@ fn print_entries(alloc: Global, entries: &[Option<&SampleEntry>]) -> Result<Vec<
 
 /// The text of a history, by the numbers of its entries.
 pub fn print_history(alloc: Global, history: &SampleHistory) -> Result<Vec<u8>, NoMemory>
-    ensures { IfOk result (λ text. (entries : _) × AreEntries history.now.events entries × (text.items ≡ entries_text 0 entries)) }
+    ensures { IfOk result (λ text.
+        (entries : _) × AreEntries history.now.events entries × (text.items ≡ entries_text 0 entries)) }
 {
     let entries = history.entries(alloc)?;
     let text = print_entries(alloc, entries.as_slice())?;
@@ -199,7 +200,10 @@ pub fn print_histories(
     first: &SampleHistory,
     second: &SampleHistory,
 ) -> Result<Vec<u8>, NoMemory>
-    ensures { IfOk result (λ text. (entries : _) × (others : _) × AreEntries first.now.events entries × AreEntries second.now.events others × (text.items ≡ entries_text 0 (entries ++ others))) }
+    ensures { IfOk result (λ text. (entries : _) × (others : _)
+        × AreEntries first.now.events entries
+        × AreEntries second.now.events others
+        × (text.items ≡ entries_text 0 (entries ++ others))) }
 {
     let mut entries = first.entries(alloc)?;
     let mut others = second.entries(alloc)?;

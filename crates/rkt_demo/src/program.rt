@@ -3,7 +3,7 @@ ghost use Rattle.std.specs.Prelude.{◌≡◌, ◌⊎◌, ◌≤◌, ◌+◌, Li
 ghost use Rattle.rkt_base.specs.Counts.{Rose};
 ghost use Rattle.rkt_demo.specs.Program.{OfCommand, IsAccepted, OfScript, IsScript, IsGoodScript, IsFirstBadLine, IsText, IsAllRead, refusal};
 ghost use Rattle.rkt_demo.specs.Shown.{ShowsScript};
-ghost use Rattle.rkt_script.specs.Streams.{ReadsOn, ReadsUntil, Refuses, RunsOut, Takes, TakesUnlessRefused};
+ghost use Rattle.rkt_script.specs.Streams.{ReadsToEnd, ReadsUntil, Refuses, RunsOut, Takes, TakesUnlessRefused};
 ghost use Rattle.rkt_script.specs.Words.{Commands, IsCommand, IsStatus, Table};
 ghost use Rattle.rkt_script.specs.declared.stream.TheConstants.{GATE};
 
@@ -103,10 +103,11 @@ pub fn run<R: Wait + Threads, S: Source, K: Sink, C: Clock>(
     ensures unread { ¬ IsCommand (map string_bytes words.now) → source.new ≡ source.old }
     ensures usage_text { result ≡ 2 → TakesUnlessRefused K.meaning K.written sink.old USAGE.now sink.new }
 
-    // 4: the source refused the last read, and nothing was written. At no other status was a read refused.
+    // 4: the source refused the last read, and nothing was written. At no other status was a read refused, and none was made
+    // behind the end.
     ensures read { result ≡ 4 → Rose (S.meaning source.old).faults (S.meaning source.new).faults }
     ensures reads_until { result ≡ 4 → ReadsUntil S.polled GATE source.old source.new }
-    ensures reads_on { ¬ (result ≡ 4) → ReadsOn S.polled GATE source.old source.new }
+    ensures reads_on { ¬ (result ≡ 4) → ReadsToEnd S.polled GATE source.old source.new }
     ensures read_text { result ≡ 4 → sink.new ≡ sink.old }
 
     // 3: a line is not of the grammar, and the first such is named.
@@ -120,8 +121,10 @@ pub fn run<R: Wait + Threads, S: Source, K: Sink, C: Clock>(
 
     // 5: the sink refused a write of the text, and has taken a front of it.
     ensures write { result ≡ 5 → Rose (K.meaning sink.old).faults (K.meaning sink.new).faults }
-    ensures write_text { result ≡ 5 → OfCommand (map string_bytes words.now) (λ table. IsAccepted table × OfScript (S.meaning source.old) (λ script.
-        (text : List ℕ) × ShowsScript table (C.meaning clock).window script text
+    ensures write_text { result ≡ 5
+        → OfCommand (map string_bytes words.now) (λ table. IsAccepted table
+        × OfScript (S.meaning source.old) (λ script. (text : List ℕ)
+        × ShowsScript table (C.meaning clock).window script text
         × Refuses K.meaning K.written sink.old text sink.new)) }
 
     // 6: there was no memory, and nothing was written, or it was the sink that had none for what was left.
@@ -132,22 +135,31 @@ pub fn run<R: Wait + Threads, S: Source, K: Sink, C: Clock>(
         (text : List ℕ) × IsText table (C.meaning clock).window script text
         × RunsOut K.meaning K.written sink.old text sink.new)) }
 
-    // 0: no write was refused, and the text shows as many requests of the script as may be served: all of them where none is
-    // for `/stop`. Where the same is told of each, there is one such text for that number, as a law of texts says, unless a read
-    // of the body of a request from the first one for `/stop` on may have been refused. Where none is for `/stop`, or over
-    // moments that are all within the grace, there is just one, as other laws say, where there was memory for each request.
-    ensures text { result ≡ 0 → OfCommand (map string_bytes words.now) (λ table. IsAccepted table × OfScript (S.meaning source.old) (λ script.
-        (text : List ℕ) × ShowsScript table (C.meaning clock).window script text
+    // 0: no write was refused, and the text shows as many requests of the script as may be served: all of them where
+    // none is for `/stop`. Where the same is told of each, there is one such text for that number, as a law of texts
+    // says, unless a read of the body of a request from the first one for `/stop` on may have been refused. Where none
+    // is for `/stop`, or over moments that are all within the grace, there is just one, as other laws say, where there
+    // was memory for each request.
+    ensures text { result ≡ 0
+        → OfCommand (map string_bytes words.now) (λ table. IsAccepted table
+        × OfScript (S.meaning source.old) (λ script. (text : List ℕ)
+        × ShowsScript table (C.meaning clock).window script text
         × Takes K.meaning K.written sink.old text sink.new)) }
 
     // Words and script of the grammar, settings that take their texts, and no fault of a stream: nothing but want of memory is
     // in the way. One command sets one table, as a law says.
-    ensures complete { (table : Table) (script : List ℕ) → Commands (map string_bytes words.now) table → IsAccepted table → IsScript (S.meaning source.old) script → IsGoodScript script
-        → ¬ Rose (S.meaning source.old).faults (S.meaning source.new).faults → ¬ Rose (K.meaning sink.old).faults (K.meaning sink.new).faults
+    ensures complete { (table : Table) (script : List ℕ)
+        → Commands (map string_bytes words.now) table
+        → IsAccepted table
+        → IsScript (S.meaning source.old) script
+        → IsGoodScript script
+        → ¬ Rose (S.meaning source.old).faults (S.meaning source.new).faults
+        → ¬ Rose (K.meaning sink.old).faults (K.meaning sink.new).faults
         → (result ≡ 0) ⊎ (result ≡ 6) }
 
     // How much was read, and that no trip was shown to the source.
-    ensures taken { (result ≡ 0) ⊎ (result ≡ 1) ⊎ (result ≡ 3) ⊎ (result ≡ 5) → IsAllRead (S.meaning source.old) (S.meaning source.new) }
+    ensures taken { (result ≡ 0) ⊎ (result ≡ 1) ⊎ (result ≡ 3) ⊎ (result ≡ 5)
+        → IsAllRead (S.meaning source.old) (S.meaning source.new) }
     ensures bound { (S.meaning source.new).taken ≤ (S.meaning source.old).taken + SCRIPT_LIMIT + 1 }
     ensures unwarned { (S.meaning source.new).warned ≡ false }
 {

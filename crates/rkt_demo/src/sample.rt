@@ -26,9 +26,9 @@ pub type SampleHistory = HistoryOf<u64, MemorySource, MemoryLink>;
 
 /// The reason of an application that nothing shuts down. It has no word, and no word is allowed.
 #[derive(Clone, Copy, Debug, PartialEq, Eq)]
-pub struct Quiet;
+pub struct NeverStops;
 
-impl Reason for Quiet {
+impl Reason for NeverStops {
     ghost use Rattle.std.specs.Prelude.{◌≡◌};
 
     ghost allowed = { λ word. ⊥ };
@@ -42,11 +42,11 @@ impl Reason for Quiet {
     }
 }
 
-impl StopReason for Quiet {
+impl StopReason for NeverStops {
     ghost stop_word = { 0 };
 
-    fn stop() -> Quiet {
-        Quiet
+    fn stop() -> NeverStops {
+        NeverStops
     }
 
     ghost alone = { λ word allowed. absurd allowed };
@@ -54,9 +54,9 @@ impl StopReason for Quiet {
 
 /// The reason of an application that a handler shuts down. Its word alone is allowed.
 #[derive(Clone, Copy, Debug, PartialEq, Eq)]
-pub struct Handler;
+pub struct ByHandler;
 
-impl Reason for Handler {
+impl Reason for ByHandler {
     ghost use Rattle.std.specs.Prelude.{◌≡◌, ⊤};
 
     ghost allowed = { λ word. word ≡ 2 };
@@ -70,11 +70,11 @@ impl Reason for Handler {
     }
 }
 
-impl StopReason for Handler {
+impl StopReason for ByHandler {
     ghost stop_word = { 2 };
 
-    fn stop() -> Handler {
-        Handler
+    fn stop() -> ByHandler {
+        ByHandler
     }
 
     ghost alone = { λ word allowed. allowed };

@@ -14,7 +14,7 @@ ghost use Rattle.rkt_serve.specs.Kept.{IsWant};
 ghost use Rattle.rkt_script.specs.Words.{Table};
 
 use crate::output::{print_histories, print_history};
-use crate::sample::{Handler, Quiet, Sample, SampleHistory};
+use crate::sample::{ByHandler, NeverStops, Sample, SampleHistory};
 use rkt_base::{NoMemory, Want};
 use rkt_life::{Ignite, IgniteError, Rocket};
 use rkt_request::ConfigTable;
@@ -103,8 +103,11 @@ fn serve_launch<Q: StopReason, R: Wait + Threads, C: Clock>(
     requests: Vec<ScriptRequest>,
     clock: C,
 ) -> Result<Served<SampleHistory, C>, NoMemory>
-    ensures serves { (table : Table) → IsSample table rocket.tables → IfOk result (λ served. ServesFront table Q.stop_word (C.meaning clock).window requests.items served.history.events) }
-    ensures all { ((word : ℕ) → ¬ Q.allowed word) → IfOk result (λ served. admitted served.history.events ≡ length requests.items) }
+    ensures serves { (table : Table)
+        → IsSample table rocket.tables
+        → IfOk result (λ served. ServesFront table Q.stop_word (C.meaning clock).window requests.items served.history.events) }
+    ensures all { ((word : ℕ) → ¬ Q.allowed word)
+        → IfOk result (λ served. admitted served.history.events ≡ length requests.items) }
     ensures table { IfOk result (λ served. served.table ≡ rocket.table) }
     ensures window { IfOk result (λ served. (C.meaning served.clock).window ≡ (C.meaning clock).window) }
 {
@@ -127,8 +130,10 @@ fn serve_over<Q: StopReason, R: Wait + Threads, C: Clock>(
     requests: Vec<ScriptRequest>,
     clock: C,
 ) -> Result<Served<SampleHistory, C>, Want<IgniteError>>
-    ensures serves { IfOk result (λ served. ServesFront table Q.stop_word (C.meaning clock).window requests.items served.history.events) }
-    ensures all { ((word : ℕ) → ¬ Q.allowed word) → IfOk result (λ served. admitted served.history.events ≡ length requests.items) }
+    ensures serves { IfOk result (λ served.
+        ServesFront table Q.stop_word (C.meaning clock).window requests.items served.history.events) }
+    ensures all { ((word : ℕ) → ¬ Q.allowed word)
+        → IfOk result (λ served. admitted served.history.events ≡ length requests.items) }
     ensures table { IfOk result (λ served. served.table ≡ table) }
     ensures window { IfOk result (λ served. (C.meaning served.clock).window ≡ (C.meaning clock).window) }
     ensures accepted { OnOk result (IsAccepted table) }
@@ -146,7 +151,8 @@ pub fn launch_sample<Q: StopReason, R: Wait + Threads, C: Clock>(
     requests: Vec<ScriptRequest>,
     clock: C,
 ) -> Result<SampleHistory, Want<IgniteError>>
-    ensures serves { IfOk result (λ history. ServesFront table Q.stop_word (C.meaning clock).window requests.items history.events) }
+    ensures serves { IfOk result (λ history.
+        ServesFront table Q.stop_word (C.meaning clock).window requests.items history.events) }
     ensures all { ((word : ℕ) → ¬ Q.allowed word) → IfOk result (λ history. admitted history.events ≡ length requests.items) }
     ensures accepted { OnOk result (IsAccepted table) }
     ensures refused { IfRefused result (λ _. ¬ IsAccepted table) }
@@ -170,11 +176,12 @@ fn serve_alone<R: Wait + Threads, C: Clock>(
     requests: Vec<ScriptRequest>,
     clock: C,
 ) -> Result<Vec<u8>, Want<IgniteError>>
-    ensures shown { StandBefore requests.items (length requests.items) → IfOk result (λ text. ShowsRequests table (C.meaning clock).window requests.items text.items) }
+    ensures shown { StandBefore requests.items (length requests.items)
+        → IfOk result (λ text. ShowsRequests table (C.meaning clock).window requests.items text.items) }
     ensures accepted { OnOk result (IsAccepted table) }
     ensures refused { IfRefused result (λ _. ¬ IsAccepted table) }
 {
-    let served = serve_over::<Quiet, R, C>(rt, alloc, table, requests, clock)?;
+    let served = serve_over::<NeverStops, R, C>(rt, alloc, table, requests, clock)?;
     let text = print_history(alloc, &served.history);
     drop(served);
     Ok(text?)
@@ -190,17 +197,18 @@ fn serve_stopping<R: Wait + Threads, C: Clock>(
     others: Vec<ScriptRequest>,
     clock: C,
 ) -> Result<Vec<u8>, Want<IgniteError>>
-    ensures shown { StandBefore (requests.items ++ others.items) (length requests.items) → IfOk result (λ text. ShowsRequests table (C.meaning clock).window (requests.items ++ others.items) text.items) }
+    ensures shown { StandBefore (requests.items ++ others.items) (length requests.items)
+        → IfOk result (λ text. ShowsRequests table (C.meaning clock).window (requests.items ++ others.items) text.items) }
     ensures accepted { OnOk result (IsAccepted table) }
     ensures refused { IfRefused result (λ _. ¬ IsAccepted table) }
 {
-    let first = serve_over::<Quiet, R, C>(rt, alloc, table, requests, clock)?;
+    let first = serve_over::<NeverStops, R, C>(rt, alloc, table, requests, clock)?;
     let Served {
         history,
         clock,
         table,
     } = first;
-    let second = serve_over::<Handler, R, C>(rt, alloc, table, others, clock)?;
+    let second = serve_over::<ByHandler, R, C>(rt, alloc, table, others, clock)?;
     let text = print_histories(alloc, &history, &second.history);
     drop(history);
     drop(second);

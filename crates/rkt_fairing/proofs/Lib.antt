@@ -1,9 +1,10 @@
+pub mod Chains
 pub mod Flags
+pub mod Invariant
 pub mod Lent
 pub mod Moved
 pub mod Moving
 pub mod Room
 pub mod Shielding
 pub mod Sound
-pub mod Stands
 pub mod Turned

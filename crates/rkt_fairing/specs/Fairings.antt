@@ -23,7 +23,7 @@ pub record SeenFairings (F : Type 0) : Type 0 where
   pub places : SeenPlaces
   -- how many of those that are called at ignition count as ignited: the first ones
   pub ignited : ℕ
-  -- the singletons that came after one of their key had ignited
+  -- what has failed: the singletons that came after one of their key had ignited, and what a call put there
   pub failures : List SeenInfo
 
 abbrev pub no_fairings : {F : Type 0} → SeenFairings F
@@ -48,8 +48,10 @@ with_slot slot told fairings = record fairings {
 -- a singleton takes the place of those of its key, and is a failure where one of them has ignited
 abbrev pub admitted : {F : Type 0} → Slot F → SeenTold → SeenFairings F → SeenFairings F
 admitted slot told fairings =
-    if told.info.kind.singleton then
-    (if has_ignited told.key fairings then record fairings { failures = fairings.failures ++ told.info ∷ [] } else with_slot slot told (without_key told.key fairings))
+    if told.info.kind.singleton
+    then (if has_ignited told.key fairings
+    then record fairings { failures = fairings.failures ++ told.info ∷ [] }
+    else with_slot slot told (without_key told.key fairings))
     else with_slot slot told fairings
 
 -- one more has failed
@@ -66,11 +68,13 @@ fairing_at callback fairings n = option_and_then (slice_get fairings.slots) (sli
 
 -- the one there is another one; what was told stays told
 abbrev pub with_fairing_at : {F : Type 0} → Callback → SeenFairings F → ℕ → Slot F → SeenFairings F
-with_fairing_at callback fairings n slot = record fairings { slots = slice_set fairings.slots (slice_index (places_of callback fairings.places) n) slot }
+with_fairing_at callback fairings n slot =
+    record fairings { slots = slice_set fairings.slots (slice_index (places_of callback fairings.places) n) slot }
 
 -- the first of those that are called at ignition that still waits is another one, and counts as ignited
 abbrev pub with_next_ignited : {F : Type 0} → SeenFairings F → Slot F → SeenFairings F
-with_next_ignited fairings slot = record (with_fairing_at Ignite fairings fairings.ignited slot) { ignited = fairings.ignited + 1 }
+with_next_ignited fairings slot =
+    record (with_fairing_at Ignite fairings fairings.ignited slot) { ignited = fairings.ignited + 1 }
 
 -- each position is that of a fairing, which told something
 pub record AreSound {F : Type 0} (fairings : SeenFairings F) : Type 0 where

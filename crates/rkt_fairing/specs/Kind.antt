@@ -21,7 +21,8 @@ Has kind other = union kind other ≡ kind
 -- each kind with its name, and whether it is there, in the order of a rocket's life
 abbrev pub named_flags : Kind → List (Bool × List ℕ)
 named_flags kind =
-    (kind.ignite, codes "ignite") ∷ (kind.liftoff, codes "liftoff") ∷ (kind.request, codes "request") ∷ (kind.response, codes "response") ∷ (kind.shutdown, codes "shutdown")
+    (kind.ignite, codes "ignite") ∷ (kind.liftoff, codes "liftoff") ∷ (kind.request, codes "request")
+    ∷ (kind.response, codes "response") ∷ (kind.shutdown, codes "shutdown")
     ∷ (kind.singleton, codes "singleton") ∷ []
 
 -- the names of those that are there, with commas between them

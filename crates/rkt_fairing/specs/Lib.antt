@@ -1,12 +1,15 @@
 pub mod Below
 pub mod Building
 pub mod Callbacks
+pub mod Calls
 pub mod Fairings
 pub mod InSlot
 pub mod Info
 pub mod Kind
 pub mod Life
+pub mod Lifts
 pub mod Names
 pub mod Places
+pub mod ShutsDown
 pub mod Slot
 pub mod Told

@@ -34,17 +34,25 @@ pub record LiftoffAt (F : Type 0) : Type 0 where
 
 -- the laws of a callback at liftoff: the handle stays one of its wire
 pub record KeepsLiftoff {H F A Task : Type 0} (calling : Calling (Unit {0}) H (LiftoffAt F) A Task) : Type 0 where
-  pub done : (handed : H) (before after : LiftoffAt F) (gates : List Gate) (answer : A) → calling.may tt handed before gates answer after → HandsBack before.shutdown after.shutdown
-  pub begun : (handed : H) (task : Task) (before now : LiftoffAt F) (gates : List Gate) (n : ℕ) → calling.begun tt handed task before now gates n → HandsBack before.shutdown now.shutdown
+  pub done : (handed : H) (before after : LiftoffAt F) (gates : List Gate) (answer : A)
+      → calling.may tt handed before gates answer after
+      → HandsBack before.shutdown after.shutdown
+  pub begun : (handed : H) (task : Task) (before now : LiftoffAt F) (gates : List Gate) (n : ℕ)
+      → calling.begun tt handed task before now gates n
+      → HandsBack before.shutdown now.shutdown
 
-module _ {Self Handed Held Answer Task : Type 0} (C : Calling Self Handed Held Answer Task) (callback : Self) (handed : Handed) where
+module _ {Self Handed Held Answer Task : Type 0} (C : Calling Self Handed Held Answer Task) (callback : Self)
+    (handed : Handed) where
   -- a task that may be polled where no Gate is shown
   abbrev pub CanPollAlone : Task → Held → Type 0
   CanPollAlone task now = (before : Held) × (n : ℕ) × C.begun callback handed task before now [] n
 
   -- what such a poll gives, whatever the task was begun from
   abbrev pub PollsAlone : Task → Held → Step Answer → Task → Held → Type 0
-  PollsAlone old was step new now = (before : Held) (n : ℕ) → C.begun callback handed old before was [] n → AnswersPoll C callback handed before [] n step new now
+  PollsAlone old was step new now =
+      (before : Held) (n : ℕ)
+      → C.begun callback handed old before was [] n
+      → AnswersPoll C callback handed before [] n step new now
 
 -- a callback that changes nothing and answers Ok
 abbrev pub quiet_ok : {F H Held E Task : Type 0} → Calling F H Held (Result (Unit {0}) E) Task
@@ -57,7 +65,8 @@ handed_back before after same = record {
   seen = λ was. ap (λ handle. handle.seen) same;
 }
 
-pub quiet_keeps_liftoff : {H F A Task : Type 0} → KeepsLiftoff (quiet {F = Unit {0}} {H = H} {Held = LiftoffAt F} {A = A} {Task = Task})
+pub quiet_keeps_liftoff : {H F A Task : Type 0}
+    → KeepsLiftoff (quiet {F = Unit {0}} {H = H} {Held = LiftoffAt F} {A = A} {Task = Task})
 quiet_keeps_liftoff = record {
   done = λ handed before after gates answer is. handed_back before.shutdown after.shutdown (ap (λ at. at.shutdown) is);
   begun = λ handed task before now gates n begun. handed_back before.shutdown now.shutdown (ap (λ at. at.shutdown) begun.1);

@@ -38,7 +38,13 @@ impl<H, K, N, V, F> Model for BuildingOf<H, K, N, V, F> {
 
     ghost Value = { SeenBuilding H K N V F };
 
-    ghost view = { λ b. record { routes = b.routes.items; catchers = b.catchers.items; fairings = b.fairings; managed = b.managed; table = b.table } };
+    ghost view = { λ b. record {
+      routes = b.routes.items;
+      catchers = b.catchers.items;
+      fairings = b.fairings;
+      managed = b.managed;
+      table = b.table;
+    } };
 }
 
 impl<H: Drop, K: Drop, N: Drop, V: Drop, F: Drop> BuildingOf<H, K, N, V, F> {
@@ -83,7 +89,8 @@ impl<H: Drop, K: Drop, N: Drop, V: Drop, F: Drop> BuildingOf<H, K, N, V, F> {
         base: &str,
         routes: Vec<Route<H, N>>,
     ) -> Result<(), Want<InvalidBase>>
-        ensures ok { OnOk result (self.new ≡ record self.old { routes = self.old.routes ++ map (route_below (target_of base.now).path) routes.items }) }
+        ensures ok { OnOk result (self.new
+            ≡ record self.old { routes = self.old.routes ++ map (route_below (target_of base.now).path) routes.items }) }
         ensures origin { OnOk result (IsOrigin Profile.Request base.now) }
         // It is refused exactly where the base is no origin.
         ensures refused { IfRefused result (λ _. ¬ IsOrigin Profile.Request base.now) }
@@ -101,7 +108,9 @@ impl<H: Drop, K: Drop, N: Drop, V: Drop, F: Drop> BuildingOf<H, K, N, V, F> {
         base: &str,
         catchers: Vec<Catcher<K>>,
     ) -> Result<(), Want<InvalidBase>>
-        ensures ok { OnOk result (self.new ≡ record self.old { catchers = self.old.catchers ++ map (catcher_below (target_of base.now).path) catchers.items }) }
+        ensures ok { OnOk result (self.new ≡ record self.old {
+          catchers = self.old.catchers ++ map (catcher_below (target_of base.now).path) catchers.items;
+        }) }
         ensures origin { OnOk result (IsOrigin Profile.Request base.now) }
         // It is refused exactly where the base is no origin.
         ensures refused { IfRefused result (λ _. ¬ IsOrigin Profile.Request base.now) }
@@ -116,7 +125,8 @@ impl<H: Drop, K: Drop, N: Drop, V: Drop, F: Drop> BuildingOf<H, K, N, V, F> {
     pub fn manage(&mut self, key: Key, value: V) -> Result<(), Want<DuplicateState<V>>>
         ensures ok { OnOk result (self.new ≡ record self.old { managed = insert_entry nat_cmp self.old.managed key.0 value }) }
         ensures free { OnOk result (value_at key self.old.managed ≡ None) }
-        ensures duplicate { IfRefused result (λ e. (e ≡ record { key = key; value = value }) × IsSome (value_at key self.old.managed)) }
+        ensures duplicate { IfRefused result (λ e.
+            (e ≡ record { key = key; value = value }) × IsSome (value_at key self.old.managed)) }
         ensures err { OnErr result (self.new ≡ self.old) }
     {
         self.managed.set(key, value)

@@ -33,9 +33,12 @@ pub trait RequestCallback<A: HasBody, F> {
         body: &mut A::Body,
         ctx: &mut Ctx<A>,
     ) -> Step<()>
-        requires begun { CanPoll calling fairing.now tt task.old (record { request = request.old; body = body.old; kept = ctx.old.kept }) }
+        requires begun { CanPoll calling fairing.now tt task.old
+            (record { request = request.old; body = body.old; kept = ctx.old.kept }) }
         ensures gate { ctx.new.gate ≡ ctx.old.gate }
-        ensures polls { Polls calling fairing.now tt task.old (record { request = request.old; body = body.old; kept = ctx.old.kept }) ctx.old.gate result task.new (record { request = request.new; body = body.new; kept = ctx.new.kept }) };
+        ensures polls { Polls calling fairing.now tt task.old
+            (record { request = request.old; body = body.old; kept = ctx.old.kept }) ctx.old.gate result task.new
+            (record { request = request.new; body = body.new; kept = ctx.new.kept }) };
 
     /// Originals and floor stay, the log and the cache grow, and the request lends what it lent.
     ghost keeps: { KeepsRequest calling };
@@ -66,9 +69,11 @@ pub trait ResponseCallback<A: Types, F> {
         response: &mut Response<A::Stream>,
         ctx: &mut Ctx<A>,
     ) -> Step<()>
-        requires begun { CanPoll calling fairing.now request.now task.old (record { response = response.old; kept = ctx.old.kept }) }
+        requires begun { CanPoll calling fairing.now request.now task.old
+            (record { response = response.old; kept = ctx.old.kept }) }
         ensures gate { ctx.new.gate ≡ ctx.old.gate }
-        ensures polls { Polls calling fairing.now request.now task.old (record { response = response.old; kept = ctx.old.kept }) ctx.old.gate result task.new (record { response = response.new; kept = ctx.new.kept }) };
+        ensures polls { Polls calling fairing.now request.now task.old (record { response = response.old; kept = ctx.old.kept })
+            ctx.old.gate result task.new (record { response = response.new; kept = ctx.new.kept }) };
 
     /// Originals and floor stay, and the log and the cache grow.
     ghost keeps: { KeepsResponse calling };

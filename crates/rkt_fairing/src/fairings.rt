@@ -67,9 +67,8 @@ impl<F> Fairings<F> {
         self.lists.ignited < self.lists.places.of(Callback::Ignite).len()
     }
 
-    /// Puts one that was called at ignition behind the failures that `audit` gives.
+    /// Puts one more behind the failures that `audit` gives, once one was called at ignition.
     pub fn push_failure(&mut self, info: Info) -> Result<(), NoMemory>
-        // So none stands there of fairings that were not called.
         requires called { 0 < self.old.ignited }
         ensures ok { OnOk result (self.new ≡ with_failure (seen_info info) self.old) }
         ensures err { OnErr result (self.new ≡ self.old) }
@@ -78,7 +77,7 @@ impl<F> Fairings<F> {
         Ok(())
     }
 
-    /// Refuses what has a singleton that came after one of its key had ignited, with all of these.
+    /// Refuses where something has failed, with all that did, in the order in which it came there.
     pub fn audit(&self) -> Result<(), &[Info]>
         ensures ok { OnOk result (self.now.failures ≡ []) }
         ensures some { IfErr result (λ infos. infos.now ≢ []) }

@@ -98,7 +98,8 @@ impl BitOr for Kind {
     }
 }
 
-/// Writes the name of a kind that is there, behind a comma where a name was written before it. Answers whether any is written now.
+/// Writes the name of a kind that is there, behind a comma where a name was written before it. Answers whether any is
+/// written now.
 fn write_name<W: fmt::Write>(
     f: &mut fmt::Formatter<W>,
     named: bool,
@@ -106,7 +107,9 @@ fn write_name<W: fmt::Write>(
     name: &str,
 ) -> Result<bool, fmt::Error>
     ensures named { IfOk result (λ now. now ≡ named || has) }
-    ensures writes { IsPlainFormatter f.old → IsOk result → HasWritten W.write_str_gives f.old (next_name named has name.now) f.new }
+    ensures writes { IsPlainFormatter f.old
+        → IsOk result
+        → HasWritten W.write_str_gives f.old (next_name named has name.now) f.new }
 {
     if !has {
         return Ok(named);

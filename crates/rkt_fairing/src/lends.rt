@@ -1,4 +1,5 @@
-//! Fairings that are lent for changes. The clauses name the rows of `Fairings` and `Slot`, so they stand in a file of their own.
+//! Fairings that are lent for changes. The clauses name the rows of `Fairings` and `Slot`, so they stand in a file of
+//! their own.
 ghost use Rattle.std.specs.Borrow.{LendsIf, sem};
 ghost use Rattle.std.specs.Prelude.{◌≡◌, ◌↔◌, ◌<◌, IsSome, length, option_map, slice_get};
 ghost use Rattle.rkt_fairing.specs.contracts.fairings.Fairings.{the_row};
@@ -19,7 +20,8 @@ impl<F> Fairings<F> {
     /// The one at a place of an event's list, for changes. What it told stays told.
     pub fn get_mut(&mut self, callback: Callback, n: usize) -> Option<&mut Slot<F>>
         // Nothing but that one is changed.
-        ensures* writes_back { sem 𝓛 (LendsIf (the_row F.row) (slot_row F.row) self.entry result (with_fairing_at callback self.old n) self.old) }
+        ensures* writes_back { sem 𝓛
+            (LendsIf (the_row F.row) (slot_row F.row) self.entry result (with_fairing_at callback self.old n) self.old) }
         ensures found { option_map (λ slot. slot.now) result ≡ fairing_at callback self.old n }
         ensures some { IsSome result ↔ (n < length (places_of callback self.old.places)) }
     {
@@ -30,7 +32,8 @@ impl<F> Fairings<F> {
     /// The first of those that are called at ignition that still waits, for changes. It counts as ignited from then on.
     pub fn next_ignite(&mut self) -> Option<&mut Slot<F>>
         // Nothing but that one is changed, and how many count as ignited.
-        ensures* writes_back { sem 𝓛 (LendsIf (the_row F.row) (slot_row F.row) self.entry result (with_next_ignited self.old) self.old) }
+        ensures* writes_back { sem 𝓛
+            (LendsIf (the_row F.row) (slot_row F.row) self.entry result (with_next_ignited self.old) self.old) }
         ensures found { option_map (λ slot. slot.now) result ≡ fairing_at Callback.Ignite self.old self.old.ignited }
         // There is one exactly where one waits.
         ensures some { IsSome result ↔ (self.old.ignited < length self.old.places.ignite) }

@@ -15,7 +15,8 @@ pub trait IgniteCallback<A: Parts, F> {
     type Task: Drop;
 
     /// What a call means.
-    ghost calling: { Calling (Unit {0}) (Unit {0}) (IgniteAt A.Handler A.Catch A.Sentinel A.Value F) (Result (Unit {0}) (Unit {0})) Self.Task };
+    ghost calling: { Calling (Unit {0}) (Unit {0}) (IgniteAt A.Handler A.Catch A.Sentinel A.Value F)
+        (Result (Unit {0}) (Unit {0})) Self.Task };
 
     /// Begins a call.
     fn start(fairing: &F) -> Self::Task
@@ -29,7 +30,8 @@ pub trait IgniteCallback<A: Parts, F> {
         building: &mut Building<A, F>,
     ) -> Step<Result<(), ()>>
         requires begun { CanPollAlone calling tt tt task.old (record { fairing = fairing.old; building = building.old }) }
-        ensures { PollsAlone calling tt tt task.old (record { fairing = fairing.old; building = building.old }) result task.new (record { fairing = fairing.new; building = building.new }) };
+        ensures { PollsAlone calling tt tt task.old (record { fairing = fairing.old; building = building.old }) result task.new
+            (record { fairing = fairing.new; building = building.new }) };
 }
 
 /// How fairings of a type are called at liftoff. They may notify a shutdown.
@@ -56,7 +58,8 @@ pub trait LiftoffCallback<A: Parts, F> {
         shutdown: &mut Shutdown<A::Reason>,
     ) -> Step<()>
         requires begun { CanPollAlone calling tt view.now task.old (record { fairing = fairing.old; shutdown = shutdown.old }) }
-        ensures { PollsAlone calling tt view.now task.old (record { fairing = fairing.old; shutdown = shutdown.old }) result task.new (record { fairing = fairing.new; shutdown = shutdown.new }) };
+        ensures { PollsAlone calling tt view.now task.old (record { fairing = fairing.old; shutdown = shutdown.old }) result
+            task.new (record { fairing = fairing.new; shutdown = shutdown.new }) };
 
     /// The handle stays one of its wire.
     ghost keeps: { KeepsLiftoff calling };

@@ -23,7 +23,9 @@ pub(crate) struct Places {
 fn join_if(list: &mut Vec<usize>, joins: bool, place: usize)
     requires { vec_len list.old + 1 ≤ vec_capacity list.old }
     ensures items { list.new.items ≡ join_if joins list.old.items place }
-    ensures room { (more : ℕ) → vec_len list.old + (more + 1) ≤ vec_capacity list.old → vec_len list.new + more ≤ vec_capacity list.new }
+    ensures room { (more : ℕ)
+        → vec_len list.old + (more + 1) ≤ vec_capacity list.old
+        → vec_len list.new + more ≤ vec_capacity list.new }
 {
     if joins {
         list.push_reserved(place);
@@ -33,7 +35,9 @@ fn join_if(list: &mut Vec<usize>, joins: bool, place: usize)
 /// Takes those out that have a key.
 fn take_out(list: &mut Vec<usize>, told: &[Told], key: Key)
     ensures items { list.new.items ≡ filter (is_other told.now key) list.old.items }
-    ensures room { (more : ℕ) → vec_len list.old + more ≤ vec_capacity list.old → vec_len list.new + more ≤ vec_capacity list.new }
+    ensures room { (more : ℕ)
+        → vec_len list.old + more ≤ vec_capacity list.old
+        → vec_len list.new + more ≤ vec_capacity list.new }
 {
     list.retain(|place| !has_key(told, key, *place));
 }

@@ -1,6 +1,7 @@
 -- Where a text leaves a grammar. A grammar is the fact that a text is of it.
-use Rattle.std.specs.Prelude.{ℕ, ◌≡◌, ◌≤◌, Bool, true, List, [], ◌∷◌, ◌++◌, ⊤, length, take, nat_lt, codes, ◌==◌, Option, Some, None, if◌then◌else◌, ◌||◌, ◌&&◌, nat_le}
+use Rattle.std.specs.Prelude.{ℕ, ◌≡◌, ◌≤◌, Bool, true, List, [], ◌∷◌, ◌++◌, ⊤, length, take, nat_lt, codes, ◌==◌, Option, Some, None, if◌then◌else◌, ◌||◌, ◌&&◌, nat_le, not}
 use Rattle.std.specs.List.{list_any, position_or_len, after_first}
+use Rattle.rkt_grammar.specs.Bytes.{tab, space, delete}
 
 -- some text of the grammar begins so
 abbrev pub Begins : (List ℕ → Type 0) → List ℕ → Type 0
@@ -37,3 +38,7 @@ is_alphanumeric b = (nat_le 48 b && nat_le b 57) || (nat_le 65 b && nat_le b 90)
 -- a byte of a token (RFC 9110, 5.6.2)
 abbrev pub is_token_byte : ℕ → Bool
 is_token_byte b = is_alphanumeric b || list_any (λ c. c == b) (codes "!#$%&'*+-.^_`|~")
+
+-- a byte of a field's value (RFC 9110, 5.5), and of a quoted pair (5.6.4): a tab, a space, a visible byte, or one past ASCII
+abbrev pub is_field_value_byte : ℕ → Bool
+is_field_value_byte b = b == tab || (nat_le space b && not (b == delete))

@@ -36,7 +36,8 @@ first_value groups name = slice_get (values_of groups name) 0
 -- with the group of this name changed, or else this new group behind the others
 abbrev pub with_group : (Group → Group) → Group → List Group → List Group
 with_group change new [] = new ∷ []
-with_group change new (group ∷ groups) = if is_named new.name group then change group ∷ groups else group ∷ with_group change new groups
+with_group change new (group ∷ groups) =
+    if is_named new.name group then change group ∷ groups else group ∷ with_group change new groups
 
 -- with the group at this place changed
 abbrev pub changed_at : ℕ → (Group → Group) → List Group → List Group
@@ -46,11 +47,13 @@ changed_at (suc n) change (group ∷ groups) = group ∷ changed_at n change gro
 
 -- with these values behind those of their name
 abbrev pub added_all : List Group → List ℕ → List (List ℕ) → List Group
-added_all groups name values = with_group (λ group. record group { values = group.values ++ values }) (record { name = name; values = values }) groups
+added_all groups name values =
+    with_group (λ group. record group { values = group.values ++ values }) (record { name = name; values = values }) groups
 
 -- with these values in place of those of their name
 abbrev pub replaced_all : List Group → List ℕ → List (List ℕ) → List Group
-replaced_all groups name values = with_group (λ group. record group { values = values }) (record { name = name; values = values }) groups
+replaced_all groups name values =
+    with_group (λ group. record group { values = values }) (record { name = name; values = values }) groups
 
 -- with the values of each of these groups behind those of its name
 abbrev pub appended : List Group → List Group → List Group

@@ -2,8 +2,7 @@ ghost use Rattle.std.specs.Prelude.{◌≡◌, ◌∷◌, ◌++◌, [], IfOk, On
 ghost use Rattle.rkt_http.specs.Headers.{Group, is_named};
 
 use crate::uncased::Uncased;
-use rkt_base::{NoMemory, Text};
-use rkt_grammar::copy_texts;
+use rkt_base::{NoMemory, Text, copy_all};
 use std::alloc::Global;
 use std::marker::Model;
 
@@ -98,7 +97,7 @@ impl Clone for Entry {
         let alloc = *self.values.allocator();
         Ok(Entry {
             name: self.name.try_clone(alloc)?,
-            values: copy_texts(alloc, self.values.as_slice())?,
+            values: copy_all(alloc, self.values.as_slice())?,
         })
     }
 }

@@ -72,7 +72,8 @@ pub(crate) fn set_at(groups: &mut Vec<Entry>, at: usize, values: Vec<Text>)
 /// Leaves this value alone in the group.
 pub(crate) fn set_one_at(groups: &mut Vec<Entry>, at: usize, value: Text) -> Result<(), NoMemory>
     requires { at < length groups.old.items }
-    ensures ok { OnOk result (groups.new.items ≡ changed_at at (λ group. record group { values = value ∷ [] }) groups.old.items) }
+    ensures ok { OnOk result
+        (groups.new.items ≡ changed_at at (λ group. record group { values = value ∷ [] }) groups.old.items) }
     ensures err { OnErr result (groups.new.items ≡ groups.old.items) }
 {
     let values = one_value(*groups.allocator(), value)?;

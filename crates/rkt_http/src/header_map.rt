@@ -176,7 +176,9 @@ impl HeaderMap {
     pub fn overwrite(&mut self, other: HeaderMap) -> Result<(), NoMemory>
         ensures ok { OnOk result (self.new ≡ overwritten self.old other) }
         // Groups that the other has none of stay.
-        ensures stays { OnOk result ((name : List ℕ) → group_of other name ≡ None → group_of self.new name ≡ group_of self.old name) }
+        ensures stays { OnOk result ((name : List ℕ)
+            → group_of other name ≡ None
+            → group_of self.new name ≡ group_of self.old name) }
         ensures err { OnErr result (self.new ≡ self.old) }
     {
         self.groups.reserve(other.groups.len())?;

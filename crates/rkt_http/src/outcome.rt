@@ -179,7 +179,8 @@ impl<S, E, F> Outcome<S, E, F> {
     }
 
     fn variant(&self) -> &'static str
-        ensures { MatchOutcome self.now (λ s. result.now ≡ codes "Success") (λ e. result.now ≡ codes "Error") (λ v. result.now ≡ codes "Forward") }
+        ensures { MatchOutcome self.now (λ s. result.now ≡ codes "Success") (λ e. result.now ≡ codes "Error")
+            (λ v. result.now ≡ codes "Forward") }
     {
         match self {
             Outcome::Success(_) => "Success",
@@ -285,7 +286,8 @@ macro_rules! try_outcome {
 /// A law of `try_outcome!`: it goes on with the value of a Success, and returns an Error as an Error and a Forward as a
 /// Forward. Both carry the same type here, so that only this clause tells them apart.
 pub fn try_outcome_returns<S, E, R: From<E>>(outcome: Outcome<S, E, E>) -> Outcome<S, R, R>
-    ensures { MatchOutcome outcome (λ s. result ≡ Outcome.Success s) (λ e. IsErrorAnd result (R.from_gives e)) (λ v. IsForwardAnd result (R.from_gives v)) }
+    ensures { MatchOutcome outcome (λ s. result ≡ Outcome.Success s) (λ e. IsErrorAnd result (R.from_gives e))
+        (λ v. IsForwardAnd result (R.from_gives v)) }
 {
     let value = try_outcome!(outcome);
     Outcome::Success(value)

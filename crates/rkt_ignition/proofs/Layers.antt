@@ -7,7 +7,7 @@ use Rattle.std.proofs.lemmas.List.{take_at, drop_at}
 use Rattle.std.proofs.lemmas.Option.{slice_get_past, slice_get_read}
 use Rattle.rkt_http.specs.declared.key.Key.{Key}
 use Rattle.rkt_route.specs.declared.route.Sentry.{Sentry}
-use Rattle.rkt_sentinel.specs.Sentinels.{SeenIgnited}
+use Rattle.rkt_ignition.specs.Sentinels.{SeenIgnited}
 use Rattle.rkt_ignition.specs.Reached.{Answer, all_opened, children, firsts, layers, reached}
 use Rattle.rkt_ignition.specs.declared.node.Node.{Node}
 

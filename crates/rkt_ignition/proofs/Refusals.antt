@@ -4,7 +4,7 @@ use Rattle.rkt_base.specs.Want.{IfRefused}
 use Rattle.rkt_base.specs.declared.want.Want.{Want}
 use Rattle.rkt_base.specs.declared.want.Want.TheVariants.{Refused, NoMemory}
 use Rattle.rkt_http.specs.declared.key.Key.{Key}
-use Rattle.rkt_sentinel.specs.Sentinels.{SeenIgnited}
+use Rattle.rkt_ignition.specs.Sentinels.{SeenIgnited}
 use Rattle.rkt_fairing.specs.Building.{SeenBuilding}
 use Rattle.rkt_fairing.specs.Fairings.{SeenFairings, no_fairings}
 use Rattle.rkt_fairing.specs.Info.{SeenInfo}

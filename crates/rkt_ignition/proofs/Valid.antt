@@ -6,7 +6,7 @@ use Rattle.rkt_base.specs.declared.want.Want.{Want}
 use Rattle.rkt_http.specs.declared.key.Key.{Key}
 use Rattle.rkt_route.specs.Collisions.{AreCollisions, CollidesAt}
 use Rattle.rkt_route.proofs.Among.{among_first}
-use Rattle.rkt_sentinel.specs.Sentinels.{SeenIgnited}
+use Rattle.rkt_ignition.specs.Sentinels.{SeenIgnited}
 use Rattle.rkt_fairing.specs.Building.{SeenBuilding}
 use Rattle.rkt_fairing.specs.Info.{SeenInfo}
 use Rattle.rkt_ignition.specs.Calls.{CallingAtIgnition}

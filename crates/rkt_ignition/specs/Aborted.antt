@@ -15,7 +15,12 @@ pub record SeenAborted : Type 0 where
 
 -- what a sentry tells
 abbrev pub told_by : {N : Type 0} → Sentry N → SeenAborted
-told_by sentry = record { type_name = sentry.type_name.now; file = sentry.location.0.now; line = sentry.location.1; column = sentry.location.2 }
+told_by sentry = record {
+  type_name = sentry.type_name.now;
+  file = sentry.location.0.now;
+  line = sentry.location.1;
+  column = sentry.location.2;
+}
 
 -- what the one at a position tells, and what those at these positions do
 abbrev pub told_at : {N : Type 0} → List (Sentry N) → ℕ → List SeenAborted

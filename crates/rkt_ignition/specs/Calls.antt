@@ -36,7 +36,12 @@ reply_of ends.FailedTurn = final.FailedTurn
 
 -- One whole call of what is in a slot, and what it leaves there and of the builder: a shield is done and changes nothing; a
 -- fairing of the application gives what its callback may, polled where no Gate is shown.
-abbrev pub CalledSlot : {H K N V F Task : Type 0} → CallingAtIgnition H K N V F Task → Slot F → SeenBuilding H K N V F → IgniteAnswer → Slot F → SeenBuilding H K N V F → Type 0
+abbrev pub CalledSlot : {H K N V F Task : Type 0}
+    → CallingAtIgnition H K N V F Task → Slot F → SeenBuilding H K N V F → IgniteAnswer → Slot F → SeenBuilding H K N V F
+    → Type 0
 CalledSlot calling (Shield headers) before answer left after = (answer ≡ ends.Done) × (left ≡ Shield headers) × (after ≡ before)
 CalledSlot {F = F} calling (App fairing) before answer left after =
-    (changed : F) × (left ≡ App changed) × Gives calling tt tt ignite_turns (record { fairing = fairing; building = before }) [] (reply_of answer) (record { fairing = changed; building = after })
+    (changed : F)
+    × (left ≡ App changed)
+    × Gives calling tt tt ignite_turns (record { fairing = fairing; building = before }) [] (reply_of answer)
+    (record { fairing = changed; building = after })

@@ -36,7 +36,8 @@ answered ends.Err info fairings = with_failure info fairings
 answered ends.FailedTurn info fairings = with_failure info fairings
 
 -- the next fairing that waits is called, on the builder as it is, and counts as ignited
-pub record CallsNext {H K N V F Task : Type 0} (calling : CallingAtIgnition H K N V F Task) (info : F → SeenInfo) (now : Igniting H K N V F) (call : SeenCall) (next : Igniting H K N V F) : Type 0 where
+pub record CallsNext {H K N V F Task : Type 0} (calling : CallingAtIgnition H K N V F Task) (info : F → SeenInfo)
+    (now : Igniting H K N V F) (call : SeenCall) (next : Igniting H K N V F) : Type 0 where
   pub slot : Slot F
   -- what the call leaves in its place
   pub left : Slot F
@@ -53,15 +54,20 @@ with_others key info now = record {
 }
 
 -- these calls, in order, lead from a rocket at the beginning to a later one
-pub data Ignites {H K N V F Task : Type 0} (calling : CallingAtIgnition H K N V F Task) (key : F → Key) (info : F → SeenInfo) (beginning : Igniting H K N V F) : List SeenCall → Igniting H K N V F → Type 0 where
+pub data Ignites {H K N V F Task : Type 0} (calling : CallingAtIgnition H K N V F Task) (key : F → Key) (info : F → SeenInfo)
+    (beginning : Igniting H K N V F) : List SeenCall → Igniting H K N V F → Type 0 where
   -- none were made
   begins : Ignites calling key info beginning [] beginning
   -- where one waits, it is called
   calls_next : {calls : List SeenCall} {call : SeenCall} {now next : Igniting H K N V F}
-      → Ignites calling key info beginning calls now → CallsNext calling info now call next → Ignites calling key info beginning (calls ++ call ∷ []) next
+      → Ignites calling key info beginning calls now
+      → CallsNext calling info now call next
+      → Ignites calling key info beginning (calls ++ call ∷ []) next
   -- where none waits, those that were attached meanwhile are added
   adds_others : {calls : List SeenCall} {now : Igniting H K N V F}
-      → Ignites calling key info beginning calls now → ¬ Waits now.attached → Ignites calling key info beginning calls (with_others key info now)
+      → Ignites calling key info beginning calls now
+      → ¬ Waits now.attached
+      → Ignites calling key info beginning calls (with_others key info now)
 
 -- none waits, and none was attached meanwhile
 pub record IsOver {H K N V F : Type 0} (now : Igniting H K N V F) : Type 0 where
@@ -72,7 +78,8 @@ pub record IsOver {H K N V F : Type 0} (now : Igniting H K N V F) : Type 0 where
 abbrev pub ignite_calls : ℕ
 ignite_calls = 1024
 
-module _ {H K N V F Task : Type 0} (calling : CallingAtIgnition H K N V F Task) (key : F → Key) (info : F → SeenInfo) (beginning : Igniting H K N V F) where
+module _ {H K N V F Task : Type 0} (calling : CallingAtIgnition H K N V F Task) (key : F → Key) (info : F → SeenInfo)
+    (beginning : Igniting H K N V F) where
   -- all that waited were called, with these calls
   pub record IgnitesAll (calls : List SeenCall) (end : Igniting H K N V F) : Type 0 where
     pub ignites : Ignites calling key info beginning calls end

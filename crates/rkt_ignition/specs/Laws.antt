@@ -10,8 +10,21 @@ use Rattle.rkt_router.specs.Tries.{Matches}
 
 -- two different routes that match one request differ in rank
 abbrev pub RanksDiffer : {H N V : Type 0} → List (Route H N) → Seen V → Type 0
-RanksDiffer {H = H} {N = N} routes request = (p q : ℕ) (a b : Route H N) → slice_get routes p ≡ Some a → slice_get routes q ≡ Some b → p ≢ q → Matches a request → Matches b request → a.rank ≢ b.rank
+RanksDiffer {H = H} {N = N} routes request =
+    (p q : ℕ) (a b : Route H N)
+    → slice_get routes p ≡ Some a
+    → slice_get routes q ≡ Some b
+    → p ≢ q
+    → Matches a request
+    → Matches b request
+    → a.rank ≢ b.rank
 
 -- at most one catcher has a code, or is for every one, below a base
 abbrev pub AtMostOneCatches : {K : Type 0} → List (Catcher K) → Type 0
-AtMostOneCatches {K} catchers = (p q : ℕ) (a b : Catcher K) → slice_get catchers p ≡ Some a → slice_get catchers q ≡ Some b → p ≢ q → a.code ≡ b.code → segments_of a.base ≢ segments_of b.base
+AtMostOneCatches {K} catchers =
+    (p q : ℕ) (a b : Catcher K)
+    → slice_get catchers p ≡ Some a
+    → slice_get catchers q ≡ Some b
+    → p ≢ q
+    → a.code ≡ b.code
+    → segments_of a.base ≢ segments_of b.base

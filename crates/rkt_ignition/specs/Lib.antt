@@ -5,4 +5,5 @@ pub mod Ignites
 pub mod Laws
 pub mod Reached
 pub mod Rounds
+pub mod Sentinels
 pub mod Valid

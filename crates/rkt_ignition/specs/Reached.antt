@@ -4,7 +4,7 @@ use Rattle.std.specs.List.{Contains, list_any}
 use Rattle.std.specs.Option.{option_map_or}
 use Rattle.rkt_http.specs.declared.key.Key.{Key}
 use Rattle.rkt_route.specs.declared.route.Sentry.{Sentry}
-use Rattle.rkt_sentinel.specs.Sentinels.{SeenIgnited}
+use Rattle.rkt_ignition.specs.Sentinels.{SeenIgnited}
 use Rattle.rkt_ignition.specs.declared.node.Node.{Node}
 
 -- a sentry's place in the order of mounting is its position; S is the type of what sentries ask, V that of managed values
@@ -23,7 +23,8 @@ is_same_parent (Some a) (Some b) = a.0 == b.0
 -- the positions of those that have a parent, or that have none; the first of them stands at a position
 abbrev pub children_from : ℕ → List Node → Option Key → List ℕ
 children_from at [] parent = []
-children_from at (node ∷ nodes) parent = if is_same_parent node.parent parent then at ∷ children_from (at + 1) nodes parent else children_from (at + 1) nodes parent
+children_from at (node ∷ nodes) parent =
+    if is_same_parent node.parent parent then at ∷ children_from (at + 1) nodes parent else children_from (at + 1) nodes parent
 
 abbrev pub children : List Node → Option Key → List ℕ
 children nodes parent = children_from 0 nodes parent
@@ -34,18 +35,22 @@ is_such specialized node = if specialized then node.specialized else not node.sp
 
 -- the one at a position is such, and has a key
 abbrev pub has_key : List Node → Bool → Key → ℕ → Bool
-has_key nodes specialized key at = option_map_or (λ node. is_such specialized node && (node.key.0 == key.0)) (slice_get nodes at) false
+has_key nodes specialized key at =
+    option_map_or (λ node. is_such specialized node && (node.key.0 == key.0)) (slice_get nodes at) false
 
 -- the one at a position is such, and none of those before it is such and has its key
 abbrev pub is_first : List Node → Bool → List ℕ → ℕ → Bool
 is_first nodes specialized before at =
-    option_map_or (λ node. is_such specialized node && not (list_any (has_key nodes specialized node.key) before)) (slice_get nodes at) false
+    option_map_or (λ node. is_such specialized node && not (list_any (has_key nodes specialized node.key) before))
+    (slice_get nodes at) false
 
 -- of these, which come behind others, those that are first
 abbrev pub firsts : List Node → Bool → List ℕ → List ℕ → List ℕ
 firsts nodes specialized before [] = []
 firsts nodes specialized before (at ∷ rest) =
-    if is_first nodes specialized before at then at ∷ firsts nodes specialized (before ++ at ∷ []) rest else firsts nodes specialized (before ++ at ∷ []) rest
+    if is_first nodes specialized before at
+    then at ∷ firsts nodes specialized (before ++ at ∷ []) rest
+    else firsts nodes specialized (before ++ at ∷ []) rest
 
 -- those whose parent is the key of the one at a position
 abbrev pub opened : List Node → ℕ → List ℕ
@@ -76,11 +81,14 @@ IsClosed nodes positions = (at child : ℕ) → Contains positions at
     → Contains (opened nodes at) child → Contains positions child
 
 -- those that are asked answer, each under its key
-abbrev pub Answer : {S V : Type 0} → (S → SeenIgnited V → Bool → Type 0) → List (Sentry S) → SeenIgnited V → List ℕ → List (Key × Bool) → Type 0
+abbrev pub Answer : {S V : Type 0} → (S → SeenIgnited V → Bool → Type 0) → List (Sentry S) → SeenIgnited V → List ℕ
+    → List (Key × Bool) → Type 0
 Answer may sentries rocket [] [] = Unit {0}
 Answer may sentries rocket [] (one ∷ more) = ⊥
 Answer may sentries rocket (at ∷ rest) [] = ⊥
-Answer may sentries rocket (at ∷ rest) (one ∷ more) = IfSome (slice_get sentries at) (λ sentry. (one.0 ≡ sentry.key) × may sentry.abort rocket one.1) × Answer may sentries rocket rest more
+Answer may sentries rocket (at ∷ rest) (one ∷ more) =
+    IfSome (slice_get sentries at) (λ sentry. (one.0 ≡ sentry.key) × may sentry.abort rocket one.1)
+    × Answer may sentries rocket rest more
 
 -- one has answered under this key that the launch is to be aborted
 abbrev pub has_aborted : List (Key × Bool) → Key → Bool
@@ -91,7 +99,8 @@ abbrev pub aborts : List Node → List (Key × Bool) → ℕ → Bool
 aborts nodes answers at = option_map_or (λ node. node.specialized && has_aborted answers node.key) (slice_get nodes at) false
 
 -- those that abort, in the order in which they are reached
-pub record IsQueried {S V : Type 0} (may : S → SeenIgnited V → Bool → Type 0) (sentries : List (Sentry S)) (rocket : SeenIgnited V) (aborting : List ℕ) : Type 0 where
+pub record IsQueried {S V : Type 0} (may : S → SeenIgnited V → Bool → Type 0) (sentries : List (Sentry S))
+    (rocket : SeenIgnited V) (aborting : List ℕ) : Type 0 where
   pub answers : List (Key × Bool)
   pub answered : Answer may sentries rocket (asked (map node_of sentries)) answers
   pub those : aborting ≡ filter (aborts (map node_of sentries) answers) (reached (map node_of sentries))

@@ -12,21 +12,27 @@ use Rattle.rkt_ignition.specs.declared.rounds.Rounds.TheVariants.{Over, TooMany}
 
 -- where none waits, those that were attached meanwhile were added
 abbrev pub Settles : {H K N V F : Type 0} → (F → Key) → (F → SeenInfo) → Igniting H K N V F → Igniting H K N V F → Type 0
-Settles key info before after = (Waits before.attached × (after ≡ before)) ⊎ (¬ Waits before.attached × (after ≡ with_others key info before))
+Settles key info before after =
+    (Waits before.attached × (after ≡ before)) ⊎ (¬ Waits before.attached × (after ≡ with_others key info before))
 
 -- the next call, behind those that were added, or none where none waits
-abbrev pub IsNext : {H K N V F Task : Type 0} → CallingAtIgnition H K N V F Task → (F → Key) → (F → SeenInfo) → Igniting H K N V F → Option SeenCall → Igniting H K N V F → Type 0
+abbrev pub IsNext : {H K N V F Task : Type 0}
+    → CallingAtIgnition H K N V F Task → (F → Key) → (F → SeenInfo) → Igniting H K N V F → Option SeenCall → Igniting H K N V F
+    → Type 0
 IsNext calling key info before None after = Settles key info before after × ¬ Waits after.attached
-IsNext {H = H} {K = K} {N = N} {V = V} {F = F} calling key info before (Some call) after = (now : Igniting H K N V F) × Settles key info before now × CallsNext calling info now call after
+IsNext {H = H} {K = K} {N = N} {V = V} {F = F} calling key info before (Some call) after =
+    (now : Igniting H K N V F) × Settles key info before now × CallsNext calling info now call after
 
 -- how the calls of an ignition ended
-abbrev pub RoundsEnd : {H K N V F Task : Type 0} → CallingAtIgnition H K N V F Task → (F → Key) → (F → SeenInfo) → Igniting H K N V F → Rounds → Igniting H K N V F → Type 0
+abbrev pub RoundsEnd : {H K N V F Task : Type 0}
+    → CallingAtIgnition H K N V F Task → (F → Key) → (F → SeenInfo) → Igniting H K N V F → Rounds → Igniting H K N V F → Type 0
 RoundsEnd calling key info beginning (Over calls) now = IgnitesAll calling key info beginning calls now
 RoundsEnd calling key info beginning (TooMany calls) now = IgnitesTooMany calling key info beginning calls now
 
 -- some have failed, and these are they, beside the calls
 abbrev pub RefusesFairings : {F : Type 0} → SeenFairings F → List SeenCall → IgniteError → Type 0
-RefusesFairings fairings made (FailedFairings infos calls) = (map seen_info infos ≡ fairings.failures) × (fairings.failures ≢ []) × (calls ≡ made)
+RefusesFairings fairings made (FailedFairings infos calls) =
+    (map seen_info infos ≡ fairings.failures) × (fairings.failures ≢ []) × (calls ≡ made)
 RefusesFairings fairings made (IgniteLimit calls) = ⊥
 RefusesFairings fairings made (Config bad) = ⊥
 RefusesFairings fairings made (Collisions found) = ⊥
@@ -47,9 +53,14 @@ HavePassed fairings (Over made) = fairings.failures ≡ []
 HavePassed fairings (TooMany made) = ⊥
 
 -- Why the calls of an ignition are refused.
-abbrev pub RefusesCalls : {H K N V F Task : Type 0} → CallingAtIgnition H K N V F Task → (F → Key) → (F → SeenInfo) → Igniting H K N V F → Igniting H K N V F → IgniteError → Type 0
+abbrev pub RefusesCalls : {H K N V F Task : Type 0}
+    → CallingAtIgnition H K N V F Task → (F → Key) → (F → SeenInfo) → Igniting H K N V F → Igniting H K N V F → IgniteError
+    → Type 0
 RefusesCalls calling key info beginning now (IgniteLimit calls) = IgnitesTooMany calling key info beginning calls now
-RefusesCalls calling key info beginning now (FailedFairings infos calls) = IgnitesAll calling key info beginning calls now × (map seen_info infos ≡ now.attached.failures) × (now.attached.failures ≢ [])
+RefusesCalls calling key info beginning now (FailedFairings infos calls) =
+    IgnitesAll calling key info beginning calls now
+    × (map seen_info infos ≡ now.attached.failures)
+    × (now.attached.failures ≢ [])
 RefusesCalls calling key info beginning now (Config bad) = ⊥
 RefusesCalls calling key info beginning now (Collisions found) = ⊥
 RefusesCalls calling key info beginning now (SentinelAborts aborted) = ⊥

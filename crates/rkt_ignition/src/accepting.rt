@@ -7,11 +7,10 @@ ghost use Rattle.rkt_ignition.specs.Ignited.{IsAccepted, NoneCollide, RefusesPar
 ghost use Rattle.rkt_ignition.specs.Reached.{IsQueried};
 
 use crate::sentries::{aborted, queried};
-use crate::{IgniteError, IgnitedPartsOf};
+use crate::{Aborts, IgniteError, Ignited, IgnitedPartsOf};
 use rkt_base::Want;
 use rkt_request::{Config, ConfigTable, Types};
 use rkt_router::{Route, Router};
-use rkt_sentinel::{Aborts, Ignited};
 use std::alloc::Global;
 
 /// The configuration that a table spells.

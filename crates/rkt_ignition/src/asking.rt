@@ -5,11 +5,11 @@ ghost use Rattle.rkt_ignition.specs.Reached.{Answer, IsQueried, aborts, has_abor
 
 use crate::node::{Node, add_nodes};
 use crate::reach::{asked, reached};
+use crate::{Aborts, Ignited};
 use rkt_base::{NoMemory, Seq, Want};
 use rkt_http::Key;
 use rkt_request::Types;
 use rkt_router::Sentry;
-use rkt_sentinel::{Aborts, Ignited};
 use std::alloc::Global;
 
 // What each of these answers, under its key.

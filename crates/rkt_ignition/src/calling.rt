@@ -18,7 +18,9 @@ fn call_fairing<A: Parts, F, P: IgniteCallback<A, F>>(
     fairing: &mut F,
     building: &mut Building<A, F>,
 ) -> Result<IgniteAnswer, NoMemory>
-    ensures { IfOk result (λ answer. Gives P.calling tt tt ignite_turns (record { fairing = fairing.old; building = building.old }) [] (reply_of answer) (record { fairing = fairing.new; building = building.new })) }
+    ensures { IfOk result (λ answer.
+        Gives P.calling tt tt ignite_turns (record { fairing = fairing.old; building = building.old }) [] (reply_of answer)
+        (record { fairing = fairing.new; building = building.new })) }
 {
     let mut task = P::start(fairing);
     for turn in 0..TURNS {

@@ -19,7 +19,8 @@ impl Model for Aborted {
 
     ghost Value = { SeenAborted };
 
-    ghost view = { λ a. record { type_name = a.type_name.now; file = a.location.0.now; line = a.location.1; column = a.location.2 } };
+    ghost view = { λ a.
+        record { type_name = a.type_name.now; file = a.location.0.now; line = a.location.1; column = a.location.2 } };
 }
 
 /// Why a rocket does not ignite.

@@ -11,11 +11,10 @@ ghost use Rattle.rkt_ignition.specs.Valid.{IsValid};
 use crate::accepting::{accept, read_config};
 use crate::rounds::{Rounds, call_all};
 use crate::routed::routed;
-use crate::{IgniteCall, IgniteError, IgnitedPartsOf};
+use crate::{Aborts, IgniteCall, IgniteError, IgnitedPartsOf};
 use rkt_base::{NoMemory, Seq, Want};
 use rkt_fairing::{Attach, Building, Fairings, IgniteCallback, Info, Parts};
 use rkt_request::{Config, Types};
-use rkt_sentinel::Aborts;
 use std::alloc::Global;
 use std::mem::replace;
 
@@ -150,9 +149,13 @@ where
     A: Parts,
     F: Attach + Drop,
     P: IgniteCallback<A, F>,
-    ensures ok { OnOk result ((calls : List SeenCall) × IgnitesAll P.calling F.key F.info (record { attached = attached.old; building = building.old }) calls (record { attached = attached.new; building = building.new })) }
+    ensures ok { OnOk result ((calls : List SeenCall)
+        × IgnitesAll P.calling F.key F.info (record { attached = attached.old; building = building.old }) calls
+        (record { attached = attached.new; building = building.new })) }
     ensures none_failed { OnOk result (attached.new.failures ≡ []) }
-    ensures refused { IfRefused result (RefusesCalls P.calling F.key F.info (record { attached = attached.old; building = building.old }) (record { attached = attached.new; building = building.new })) }
+    ensures refused { IfRefused result
+        (RefusesCalls P.calling F.key F.info (record { attached = attached.old; building = building.old })
+        (record { attached = attached.new; building = building.new })) }
 {
     let rounds = call_all::<A, F, P>(alloc, attached, building)?;
     passed(alloc, attached, rounds)

@@ -1,4 +1,5 @@
-//! Ignition: what was built of a rocket becomes what it may be launched with, or is refused.
+//! Ignition: what was built of a rocket becomes what it may be launched with, or is refused; and what may keep a rocket
+//! from being launched.
 #![tactic(auto)]
 
 mod accepting;
@@ -13,6 +14,7 @@ mod parts;
 mod reach;
 mod rounds;
 mod routed;
+mod sentinel;
 mod sentries;
 
 pub use answer::{IgniteAnswer, IgniteCall};
@@ -21,3 +23,4 @@ pub use error::{Aborted, IgniteError};
 pub use igniting::{IgnitedParts, ignite};
 pub use laws::{at_most_one_catches, ranks_differ, reached_is_closed};
 pub use parts::IgnitedPartsOf;
+pub use sentinel::{Aborts, Asks, Ignited, Sentinel};

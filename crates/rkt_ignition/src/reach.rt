@@ -49,7 +49,8 @@ fn add_layer(
     positions: &mut Seq<usize>,
 ) -> Result<(), NoMemory>
     requires { from ≤ length positions.old }
-    ensures { OnOk result (positions.new ≡ positions.old ++ all_opened nodes.now (firsts nodes.now false (take from positions.old) (drop from positions.old))) }
+    ensures { OnOk result (positions.new
+        ≡ positions.old ++ all_opened nodes.now (firsts nodes.now false (take from positions.old) (drop from positions.old))) }
 {
     let opening = firsts(alloc, nodes, false, positions.as_slice(), from)?;
     add_all_opened(nodes, opening.as_slice(), positions)

@@ -26,7 +26,8 @@ fn settle<A: Parts, F: Attach + Drop>(
     attached: &mut Fairings<F>,
     building: &mut Building<A, F>,
 ) -> Result<(), NoMemory>
-    ensures { OnOk result (Settles F.key F.info (record { attached = attached.old; building = building.old }) (record { attached = attached.new; building = building.new })) }
+    ensures { OnOk result (Settles F.key F.info (record { attached = attached.old; building = building.old })
+        (record { attached = attached.new; building = building.new })) }
 {
     if !attached.waits() {
         attached.append(&mut building.fairings)?;
@@ -74,7 +75,8 @@ fn next_call<A: Parts, F: Attach + Drop, P: IgniteCallback<A, F>>(
     attached: &mut Fairings<F>,
     building: &mut Building<A, F>,
 ) -> Result<Option<IgniteCall>, NoMemory>
-    ensures { IfOk result (λ next. IsNext P.calling F.key F.info (record { attached = attached.old; building = building.old }) next (record { attached = attached.new; building = building.new })) }
+    ensures { IfOk result (λ next. IsNext P.calling F.key F.info (record { attached = attached.old; building = building.old })
+        next (record { attached = attached.new; building = building.new })) }
 {
     settle::<A, F>(attached, building)?;
     if !attached.waits() {
@@ -91,7 +93,9 @@ pub(crate) fn call_all<A: Parts, F: Attach + Drop, P: IgniteCallback<A, F>>(
     attached: &mut Fairings<F>,
     building: &mut Building<A, F>,
 ) -> Result<Rounds, NoMemory>
-    ensures { IfOk result (λ rounds. RoundsEnd P.calling F.key F.info (record { attached = attached.old; building = building.old }) rounds (record { attached = attached.new; building = building.new })) }
+    ensures { IfOk result (λ rounds.
+        RoundsEnd P.calling F.key F.info (record { attached = attached.old; building = building.old }) rounds
+        (record { attached = attached.new; building = building.new })) }
 {
     let mut calls = Seq::new(alloc);
     for _made in 0..CALLS {

@@ -4,15 +4,14 @@ ghost use Rattle.std.specs.Option.{option_copied};
 ghost use Rattle.rkt_ignition.specs.Aborted.{aborted_at, sentries_of, told_at, told_by};
 ghost use Rattle.rkt_ignition.specs.Reached.{Answer, IsQueried, node_of};
 
-use crate::Aborted;
 use crate::asking::{aborting, ask};
 use crate::node::{Node, add_nodes};
 use crate::reach::{asked, reached};
+use crate::{Aborted, Aborts, Ignited};
 use rkt_base::{NoMemory, Seq};
 use rkt_http::Key;
 use rkt_request::Types;
 use rkt_router::{Route, Sentry};
-use rkt_sentinel::{Aborts, Ignited};
 use std::alloc::Global;
 
 // What the sentries of all routes say, in mounting order.

@@ -1,6 +1,6 @@
 -- A rocket as contracts see it.
 use Rattle.std.specs.Prelude.{ℕ, List}
-use Rattle.rkt_lifecycle.specs.Tables.{SeenTables}
+use Rattle.rkt_exchange.specs.Tables.{SeenTables}
 use Rattle.rkt_turn.specs.Shutdown.{Handle}
 
 -- F is the type of fairings, H that of handlers, K that of catchers' handlers, N that of what sentries ask, V that of managed

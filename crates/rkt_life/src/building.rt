@@ -63,7 +63,8 @@ impl<A: App> RocketOf<AppBuilding<A>, A> {
         base: &str,
         routes: Vec<Route<A::Handler, A::Sentinel>>,
     ) -> Result<Rocket<Build, A>, Handed<Rocket<Build, A>, Want<InvalidBase>>>
-        ensures ok { IfOk result (λ rocket. rocket ≡ record self { routes = self.routes ++ map (route_below (target_of base.now).path) routes.items }) }
+        ensures ok { IfOk result (λ rocket.
+            rocket ≡ record self { routes = self.routes ++ map (route_below (target_of base.now).path) routes.items }) }
         ensures origin { OnOk result (IsOrigin Profile.Request base.now) }
         // It is refused exactly where the base is no origin.
         ensures refused { IfHanded result (λ _. ¬ IsOrigin Profile.Request base.now) }
@@ -86,7 +87,8 @@ impl<A: App> RocketOf<AppBuilding<A>, A> {
         base: &str,
         catchers: Vec<Catcher<A::Catch>>,
     ) -> Result<Rocket<Build, A>, Handed<Rocket<Build, A>, Want<InvalidBase>>>
-        ensures ok { IfOk result (λ rocket. rocket ≡ record self { catchers = self.catchers ++ map (catcher_below (target_of base.now).path) catchers.items }) }
+        ensures ok { IfOk result (λ rocket.
+            rocket ≡ record self { catchers = self.catchers ++ map (catcher_below (target_of base.now).path) catchers.items }) }
         ensures origin { OnOk result (IsOrigin Profile.Request base.now) }
         // It is refused exactly where the base is no origin.
         ensures refused { IfHanded result (λ _. ¬ IsOrigin Profile.Request base.now) }
@@ -110,7 +112,8 @@ impl<A: App> RocketOf<AppBuilding<A>, A> {
     ) -> Result<Rocket<Build, A>, Handed<Rocket<Build, A>, Want<DuplicateState<A::Value>>>>
         ensures ok { IfOk result (λ rocket. rocket ≡ record self { managed = insert_entry nat_cmp self.managed key.0 value }) }
         ensures free { OnOk result (value_at key self.managed ≡ None) }
-        ensures duplicate { IfHanded result (λ e. (e ≡ record { key = key; value = value }) × IsSome (value_at key self.managed)) }
+        ensures duplicate { IfHanded result (λ e.
+            (e ≡ record { key = key; value = value }) × IsSome (value_at key self.managed)) }
         ensures handed { IfErr result (λ h. h.rocket ≡ self) }
     {
         match self.state.manage(key, value) {
@@ -128,7 +131,8 @@ impl<A: App> RocketOf<AppBuilding<A>, A> {
         mut self,
         fairing: Slot<A::Fairing>,
     ) -> Result<Rocket<Build, A>, Handed<Rocket<Build, A>, NoMemory>>
-        ensures ok { IfOk result (λ rocket. rocket ≡ record self { fairings = added A.Fairing.key A.Fairing.info self.fairings fairing }) }
+        ensures ok { IfOk result (λ rocket.
+            rocket ≡ record self { fairings = added A.Fairing.key A.Fairing.info self.fairings fairing }) }
         ensures handed { IfErr result (λ h. h.rocket ≡ self) }
     {
         match self.state.attach(fairing) {

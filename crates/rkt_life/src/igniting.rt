@@ -1,7 +1,7 @@
 //! What a rocket is made of once it has ignited.
 use crate::{Ignite, Orbit};
+use rkt_exchange::TablesOf;
 use rkt_fairing::{App, Parts};
-use rkt_lifecycle::TablesOf;
 use rkt_request::{ConfigTable, Types};
 use rkt_turn::{Reason, Shutdown};
 use std::marker::{Model, PhantomData};

@@ -10,10 +10,9 @@ ghost use Rattle.rkt_turn.specs.Shutdown.{fresh};
 
 use crate::{Ignite, Rocket, RocketOf};
 use rkt_base::Want;
+use rkt_exchange::TablesOf;
 use rkt_fairing::{App, AppBuilding, Fairing};
-use rkt_ignition::{IgniteError, at_most_one_catches, ignite, ranks_differ};
-use rkt_lifecycle::TablesOf;
-use rkt_sentinel::Aborts;
+use rkt_ignition::{Aborts, IgniteError, at_most_one_catches, ignite, ranks_differ};
 use std::alloc::Global;
 
 impl<A: App<Sentinel: Aborts<A>>> RocketOf<AppBuilding<A>, A> {
@@ -21,11 +20,14 @@ impl<A: App<Sentinel: Aborts<A>>> RocketOf<AppBuilding<A>, A> {
     /// where it is refused, all of it is dropped.
     pub fn ignite(self, alloc: Global) -> Result<Rocket<Ignite, A>, Want<IgniteError>>
         // It is made of what has ignited.
-        ensures ignited { IfOk result (λ rocket. IgnitesTo (IsIgnited A.Fairing.Ignites.calling A.Fairing.key A.Fairing.info A.Sentinel.may self) rocket) }
+        ensures ignited { IfOk result (λ rocket.
+            IgnitesTo (IsIgnited A.Fairing.Ignites.calling A.Fairing.key A.Fairing.info A.Sentinel.may self) rocket) }
         // Each refusal has its cause, and comes only where those before it did not.
-        ensures refused { IfRefused result (IsRefused A.Fairing.Ignites.calling A.Fairing.key A.Fairing.info A.Sentinel.may self) }
+        ensures refused { IfRefused result
+            (IsRefused A.Fairing.Ignites.calling A.Fairing.key A.Fairing.info A.Sentinel.may self) }
         // Where none of its ignitions can be refused, it ignites, as long as there is memory.
-        ensures complete { IsValid A.Fairing.Ignites.calling A.Fairing.key A.Fairing.info A.Sentinel.may self → IfRefused result (λ _. ⊥) }
+        ensures complete { IsValid A.Fairing.Ignites.calling A.Fairing.key A.Fairing.info A.Sentinel.may self
+            → IfRefused result (λ _. ⊥) }
         ensures fresh { IfOk result (λ rocket. rocket.handle ≡ fresh rocket.handle.wire) }
         // Two different routes that match one request differ in rank.
         ensures ranks_differ { IfOk result (λ rocket. (request : Seen A.Value)

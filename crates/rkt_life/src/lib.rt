@@ -26,13 +26,13 @@ pub use rkt_answers::{
 pub use rkt_base::{NoMemory, Want};
 pub use rkt_cookie::Cookie;
 pub use rkt_data::MemorySource;
+pub use rkt_exchange::{Ended, EndedOf, Exchange, ExchangeOf, Run, RunOf, Tables, TablesOf};
 pub use rkt_fairing::{
     App, Attach, Fairing, Fairings, Info, InvalidBase, Kind, Parts, Quiet, RequestCallback,
     ResponseCallback, Slot,
 };
 pub use rkt_http::{Key, Method, Outcome, Status};
 pub use rkt_ignition::{Aborted, IgniteAnswer, IgniteCall, IgniteError};
-pub use rkt_lifecycle::{Ended, EndedOf, Exchange, ExchangeOf, Run, RunOf, Tables, TablesOf};
 pub use rkt_request::{
     Body0, Config, ConfigTable, Ctx, FromData, FromText, Managed, Parsed, Request, Types,
 };

@@ -6,9 +6,9 @@ ghost use Rattle.rkt_turn.specs.Shutdown.{fresh};
 
 use crate::{Ignite, IgnitedOf, Igniting, Orbit, Orbiting, Phase};
 use rkt_base::NoMemory;
+use rkt_exchange::Tables;
 use rkt_fairing::App;
 use rkt_http::Key;
-use rkt_lifecycle::Tables;
 use rkt_request::{Config, ConfigTable};
 use rkt_route::{Catcher, Route};
 use rkt_turn::{Shutdown, TripWire};

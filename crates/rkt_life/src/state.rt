@@ -25,7 +25,10 @@ pub trait Stateful<A: App>: Drop {
     ghost use Rattle.rkt_life.specs.declared.state.StateOf.{StateOf};
 
     /// Which phase's it is.
-    ghost among: { Self → StateOf (SeenBuilding A.Handler A.Catch A.Sentinel A.Value A.Fairing) (SeenRocket A.Fairing A.Handler A.Catch A.Sentinel A.Value) (SeenRocket A.Fairing A.Handler A.Catch A.Sentinel A.Value) };
+    ghost among: { Self
+        → StateOf (SeenBuilding A.Handler A.Catch A.Sentinel A.Value A.Fairing)
+        (SeenRocket A.Fairing A.Handler A.Catch A.Sentinel A.Value)
+        (SeenRocket A.Fairing A.Handler A.Catch A.Sentinel A.Value) };
 
     /// It as that of its phase.
     fn into_state(self) -> State<A>

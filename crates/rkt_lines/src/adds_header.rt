@@ -13,7 +13,10 @@ pub struct AddsHeader(pub &'static str, pub &'static str);
 impl<T: Types> ChangesResponse<T> for AddsHeader {
     // The header stands behind those of its name.
     ghost may = { λ change request before after.
-        after ≡ record before { response = with_headers before.response (added before.response.headers (record { name = change.0.now; value = change.1.now })) } };
+        after ≡ record before {
+          response = with_headers before.response
+              (added before.response.headers (record { name = change.0.now; value = change.1.now }));
+        } };
 
     fn on_response(
         &self,

@@ -54,7 +54,8 @@ fn routes<H: Drop, N: Drop>(
     uri: &str,
     handler: H,
 ) -> Result<Vec<Route<H, N>>, Want<InvalidUri>>
-    ensures read { IfOk result (λ routes. (route : Route H N) × IsRead method uri.now handler route × (routes.items ≡ route ∷ [])) }
+    ensures read { IfOk result (λ routes.
+        (route : Route H N) × IsRead method uri.now handler route × (routes.items ≡ route ∷ [])) }
     ensures refused { IfRefused result (λ e. LeavesAt (IsOrigin Profile.Route) uri.now e.at) }
 {
     let route = Route::new(alloc, method, uri, handler)?;
@@ -83,7 +84,9 @@ impl<A: App> Builds<A> for RocketOf<AppBuilding<A>, A> {
         uri: &str,
         page: P,
     ) -> Result<Rocket<Build, A>, BuildError>
-        ensures mounted { IfOk result (λ rocket. (route : Route A.Handler A.Sentinel) × IsRouted method uri.now (P.handler page) route × (rocket ≡ record self { routes = self.routes ++ route ∷ [] })) }
+        ensures mounted { IfOk result (λ rocket. (route : Route A.Handler A.Sentinel)
+            × IsRouted method uri.now (P.handler page) route
+            × (rocket ≡ record self { routes = self.routes ++ route ∷ [] })) }
         ensures refused { IfErr result (IsRouteFault uri.now) }
     {
         let routes = routes(alloc, method, uri, page.into_handler())?;
@@ -96,7 +99,8 @@ impl<A: App> Builds<A> for RocketOf<AppBuilding<A>, A> {
         code: Option<u16>,
         page: P,
     ) -> Result<Rocket<Build, A>, BuildError>
-        ensures registered { IfOk result (λ rocket. rocket ≡ record self { catchers = self.catchers ++ catcher_at_root None code (Catching.App (P.handler page)) ∷ [] }) }
+        ensures registered { IfOk result (λ rocket. rocket
+            ≡ record self { catchers = self.catchers ++ catcher_at_root None code (Catching.App (P.handler page)) ∷ [] }) }
         ensures code { OnOk result (IfSome code IsErrorCode) }
         ensures refused { IfErr result (IsCatcherFault code) }
     {
@@ -105,7 +109,8 @@ impl<A: App> Builds<A> for RocketOf<AppBuilding<A>, A> {
     }
 
     fn fairing(self, fairing: A::Fairing) -> Result<Rocket<Build, A>, BuildError>
-        ensures attached { IfOk result (λ rocket. rocket ≡ record self { fairings = added A.Fairing.key A.Fairing.info self.fairings (Slot.App fairing) }) }
+        ensures attached { IfOk result (λ rocket.
+            rocket ≡ record self { fairings = added A.Fairing.key A.Fairing.info self.fairings (Slot.App fairing) }) }
         ensures refused { IfErr result (λ error. error ≡ BuildError.NoMemory) }
     {
         match self.attach(Slot::App(fairing)) {

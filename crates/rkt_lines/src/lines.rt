@@ -1,9 +1,9 @@
 //! A launch over the lines of standard input.
 use crate::printed::print_history;
 use rkt_base::{NoMemory, Seq, Text};
+use rkt_ignition::Aborts;
 use rkt_life::{App, Build, BuildError, MemorySource, Rocket};
 use rkt_request::Head;
-use rkt_sentinel::Aborts;
 use rkt_serve::{Error, Launch, Launched, Links, ListClock, ListListener};
 use std::alloc::Global;
 use std::io;

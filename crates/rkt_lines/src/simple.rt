@@ -6,8 +6,9 @@ use rkt_life::{
 };
 use std::marker::PhantomData;
 
-/// The application of the pages P, the catchers C and the changes of responses F, which manages values of V. It caches nothing,
-/// tells no reasons for a shutdown apart, and its bodies are in memory. One of other parts says so by `Types`, `Parts` and `App`.
+/// The application of the pages P, the catchers C and the changes of responses F, which manages values of V. It caches
+/// nothing, tells no reasons for a shutdown apart, and its bodies are in memory. One of other parts says so by `Types`,
+/// `Parts` and `App`.
 pub struct Simple<P, C, F = AddsHeader, V = ()> {
     parts: PhantomData<(P, C, F, V)>,
 }

@@ -6,8 +6,8 @@ use Rattle.rkt_base.specs.declared.poll.Poll.TheVariants.{Ready, Pending}
 use Rattle.rkt_source.specs.Memory.{counted}
 use Rattle.rkt_message.specs.declared.piece.Piece.{Piece}
 use Rattle.rkt_link.specs.Asked.{Asked}
-use Rattle.rkt_link.specs.declared.link.Handed.{Handed}
-use Rattle.rkt_link.specs.declared.link.Handed.TheVariants.{Taken, Back, Refused}
+use Rattle.rkt_link.specs.declared.link.Delivery.{Delivery}
+use Rattle.rkt_link.specs.declared.link.Delivery.TheVariants.{Taken, Back, Refused}
 use Rattle.rkt_link.specs.declared.link.SendError.{SendError}
 use Rattle.rkt_link.specs.declared.link.SendError.TheVariants.{Fault, NoMemory}
 
@@ -49,13 +49,13 @@ AfterSend (Ready (Err e)) old piece new = AfterError e old new
 AfterSend Pending old piece new = new ≡ old
 
 -- the same after a piece was handed over
-abbrev pub AfterHand : Handed → LinkMeaning → Piece → LinkMeaning → Type 0
+abbrev pub AfterHand : Delivery → LinkMeaning → Piece → LinkMeaning → Type 0
 AfterHand Taken old piece new = new ≡ with_taken old (piece ∷ [])
 AfterHand (Back other) old piece new = new ≡ old
 AfterHand (Refused e) old piece new = AfterError e old new
 
 -- what comes back is that piece
-abbrev pub ComesBack : Handed → Piece → Type 0
+abbrev pub ComesBack : Delivery → Piece → Type 0
 ComesBack Taken piece = Unit {0}
 ComesBack (Back other) piece = other ≡ piece
 ComesBack (Refused e) piece = Unit {0}

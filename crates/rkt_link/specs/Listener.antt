@@ -4,6 +4,8 @@ use Rattle.std.specs.Option.{ForSome}
 use Rattle.rkt_base.specs.Counts.{Rose}
 use Rattle.rkt_base.specs.declared.poll.Poll.{Poll}
 use Rattle.rkt_base.specs.declared.poll.Poll.TheVariants.{Ready, Pending}
+use Rattle.rkt_source.specs.Cancel.{Cancellable}
+use Rattle.rkt_source.specs.declared.stage.Stage.TheVariants.{Active}
 use Rattle.rkt_link.specs.Asked.{Asked}
 use Rattle.rkt_link.specs.Link.{LinkMeaning, IsFreshLink}
 use Rattle.rkt_link.specs.declared.listener.Accepted.{Accepted}
@@ -75,3 +77,17 @@ FaultsAs old Pending new = new.faults ≡ old.faults
 pub record Settled (old new : ListenerMeaning) : Type 0 where
   pub offers : new.offers ≡ old.offers
   pub never_faults : new.never_faults ≡ old.never_faults
+
+-- the same answer of a listener whose links can be cut off, with the link alone
+abbrev pub bare : {K : Type 0} → Poll (Accepted (Cancellable K)) → Poll (Accepted K)
+bare (Ready (Given link)) = Ready (Given link.io)
+bare (Ready End) = Ready End
+bare (Ready Fault) = Ready Fault
+bare Pending = Pending
+
+-- a link is given of which nothing is cut off
+abbrev pub GivesActive : {K : Type 0} → Poll (Accepted (Cancellable K)) → Type 0
+GivesActive (Ready (Given link)) = link.stage ≡ Active
+GivesActive (Ready End) = Unit {0}
+GivesActive (Ready Fault) = Unit {0}
+GivesActive Pending = Unit {0}

@@ -28,13 +28,22 @@ abbrev pub never_fails : List ℕ → Bool
 never_fails fails = nat_eq (length fails) 0
 
 abbrev pub asked_of : LinkInMemory → Asked
-asked_of link = record { head = link.head; body = Some link.body; body_never_faults = true; never_faults = never_fails link.fails }
+asked_of link =
+    record { head = link.head; body = Some link.body; body_never_faults = true; never_faults = never_fails link.fails }
 
 -- a link in memory tells all
 abbrev pub link_meaning : LinkInMemory → LinkMeaning
-link_meaning link = record { asked = Some (asked_of link); source_taken = link.source_taken; held = Some link.held; faults = link.faults; never_faults = never_fails link.fails }
+link_meaning link = record {
+  asked = Some (asked_of link);
+  source_taken = link.source_taken;
+  held = Some link.held;
+  faults = link.faults;
+  never_faults = never_fails link.fails;
+}
 
-pub says_so : (link : LinkInMemory) (asked : Asked) → (link_meaning link).asked ≡ Some asked → asked.never_faults ≡ (link_meaning link).never_faults
+pub says_so : (link : LinkInMemory) (asked : Asked)
+    → (link_meaning link).asked ≡ Some asked
+    → asked.never_faults ≡ (link_meaning link).never_faults
 says_so link asked told = ap (λ (o : Option Asked). option_map_or (λ a. a.never_faults) o true) (sym told)
 
 -- nothing was taken from it and sent to it
@@ -66,7 +75,13 @@ pub record ListenerInMemory : Type 0 where
 
 -- a listener in memory tells all
 abbrev pub listener_meaning : ListenerInMemory → ListenerMeaning
-listener_meaning l = record { given = Some (map asked_of (take l.given l.offered)); offers = Some (map asked_of l.offered); ended = l.ended; faults = l.faults; never_faults = never_fails l.fails }
+listener_meaning l = record {
+  given = Some (map asked_of (take l.given l.offered));
+  offers = Some (map asked_of l.offered);
+  ended = l.ended;
+  faults = l.faults;
+  never_faults = never_fails l.fails;
+}
 
 -- the links that are left are those not yet given
 pub record IsListenerInMemory (left offered : List LinkInMemory) (given : ℕ) (ended : Bool) : Type 0 where

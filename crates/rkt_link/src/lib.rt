@@ -1,7 +1,7 @@
 //! The outside of a launch: listeners, their links, clocks, and what stands for each in memory.
 #![tactic(auto)]
 
-mod boxed;
+mod cancellable_listener;
 mod clock;
 mod link;
 mod links;
@@ -11,9 +11,9 @@ mod listener;
 mod memory_link;
 mod system_clock;
 
-pub use boxed::Boxed;
+pub use cancellable_listener::CancellableListener;
 pub use clock::Clock;
-pub use link::{Handed, Link, SendError};
+pub use link::{Delivery, Link, SendError};
 pub use links::Links;
 pub use list_clock::ListClock;
 pub use list_listener::ListListener;

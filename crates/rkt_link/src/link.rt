@@ -21,7 +21,7 @@ pub enum SendError {
 
 /// What became of a piece that was handed over.
 #[derive(Debug, Drop)]
-pub enum Handed {
+pub enum Delivery {
     /// The link has it.
     Taken,
     /// The link cannot take it yet.
@@ -47,26 +47,28 @@ pub trait Link: Shut {
         ensures once { IsSome result ↔ ((meaning self.old).source_taken ≡ false) }
         ensures link { meaning self.new ≡ with_source_taken (meaning self.old) }
         ensures untouched { IfSome result (λ source. IsUntouched (Self.Source.meaning source)) }
-        ensures body { IfSome result (λ source. ForSome (meaning self.old).asked (λ asked. GivesBody asked (Self.Source.meaning source))) };
+        ensures body { IfSome result (λ source.
+            ForSome (meaning self.old).asked (λ asked. GivesBody asked (Self.Source.meaning source))) };
 
     /// Takes a piece of the response.
     fn poll_send(&mut self, piece: &Piece) -> Poll<Result<(), SendError>>
         ensures { AfterSend result (meaning self.old) piece.now (meaning self.new) };
 
     /// Takes a piece that nobody else needs: `poll_send`, for a link that would copy it.
-    fn poll_hand(&mut self, piece: Piece) -> Handed
+    fn poll_hand(&mut self, piece: Piece) -> Delivery
         ensures link { AfterHand result (meaning self.old) piece (meaning self.new) }
         ensures back { ComesBack result piece }
     {
         match self.poll_send(&piece) {
-            Poll::Ready(Ok(())) => Handed::Taken,
-            Poll::Ready(Err(e)) => Handed::Refused(e),
-            Poll::Pending => Handed::Back(piece),
+            Poll::Ready(Ok(())) => Delivery::Taken,
+            Poll::Ready(Err(e)) => Delivery::Refused(e),
+            Poll::Pending => Delivery::Back(piece),
         }
     }
 
     /// What it asks says whether it may fail.
-    ghost asked_never_faults: { (k : Self) → ForSome (meaning k).asked (λ asked. asked.never_faults ≡ (meaning k).never_faults) };
+    ghost asked_never_faults: { (k : Self)
+        → ForSome (meaning k).asked (λ asked. asked.never_faults ≡ (meaning k).never_faults) };
 
     /// A shutdown changes none of the meanings.
     ghost shutdown_keeps: { (k l : Self) (answer : Poll (Unit {0})) → Self.shuts k answer l → meaning l ≡ meaning k };

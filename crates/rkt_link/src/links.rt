@@ -40,7 +40,9 @@ impl Links {
     /// Adds a link behind the others that asks this, with these bytes as the body, and never fails.
     #[tactic(auto, using(crate::proofs::Unused::unused_push))]
     pub fn push(&mut self, alloc: Global, head: Head, bytes: Vec<u8>) -> Result<(), NoMemory>
-        ensures ok { OnOk result (self.new ≡ self.old ++ (record { head = head; body = bytes.items; source_taken = false; held = []; fails = []; sends = 0; faults = 0 }) ∷ []) }
+        ensures ok { OnOk result (self.new ≡ self.old
+            ++ (record { head = head; body = bytes.items; source_taken = false; held = []; fails = []; sends = 0; faults = 0 })
+            ∷ []) }
         ensures err { OnErr result (self.new ≡ self.old) }
     {
         self.links

@@ -30,7 +30,15 @@ impl Model for ListListener {
 
     ghost Value = { ListenerInMemory };
 
-    ghost view = { λ l. record { offered = l.offered.value.items; given = l.given; ended = l.ended; pends = l.pends.items; fails = l.fails.items; polls = l.polls; faults = l.faults } };
+    ghost view = { λ l. record {
+      offered = l.offered.value.items;
+      given = l.given;
+      ended = l.ended;
+      pends = l.pends.items;
+      fails = l.fails.items;
+      polls = l.polls;
+      faults = l.faults;
+    } };
 
     ghost invariant = { λ l. IsListenerInMemory l.links.items l.offered.value.items l.given l.ended };
 }
@@ -45,7 +53,15 @@ impl ListListener {
     ) -> Result<ListListener, NoMemory>
         requires fresh { AllByRecursion IsUnused links.items }
         ensures fresh { IfOk result (λ l. IsFresh (listener_meaning l)) }
-        ensures made { IfOk result (λ l. l ≡ record { offered = links.items; given = 0; ended = false; pends = pends.items; fails = fails.items; polls = 0; faults = 0 }) }
+        ensures made { IfOk result (λ l. l ≡ record {
+          offered = links.items;
+          given = 0;
+          ended = false;
+          pends = pends.items;
+          fails = fails.items;
+          polls = 0;
+          faults = 0;
+        }) }
     {
         let offered = Snapshot::of(&links);
         Ok(ListListener {

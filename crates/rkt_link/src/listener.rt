@@ -1,7 +1,8 @@
 //! Where links come from.
-ghost use Rattle.std.specs.Prelude.{◌≡◌, true};
-ghost use Rattle.std.specs.Option.{ForSome};
+ghost use Rattle.std.specs.Prelude.{⊤};
+ghost use Rattle.rkt_base.specs.declared.poll.Poll.{Poll};
 ghost use Rattle.rkt_link.specs.Listener.{ListenerMeaning, Gives, GivesFresh, EndsAs, EndsAt, FaultsAs, Settled};
+ghost use Rattle.rkt_link.specs.declared.listener.Accepted.{Accepted};
 
 use crate::Link;
 use rkt_base::Poll;
@@ -24,8 +25,12 @@ pub trait Listener: Drop {
     /// What contracts see of a listener.
     ghost meaning: { Self → ListenerMeaning };
 
+    /// Of the listener before a poll, the answer, and the listener after it.
+    ghost polled: { Self → Poll (Accepted Self.Link) → Self → Type 0 } = { λ _ _ _. ⊤ };
+
     /// Gives the next link, if there is one.
     fn poll_accept(&mut self) -> Poll<Accepted<Self::Link>>
+        ensures polled { polled self.old result self.new }
         ensures given { Gives Self.Link.meaning (meaning self.old).given result (meaning self.new).given }
         ensures fresh { GivesFresh Self.Link.meaning result }
         ensures ended { EndsAs (meaning self.old).ended result (meaning self.new).ended }

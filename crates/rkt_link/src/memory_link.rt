@@ -3,7 +3,7 @@ ghost use Rattle.std.specs.Prelude.{◌≡◌, ◌++◌, ◌∷◌, [], false, L
 ghost use Rattle.rkt_source.specs.Memory.{counted, is_listed};
 ghost use Rattle.rkt_link.specs.Memory.{never_fails};
 
-use crate::{Handed, Link, SendError};
+use crate::{Delivery, Link, SendError};
 use rkt_base::{NoMemory, Poll};
 use rkt_data::{MemorySource, Shut};
 use rkt_message::Piece;
@@ -37,7 +37,15 @@ impl Model for MemoryLink {
 
     ghost Value = { LinkInMemory };
 
-    ghost view = { λ k. record { head = k.kept.value.head; body = k.kept.value.body.items; source_taken = is_none k.kept.value.source; held = k.kept.value.held.items; fails = k.kept.value.fails.items; sends = k.kept.value.sends; faults = k.kept.value.faults } };
+    ghost view = { λ k. record {
+      head = k.kept.value.head;
+      body = k.kept.value.body.items;
+      source_taken = is_none k.kept.value.source;
+      held = k.kept.value.held.items;
+      fails = k.kept.value.fails.items;
+      sends = k.kept.value.sends;
+      faults = k.kept.value.faults;
+    } };
 
     ghost invariant = { λ k. StandsBy k.kept.value.source k.kept.value.body.items };
 }
@@ -65,7 +73,15 @@ impl MemoryLink {
         bytes: Vec<u8>,
         fails: Vec<u64>,
     ) -> Result<MemoryLink, NoMemory>
-        ensures { IfOk result (λ link. link ≡ record { head = head; body = bytes.items; source_taken = false; held = []; fails = fails.items; sends = 0; faults = 0 }) }
+        ensures { IfOk result (λ link. link ≡ record {
+          head = head;
+          body = bytes.items;
+          source_taken = false;
+          held = [];
+          fails = fails.items;
+          sends = 0;
+          faults = 0;
+        }) }
     {
         let source = MemorySource::new(bytes.clone()?, bytes.len(), Vec::new(alloc));
         let kept = Box::new(
@@ -159,13 +175,13 @@ impl Link for MemoryLink {
         }
     }
 
-    fn poll_hand(&mut self, piece: Piece) -> Handed {
+    fn poll_hand(&mut self, piece: Piece) -> Delivery {
         if self.count_send() {
-            return Handed::Refused(SendError::Fault);
+            return Delivery::Refused(SendError::Fault);
         }
         match hold(&mut self.kept.held, piece) {
-            Ok(()) => Handed::Taken,
-            Err(_) => Handed::Refused(SendError::NoMemory),
+            Ok(()) => Delivery::Taken,
+            Err(_) => Delivery::Refused(SendError::NoMemory),
         }
     }
 

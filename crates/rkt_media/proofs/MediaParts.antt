@@ -3,8 +3,8 @@ use Rattle.std.proofs.Common.{◌≡◌, ℕ, List, [], ◌∷◌, ◌++◌, Boo
 use Rattle.std.proofs.lemmas.Bool.{false≢true}
 use Rattle.rkt_media.specs.Runs.{run, behind_run, Starts}
 use Rattle.rkt_media.specs.Media.{Media, Parameter, parameter_text, media_text}
-use Rattle.rkt_grammar.specs.Grammar.{is_token_byte}
-use Rattle.rkt_media.specs.MediaText.{is_blank, is_escapable, is_quoted_byte, behind_quoted, TokenThen, ByteThen, ValueThen, ParameterThen, ParametersThen, MediaThen, SpellsMedia, Exactly, AreSpelled, IsSpelled}
+use Rattle.rkt_grammar.specs.Grammar.{is_token_byte, is_field_value_byte}
+use Rattle.rkt_media.specs.MediaText.{is_blank, is_quoted_byte, behind_quoted, TokenThen, ByteThen, ValueThen, ParameterThen, ParametersThen, MediaThen, SpellsMedia, Exactly, AreSpelled, IsSpelled}
 use Rattle.rkt_media.specs.MediaRestLaws.{along, quoted_front, blank_no_token}
 use Rattle.rkt_media.proofs.RunLemmas.{cancel}
 
@@ -102,7 +102,7 @@ token_printed token rest R h stop r = let to = run_to token rest h.is stop in
 quoted_longer : (escaped : Bool) (inside more rest : List ℕ) → behind_quoted escaped inside ≡ Some more → behind_quoted escaped (inside ++ rest) ≡ Some (more ++ rest)
 quoted_longer true [] more rest e = absurd (cc e)
 quoted_longer false [] more rest e = absurd (cc e)
-quoted_longer true (b ∷ bs) more rest e = by_test (is_escapable b) e (λ e. quoted_longer false bs more rest e)
+quoted_longer true (b ∷ bs) more rest e = by_test (is_field_value_byte b) e (λ e. quoted_longer false bs more rest e)
   where
     by_test : (t : Bool) → (if t then behind_quoted false bs else None) ≡ Some more → (behind_quoted false bs ≡ Some more → behind_quoted false (bs ++ rest) ≡ Some (more ++ rest))
         → (if t then behind_quoted false (bs ++ rest) else None) ≡ Some (more ++ rest)

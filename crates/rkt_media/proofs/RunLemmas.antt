@@ -6,12 +6,12 @@ use Rattle.std.proofs.lemmas.Str.{IsCharBoundary-start, IsCharBoundary-end, IsCh
 use Rattle.std.specs.Str.{IsUtf8, IsCharBoundary}
 use Rattle.std.specs.List.{list_any}
 use Rattle.rkt_media.specs.Runs.{run, behind_run}
-use Rattle.rkt_grammar.specs.Grammar.{is_alphanumeric, is_token_byte}
+use Rattle.rkt_grammar.specs.Grammar.{is_alphanumeric, is_token_byte, is_field_value_byte}
 use Rattle.rkt_media.specs.ByteClass.{is_of}
 use Rattle.rkt_media.specs.MediaRestLaws.{head_same, tail_same}
 use Rattle.rkt_media.specs.declared.byte_run.ByteClass.{ByteClass}
 use Rattle.rkt_media.specs.declared.byte_run.ByteClass.TheVariants.{Token, Blank, Gap}
-use Rattle.rkt_media.specs.MediaText.{is_blank, behind_quoted, quote_step, is_quoted_byte, is_escapable, ValueThen, Exactly}
+use Rattle.rkt_media.specs.MediaText.{is_blank, behind_quoted, quote_step, is_quoted_byte, ValueThen, Exactly}
 use Rattle.std.proofs.Math.Seq.{drop-cons}
 
 either : (s t : Bool) → (s || t) ≡ true → (s ≡ true) ⊎ (t ≡ true)
@@ -97,7 +97,7 @@ drop_at xs i within = drop-cons xs i 0 within ∙ ap (λ (n : ℕ). get_or xs i 
 
 -- a quoted string goes on behind a byte that does not close it
 pub quoted_on : (e e' : Bool) (b : ℕ) (bs more : List ℕ) → quote_step e b ≡ Some e' → behind_quoted e (b ∷ bs) ≡ Some more → behind_quoted e' bs ≡ Some more
-quoted_on true e' b bs more step h = by_test (is_escapable b) (cc step) h
+quoted_on true e' b bs more step h = by_test (is_field_value_byte b) (cc step) h
   where
     by_test : (t : Bool) → false ≡ e' → (if t then behind_quoted false bs else None) ≡ Some more → behind_quoted e' bs ≡ Some more
     by_test true is h = let P : Bool → Type 0 = λ x. behind_quoted x bs ≡ Some more in subst P is h

@@ -34,7 +34,8 @@ abbrev pub place_after : AcceptPlace → ℕ → Option AcceptPlace
 place_after Between b = if is_gap b then Some Between else (if is_token_byte b then Some (Inside Top) else None)
 place_after (Inside place) b = after_inside place b
 place_after WeightName b = if is_token_byte b then Some (Inside Name) else (if b == equals_sign then Some WeightStart else None)
-place_after WeightStart b = if b == digit_zero then Some (Whole digit_nine) else (if b == digit_one then Some (Whole digit_zero) else None)
+place_after WeightStart b =
+    if b == digit_zero then Some (Whole digit_nine) else (if b == digit_one then Some (Whole digit_zero) else None)
 place_after (Whole most) b = if b == dot then Some (Digits most 3) else behind_entry b
 place_after (Digits most left) b = if nat_lt 0 left && is_digit_to most b then Some (Digits most (left - 1)) else behind_entry b
 

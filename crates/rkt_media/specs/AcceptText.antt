@@ -46,7 +46,9 @@ CommaThen text Rest = ((text ≡ []) × Rest text) ⊎ ByteThen comma text Rest
 -- the text lists these media types, with their weights among the parameters
 abbrev pub ListsMedia : List Media → List ℕ → Type 0
 ListsMedia [] text = behind_run is_gap text ≡ []
-ListsMedia (m ∷ ms) text = AreWeighed m.parameters × MediaThen (behind_run is_gap text) m (λ text. CommaThen (behind_run is_blank text) (ListsMedia ms))
+ListsMedia (m ∷ ms) text =
+    AreWeighed m.parameters
+    × MediaThen (behind_run is_gap text) m (λ text. CommaThen (behind_run is_blank text) (ListsMedia ms))
 
 -- the text spells these entries
 abbrev pub SpellsAccept : List ℕ → List Weighed → Type 0

@@ -13,4 +13,5 @@ parameters = and_equiv (on_equiv (λ (p : Parameter). p.0) texts) (on_equiv (λ 
 
 pub same_media_equiv : IsEquivalence same_media
 same_media_equiv =
-    and_equiv (and_equiv (on_equiv (λ (m : Media). m.top) texts) (on_equiv (λ (m : Media). m.sub) texts)) (on_equiv (λ (m : Media). m.parameters) (lists_equiv parameters))
+    and_equiv (and_equiv (on_equiv (λ (m : Media). m.top) texts) (on_equiv (λ (m : Media). m.sub) texts))
+    (on_equiv (λ (m : Media). m.parameters) (lists_equiv parameters))

@@ -2,8 +2,8 @@
 use Rattle.std.specs.Prelude.{ℕ, List, [], Bool, true, false, ◌==◌, if◌then◌else◌, Option, Some, None}
 use Rattle.rkt_grammar.specs.Bytes.{semicolon, slash, equals_sign, quotation_mark, backslash}
 use Rattle.rkt_media.specs.Media.{Parameter}
-use Rattle.rkt_grammar.specs.Grammar.{is_token_byte}
-use Rattle.rkt_media.specs.MediaText.{is_blank, is_escapable, is_quoted_byte, ParametersThen, Exactly, IsMedia}
+use Rattle.rkt_grammar.specs.Grammar.{is_token_byte, is_field_value_byte}
+use Rattle.rkt_media.specs.MediaText.{is_blank, is_quoted_byte, ParametersThen, Exactly, IsMedia}
 use Rattle.rkt_media.specs.MediaRests.{Any, RunOn, MarkOn, WordOn, SubOn, TopOn, QuotedOn, ValueOn, NameOn}
 use Rattle.rkt_media.specs.declared.media_place.MediaPlace.{MediaPlace}
 use Rattle.rkt_media.specs.declared.media_place.MediaPlace.TheVariants.{TopStart, Top, SubStart, LastWord, Blank, Semicolon, Name, ValueStart, Quoted, Escaped, Closed}
@@ -21,8 +21,11 @@ place_after Blank b = after_value b
 place_after Semicolon b = if is_blank b then Some Semicolon else (if is_token_byte b then Some Name else None)
 place_after Name b = if is_token_byte b then Some Name else (if b == equals_sign then Some ValueStart else None)
 place_after ValueStart b = if is_token_byte b then Some LastWord else (if b == quotation_mark then Some Quoted else None)
-place_after Quoted b = if b == quotation_mark then Some Closed else (if b == backslash then Some Escaped else (if is_quoted_byte b then Some Quoted else None))
-place_after Escaped b = if is_escapable b then Some Quoted else None
+place_after Quoted b =
+    if b == quotation_mark
+    then Some Closed
+    else (if b == backslash then Some Escaped else (if is_quoted_byte b then Some Quoted else None))
+place_after Escaped b = if is_field_value_byte b then Some Quoted else None
 place_after Closed b = after_value b
 
 abbrev pub may_end : MediaPlace → Bool

@@ -1,8 +1,8 @@
 -- The grammar of a media type (RFC 9110, 8.3.1), of tokens (5.6.2), quoted strings (5.6.4) and parameters (5.6.6). It is
 -- stricter than 5.6.6 in one thing: behind each semicolon stands a parameter.
-use Rattle.std.specs.Prelude.{ℕ, ◌≡◌, ◌≢◌, ◌⊎◌, ⊤, List, [], ◌∷◌, ◌++◌, Bool, true, false, ◌==◌, ◌||◌, ◌&&◌, nat_le, not, Option, Some, None, if◌then◌else◌}
-use Rattle.rkt_grammar.specs.Bytes.{space, tab, delete, quotation_mark, backslash, equals_sign, semicolon, slash}
-use Rattle.rkt_grammar.specs.Grammar.{is_token_byte}
+use Rattle.std.specs.Prelude.{ℕ, ◌≡◌, ◌≢◌, ◌⊎◌, ⊤, List, [], ◌∷◌, ◌++◌, Bool, true, false, ◌==◌, ◌||◌, ◌&&◌, not, Option, Some, None, if◌then◌else◌}
+use Rattle.rkt_grammar.specs.Bytes.{space, tab, quotation_mark, backslash, equals_sign, semicolon, slash}
+use Rattle.rkt_grammar.specs.Grammar.{is_token_byte, is_field_value_byte}
 use Rattle.rkt_media.specs.Runs.{run, behind_run, Starts}
 use Rattle.rkt_media.specs.Media.{Media, Parameter}
 
@@ -10,19 +10,18 @@ use Rattle.rkt_media.specs.Media.{Media, Parameter}
 abbrev pub is_blank : ℕ → Bool
 is_blank b = b == space || b == tab
 
--- what may stand behind a backslash: a tab, a space, a visible byte, or one past ASCII
-abbrev pub is_escapable : ℕ → Bool
-is_escapable b = b == tab || (nat_le space b && not (b == delete))
-
 -- what stands for itself between quotation marks
 abbrev pub is_quoted_byte : ℕ → Bool
-is_quoted_byte b = is_escapable b && not (b == quotation_mark) && not (b == backslash)
+is_quoted_byte b = is_field_value_byte b && not (b == quotation_mark) && not (b == backslash)
 
 -- what follows the closing quotation mark, if a quoted string goes on so; behind a backslash, or not
 abbrev pub behind_quoted : Bool → List ℕ → Option (List ℕ)
 behind_quoted escaped [] = None
-behind_quoted true (b ∷ bs) = if is_escapable b then behind_quoted false bs else None
-behind_quoted false (b ∷ bs) = if b == quotation_mark then Some bs else (if b == backslash then behind_quoted true bs else (if is_quoted_byte b then behind_quoted false bs else None))
+behind_quoted true (b ∷ bs) = if is_field_value_byte b then behind_quoted false bs else None
+behind_quoted false (b ∷ bs) =
+    if b == quotation_mark
+    then Some bs
+    else (if b == backslash then behind_quoted true bs else (if is_quoted_byte b then behind_quoted false bs else None))
 
 -- whether the next byte of a quoted string stands behind a backslash; nothing at the closing mark
 abbrev pub quote_step : Bool → ℕ → Option Bool
@@ -60,7 +59,8 @@ ParameterThen text p Rest = TokenThen text p.0 (λ text. ByteThen equals_sign te
 
 -- a semicolon with blanks around it, a parameter, and then the rest
 abbrev pub SemicolonThen : List ℕ → Parameter → (List ℕ → Type 0) → Type 0
-SemicolonThen text p Rest = ByteThen semicolon (behind_run is_blank text) (λ text. ParameterThen (behind_run is_blank text) p Rest)
+SemicolonThen text p Rest =
+    ByteThen semicolon (behind_run is_blank text) (λ text. ParameterThen (behind_run is_blank text) p Rest)
 
 -- these parameters, and then the rest
 abbrev pub ParametersThen : List Parameter → (List ℕ → Type 0) → List ℕ → Type 0
@@ -69,7 +69,8 @@ ParametersThen (p ∷ ps) Rest text = SemicolonThen text p (ParametersThen ps Re
 
 -- this media type, and then the rest
 abbrev pub MediaThen : List ℕ → Media → (List ℕ → Type 0) → Type 0
-MediaThen text m Rest = TokenThen text m.top (λ text. ByteThen slash text (λ text. TokenThen text m.sub (ParametersThen m.parameters Rest)))
+MediaThen text m Rest =
+    TokenThen text m.top (λ text. ByteThen slash text (λ text. TokenThen text m.sub (ParametersThen m.parameters Rest)))
 
 -- behind blanks no semicolon comes
 abbrev pub NoSemicolon : List ℕ → Type 0

@@ -5,11 +5,11 @@ ghost use Rattle.rkt_media.specs.Media.{bare};
 ghost use Rattle.rkt_media.specs.Accept.{Weighed, Prefers};
 ghost use Rattle.rkt_media.specs.AcceptText.{SpellsAccept, IsAccept};
 
-use crate::accept_entry::{Entry, copy_entries, preferred_place};
+use crate::accept_entry::{Entry, preferred_place};
 use crate::accept_place::AcceptPlace;
 use crate::accept_read::read_entries;
 use crate::media_type::{InvalidMedia, MediaType};
-use rkt_base::{NoMemory, Want};
+use rkt_base::{NoMemory, Want, copy_all};
 use rkt_grammar::first_fault;
 use std::alloc::Global;
 use std::marker::Model;
@@ -76,7 +76,7 @@ impl Accept {
     {
         let ranges = match &self.ranges {
             Ranges::Any(media_type) => Ranges::Any(media_type.try_clone(alloc)?),
-            Ranges::Listed(entries) => Ranges::Listed(copy_entries(alloc, entries)?),
+            Ranges::Listed(entries) => Ranges::Listed(copy_all(alloc, entries)?),
         };
         Ok(Accept { ranges })
     }

@@ -2,7 +2,7 @@ ghost use Rattle.std.specs.Prelude.{◌≡◌, ◌<◌, ◌↔◌, ℕ, IsTrue, 
 ghost use Rattle.rkt_media.specs.Accept.{Weighed, Outranks, IsPreferred};
 
 use crate::media_type::MediaType;
-use rkt_base::NoMemory;
+use rkt_base::{NoMemory, TryClone};
 use std::alloc::Global;
 use std::marker::Model;
 
@@ -21,16 +21,16 @@ impl Model for Entry {
     ghost view = { λ e. record { media = e.media_type; weight = e.weight } };
 }
 
-impl Entry {
-    fn try_clone(&self, alloc: Global) -> Result<Entry, NoMemory>
-        ensures { IfOk result (λ e. e ≡ self.now) }
-    {
+impl TryClone for Entry {
+    fn try_clone(&self, alloc: Global) -> Result<Entry, NoMemory> {
         Ok(Entry {
             media_type: self.media_type.try_clone(alloc)?,
             weight: self.weight,
         })
     }
+}
 
+impl Entry {
     fn outranks(&self, other: &Entry) -> bool
         ensures { IsTrue result ↔ Outranks self.now other.now }
     {
@@ -46,16 +46,6 @@ impl Entry {
             self.media_type.parameter_count() > other.media_type.parameter_count()
         }
     }
-}
-
-pub(crate) fn copy_entries(alloc: Global, entries: &[Entry]) -> Result<Vec<Entry>, NoMemory>
-    ensures { IfOk result (λ v. v.items ≡ entries.now) }
-{
-    let mut copy = Vec::new(alloc);
-    for entry in entries {
-        copy.push(entry.try_clone(alloc)?)?;
-    }
-    Ok(copy)
 }
 
 /// The place of the preferred entry.

@@ -48,7 +48,8 @@ fn take_parameter(
     value: &str,
 ) -> Result<Option<u16>, NoMemory>
     ensures weight { IfOk result (λ weight. weight ≡ weight_said (name.now, value.now)) }
-    ensures kept { OnOk result (kept.new.items ≡ kept.old.items ++ filter (λ p. not (is_weight p)) ((name.now, value.now) ∷ [])) }
+    ensures kept { OnOk result
+        (kept.new.items ≡ kept.old.items ++ filter (λ p. not (is_weight p)) ((name.now, value.now) ∷ [])) }
 {
     if name.eq_ignore_ascii_case("q") {
         return Ok(Some(thousandths(value)));

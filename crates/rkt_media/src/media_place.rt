@@ -1,8 +1,8 @@
 ghost use Rattle.std.specs.Prelude.{◌≡◌};
-ghost use Rattle.rkt_media.specs.MediaText.{is_blank, is_escapable, is_quoted_byte};
+ghost use Rattle.rkt_media.specs.MediaText.{is_blank, is_quoted_byte};
 ghost use Rattle.rkt_media.specs.MediaPlaces.{after_value};
 
-use rkt_grammar::{Place, is_token_byte};
+use rkt_grammar::{Place, is_field_value_byte, is_token_byte};
 
 /// Where a reader stands in a media type.
 #[derive(Clone, Copy)]
@@ -27,16 +27,10 @@ pub(crate) fn is_space(byte: u8) -> bool
     byte == b' ' || byte == b'\t'
 }
 
-pub(crate) fn can_escape(byte: u8) -> bool
-    ensures { result ≡ is_escapable byte }
-{
-    byte == b'\t' || byte >= b' ' && byte != 127
-}
-
 pub(crate) fn can_quote(byte: u8) -> bool
     ensures { result ≡ is_quoted_byte byte }
 {
-    can_escape(byte) && byte != b'"' && byte != b'\\'
+    is_field_value_byte(byte) && byte != b'"' && byte != b'\\'
 }
 
 pub(crate) fn behind_value(byte: u8) -> Option<MediaPlace>
@@ -77,7 +71,7 @@ impl Place for MediaPlace {
             MediaPlace::Quoted if byte == b'"' => Some(MediaPlace::Closed),
             MediaPlace::Quoted if byte == b'\\' => Some(MediaPlace::Escaped),
             MediaPlace::Quoted if can_quote(byte) => Some(MediaPlace::Quoted),
-            MediaPlace::Escaped if can_escape(byte) => Some(MediaPlace::Quoted),
+            MediaPlace::Escaped if is_field_value_byte(byte) => Some(MediaPlace::Quoted),
             _ => None,
         }
     }

@@ -7,8 +7,8 @@ ghost use Rattle.rkt_media.specs.Media.{Media, media_text, parameter_text, is_ki
 
 use crate::media_place::MediaPlace;
 use crate::media_read::{kind_cut, read_parameters};
-use rkt_base::{NoMemory, Text, Want};
-use rkt_grammar::{copy_pairs, first_fault};
+use rkt_base::{NoMemory, Text, Want, copy_all};
+use rkt_grammar::first_fault;
 use std::alloc::Global;
 use std::marker::Model;
 use thiserror::Error;
@@ -106,7 +106,7 @@ impl MediaType {
     pub fn try_clone(&self, alloc: Global) -> Result<MediaType, NoMemory>
         ensures { IfOk result (λ m. m ≡ self.now) }
     {
-        let parameters = copy_pairs(alloc, self.parameters.as_slice())?;
+        let parameters = copy_all(alloc, self.parameters.as_slice())?;
         MediaType::from_parts(alloc, self.top(), self.sub(), parameters)
     }
 

@@ -6,7 +6,7 @@ use Rattle.rkt_base.specs.declared.poll.Poll.TheVariants.{Ready}
 use Rattle.rkt_source.specs.declared.source.Gate.{Gate}
 use Rattle.rkt_message.specs.Reading.{Follows, LeftAlone, ReadsOn, StreamWaits, Takes}
 use Rattle.rkt_message.specs.Response.{ResponseOf}
-use Rattle.rkt_message.specs.Sending.{Answers, HasWaited, IsSending, PieceByGate, ReadOn, ReadsOnUnder, Sending, StandsAt}
+use Rattle.rkt_message.specs.Sending.{Answers, HasWaited, IsSending, PieceByGate, ReadOn, ReadsOnUnder, Sending, InvariantAt}
 use Rattle.rkt_message.specs.declared.content.Content.{Content}
 use Rattle.rkt_message.specs.declared.content.Content.TheVariants as content
 use Rattle.rkt_message.specs.declared.piece.Piece.{Piece}
@@ -72,7 +72,7 @@ reads_more meaning trip p q r on status headers follows preset = (
 )
 
 -- a state goes on with a response that is read on once more
-pub sends_on : {S : Type 0} (meaning : S → Meaning) (trip : Option ℕ) (before at : Stage) (begun q r : ResponseOf S) (turns waits n : ℕ) (old new : List Piece) → IsSending meaning before q begun turns waits old → StandsAt meaning at r begun new → r.status ≡ q.status → r.headers ≡ q.headers
+pub sends_on : {S : Type 0} (meaning : S → Meaning) (trip : Option ℕ) (before at : Stage) (begun q r : ResponseOf S) (turns waits n : ℕ) (old new : List Piece) → IsSending meaning before q begun turns waits old → InvariantAt meaning at r begun new → r.status ≡ q.status → r.headers ≡ q.headers
     → Follows meaning trip q.body r.body → preset_of r.body.content ≡ preset_of q.body.content → n < turns → HasWaited meaning n r.body.content → IsSending meaning at r begun turns n new
 sends_on meaning trip before at begun q r turns waits n old new sending stands status headers follows preset below waited = record {
   read_on = reads_more meaning trip begun q r sending.read_on status headers follows preset;

@@ -5,10 +5,10 @@ use Rattle.std.proofs.Common.{◌≡◌, ◌<◌, ℕ, ◌+◌, ◌≤◌, ◌++
 use Rattle.rkt_source.proofs.Sources.{Keeps-refl, Keeps-trans}
 use Rattle.rkt_data.proofs.Pulls.{front_of, same_front}
 use Rattle.rkt_base.specs.declared.poll.Poll.TheVariants.{Ready}
-use Rattle.rkt_data.proofs.Taps.{PollsTo-after, PollsTo-gave}
+use Rattle.rkt_data.proofs.CountedSources.{PollsTo-after, PollsTo-gave}
 use Rattle.rkt_data.specs.Gathering.{cause_of, data_error_of}
 use Rattle.rkt_source.specs.Source.{Meaning, Keeps, Errs, Polled}
-use Rattle.rkt_data.specs.Tap.{Ending, Polls, gave}
+use Rattle.rkt_data.specs.CountedSource.{Ending, Polls, gave}
 use Rattle.rkt_data.specs.declared.error.DataError.{DataError}
 use Rattle.rkt_data.specs.declared.error.DataError.TheVariants as error
 use Rattle.rkt_source.specs.declared.source.Gate.{Gate}

@@ -6,7 +6,7 @@ use Rattle.rkt_source.specs.Source.{Meaning}
 use Rattle.rkt_message.specs.Body.{BodyOf, left_of}
 use Rattle.rkt_message.specs.Chunks.{ReadsChunk}
 use Rattle.rkt_message.specs.Response.{ResponseOf}
-use Rattle.rkt_message.specs.Sending.{Gives, IsFront, IsHead, OwesBehindHead, Sending, StandsAt, TakesFull, is_done, is_end}
+use Rattle.rkt_message.specs.Sending.{Gives, IsFront, IsHead, OwesBehindHead, Sending, InvariantAt, TakesFull, is_done, is_end}
 use Rattle.rkt_message.specs.Sent.{IsChunk, Sent, SentBody, has_head, head_of}
 use Rattle.rkt_message.specs.declared.chunk.ChunkRead.TheVariants as chunk_read
 use Rattle.rkt_message.specs.declared.piece.Piece.{Piece}
@@ -25,13 +25,13 @@ abbrev pub Completes : {S : Type 0} → (S → Meaning) → BodyOf S → Respons
 Completes meaning body begun given = (rest : List Piece) → SentBody meaning body rest → Sent meaning begun (given ++ rest)
 
 -- before the head the response is as it was handed in
-pub at_head : {S : Type 0} (meaning : S → Meaning) (at : Stage) (response begun : ResponseOf S) (given : List Piece) → StandsAt meaning at response begun given → is_done at ≡ false → given ≡ [] → response ≡ begun
+pub at_head : {S : Type 0} (meaning : S → Meaning) (at : Stage) (response begun : ResponseOf S) (given : List Piece) → InvariantAt meaning at response begun given → is_done at ≡ false → given ≡ [] → response ≡ begun
 at_head meaning stage.Head response begun given h going none = h.1
 at_head meaning stage.Body response begun given h going none = absurd (h.0 none)
 at_head meaning stage.Done response begun given h going none = absurd (cc going)
 
 -- and behind it what is left of its body completes what was given
-pub behind_head : {S : Type 0} (meaning : S → Meaning) (at : Stage) (response begun : ResponseOf S) (given : List Piece) → StandsAt meaning at response begun given → is_done at ≡ false → given ≢ [] → Completes meaning response.body begun given
+pub behind_head : {S : Type 0} (meaning : S → Meaning) (at : Stage) (response begun : ResponseOf S) (given : List Piece) → InvariantAt meaning at response begun given → is_done at ≡ false → given ≢ [] → Completes meaning response.body begun given
 behind_head meaning stage.Head response begun given h going some rest sent = absurd (some h.0)
 behind_head meaning stage.Body response begun given h going some rest sent = h.1 rest sent
 behind_head meaning stage.Done response begun given h going some rest sent = absurd (cc going)
@@ -46,15 +46,15 @@ same_left meaning a b pieces same left sent = (
 )
 
 -- a state stands where it stood while its body has as much left
-pub stands_still : {S : Type 0} (meaning : S → Meaning) (at : Stage) (q r begun : ResponseOf S) (given : List Piece) → StandsAt meaning at q begun given → given ≢ [] → r.body.chunk ≡ q.body.chunk
-    → left_of meaning r.body.content ≡ left_of meaning q.body.content → StandsAt meaning at r begun given
+pub stands_still : {S : Type 0} (meaning : S → Meaning) (at : Stage) (q r begun : ResponseOf S) (given : List Piece) → InvariantAt meaning at q begun given → given ≢ [] → r.body.chunk ≡ q.body.chunk
+    → left_of meaning r.body.content ≡ left_of meaning q.body.content → InvariantAt meaning at r begun given
 stands_still meaning stage.Head q r begun given h some same left = absurd (some h.0)
 stands_still meaning stage.Body q r begun given h some same left = (h.0, λ rest sent. h.1 rest (same_left meaning q.body r.body rest same left sent))
 stands_still meaning stage.Done q r begun given h some same left = tt
 
 -- behind the head the body completes it
 pub head_stands : {S : Type 0} (meaning : S → Meaning) (response begun : ResponseOf S) (given : List Piece) (piece : Piece) → given ≡ [] → response ≡ begun → has_head response ≡ true → piece ≡ head_of response
-    → StandsAt meaning stage.Body response begun (given ++ piece ∷ [])
+    → InvariantAt meaning stage.Body response begun (given ++ piece ∷ [])
 head_stands meaning response begun given piece none same can is = (
   not_empty given piece,
   λ rest sent.
@@ -65,7 +65,7 @@ head_stands meaning response begun given piece none same can is = (
 
 -- behind a chunk what is left of the body completes it
 pub chunk_stands : {S : Type 0} (meaning : S → Meaning) (q r begun : ResponseOf S) (given : List Piece) (bytes : List ℕ) → Completes meaning q.body begun given → r.body.chunk ≡ q.body.chunk
-    → ReadsChunk meaning q.body r.body (chunk_read.Bytes bytes) → StandsAt meaning stage.Body r begun (given ++ Chunk bytes ∷ [])
+    → ReadsChunk meaning q.body r.body (chunk_read.Bytes bytes) → InvariantAt meaning stage.Body r begun (given ++ Chunk bytes ∷ [])
 chunk_stands meaning q r begun given bytes completes same read = (
   not_empty given (Chunk bytes),
   λ rest sent. subst (Sent meaning begun) (sym (append_assoc given (Chunk bytes ∷ []) rest)) (completes (Chunk bytes ∷ rest) (chunk_first meaning q.body r.body bytes rest same read.0 read.1 sent)),
@@ -81,7 +81,7 @@ front_of meaning t going some completes =
 
 -- a head, where one can be formed
 pub gives_head : {S : Type 0} (meaning : S → Meaning) (s t : Sending S) (piece : Piece) → s.given ≡ [] → t.given ≡ s.given ++ piece ∷ [] → t.is_over ≡ false → t.response ≡ s.response → t.waits ≡ 0 → 0 < t.response.body.chunk
-    → piece ≡ head_of s.response → StandsAt meaning stage.Body t.response t.begun t.given → Gives meaning s piece t × IsFront meaning t
+    → piece ≡ head_of s.response → InvariantAt meaning stage.Body t.response t.begun t.given → Gives meaning s piece t × IsFront meaning t
 gives_head meaning s t piece first given going same none some is stands = (
   record {
     head = (λ _. first, λ _. subst IsHead (sym is) tt);
@@ -95,7 +95,7 @@ gives_head meaning s t piece first given going same none some is stands = (
 
 -- a chunk of the next bytes
 pub gives_chunk : {S : Type 0} (meaning : S → Meaning) (s t : Sending S) (bytes : List ℕ) → s.given ≢ [] → t.given ≡ s.given ++ Chunk bytes ∷ [] → t.is_over ≡ false → t.waits ≡ 0 → 0 < t.response.body.chunk
-    → ReadsChunk meaning s.response.body t.response.body (chunk_read.Bytes bytes) → StandsAt meaning stage.Body t.response t.begun t.given → Gives meaning s (Chunk bytes) t × IsFront meaning t
+    → ReadsChunk meaning s.response.body t.response.body (chunk_read.Bytes bytes) → InvariantAt meaning stage.Body t.response t.begun t.given → Gives meaning s (Chunk bytes) t × IsFront meaning t
 gives_chunk meaning s t bytes begun given going none some read stands = (
   record {
     head = (λ h. absurd h, λ first. absurd (begun first));
@@ -133,15 +133,15 @@ pub takes_full : {S : Type 0} (meaning : S → Meaning) (a b : BodyOf S) (bytes 
 takes_full meaning a b bytes read = read.3
 
 -- at its head nothing was given
-pub none_given : {S : Type 0} (meaning : S → Meaning) (at : Stage) (response begun : ResponseOf S) (given : List Piece) → at ≡ stage.Head → StandsAt meaning at response begun given → given ≡ []
-none_given meaning at response begun given is h = (subst (λ (x : Stage). StandsAt meaning x response begun given) is h).0
+pub none_given : {S : Type 0} (meaning : S → Meaning) (at : Stage) (response begun : ResponseOf S) (given : List Piece) → at ≡ stage.Head → InvariantAt meaning at response begun given → given ≡ []
+none_given meaning at response begun given is h = (subst (λ (x : Stage). InvariantAt meaning x response begun given) is h).0
 
 -- and at its body something
-pub some_given : {S : Type 0} (meaning : S → Meaning) (at : Stage) (response begun : ResponseOf S) (given : List Piece) → at ≡ stage.Body → StandsAt meaning at response begun given → given ≢ []
-some_given meaning at response begun given is h = (subst (λ (x : Stage). StandsAt meaning x response begun given) is h).0
+pub some_given : {S : Type 0} (meaning : S → Meaning) (at : Stage) (response begun : ResponseOf S) (given : List Piece) → at ≡ stage.Body → InvariantAt meaning at response begun given → given ≢ []
+some_given meaning at response begun given is h = (subst (λ (x : Stage). InvariantAt meaning x response begun given) is h).0
 
 -- a state that goes on and gave something is at its body
-pub is_at_body : {S : Type 0} (meaning : S → Meaning) (at : Stage) (response begun : ResponseOf S) (given : List Piece) → StandsAt meaning at response begun given → is_done at ≡ false → given ≢ [] → at ≡ stage.Body
+pub is_at_body : {S : Type 0} (meaning : S → Meaning) (at : Stage) (response begun : ResponseOf S) (given : List Piece) → InvariantAt meaning at response begun given → is_done at ≡ false → given ≢ [] → at ≡ stage.Body
 is_at_body meaning stage.Head response begun given h going some = absurd (some h.0)
 is_at_body meaning stage.Body response begun given h going some = refl
 is_at_body meaning stage.Done response begun given h going some = absurd (cc going)

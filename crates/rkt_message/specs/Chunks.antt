@@ -31,13 +31,21 @@ pub record IsRoom {S : Type 0} (meaning : S → Meaning) (body : BodyOf S) (room
 
 -- these are the next bytes of a body, where they are told
 abbrev pub IsNext : {S : Type 0} → (S → Meaning) → BodyOf S → BodyOf S → List ℕ → Type 0
-IsNext meaning a b bytes = ForSome (left_of meaning a.content) (λ left. (rest : List ℕ) × (left ≡ bytes ++ rest) × (left_of meaning b.content ≡ Some rest))
+IsNext meaning a b bytes = ForSome (left_of meaning a.content) (λ left.
+    (rest : List ℕ) × (left ≡ bytes ++ rest) × (left_of meaning b.content ≡ Some rest))
 
 -- what a read into room for a chunk came to
 abbrev pub ReadsChunk : {S : Type 0} → (S → Meaning) → BodyOf S → BodyOf S → ChunkRead → Type 0
-ReadsChunk meaning a b (chunk_read.Bytes bytes) = IsChunk a.chunk bytes × IsNext meaning a b bytes × Takes meaning a.content b.content (length bytes) × IsFull a.content a.chunk bytes
+ReadsChunk meaning a b (chunk_read.Bytes bytes) =
+    IsChunk a.chunk bytes
+    × IsNext meaning a b bytes
+    × Takes meaning a.content b.content (length bytes)
+    × IsFull a.content a.chunk bytes
 ReadsChunk meaning a b chunk_read.End = IsAtEnd meaning a × Takes meaning a.content b.content 0
-ReadsChunk meaning a b chunk_read.Waiting = StreamWaits meaning a.content b.content × (left_of meaning b.content ≡ left_of meaning a.content) × Takes meaning a.content b.content 0
+ReadsChunk meaning a b chunk_read.Waiting =
+    StreamWaits meaning a.content b.content
+    × (left_of meaning b.content ≡ left_of meaning a.content)
+    × Takes meaning a.content b.content 0
 ReadsChunk meaning a b (chunk_read.Refused e) = StreamErrs meaning e a.content b.content
 
 -- what the read was answered then

@@ -1,6 +1,5 @@
 pub mod Body
 pub mod Chunks
-pub mod Given
 pub mod Lines
 pub mod Reading
 pub mod Response

@@ -25,7 +25,8 @@ without_length lines = filter (λ line. not (is_length line)) lines
 -- with this size as the only Content-Length, at the place and in the spelling of the first, or else behind the others
 abbrev pub with_length : ℕ → List Line → List Line
 with_length size [] = (codes "Content-Length", decimal size) ∷ []
-with_length size (line ∷ lines) = if is_length line then (line.0, decimal size) ∷ without_length lines else line ∷ with_length size lines
+with_length size (line ∷ lines) =
+    if is_length line then (line.0, decimal size) ∷ without_length lines else line ∷ with_length size lines
 
 -- with this size as the only Content-Length, or with none
 abbrev pub only_length : Option ℕ → List Line → List Line

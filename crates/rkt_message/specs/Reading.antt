@@ -4,7 +4,7 @@ use Rattle.std.specs.Prelude.{◌≡◌, ⊤, ℕ, ◌+◌, ◌≤◌, ◌<◌, 
 use Rattle.rkt_base.specs.declared.poll.Poll.{Poll}
 use Rattle.rkt_base.specs.declared.poll.Poll.TheVariants.{Ready, Pending}
 use Rattle.rkt_source.specs.Source.{Meaning, Keeps, Answers, Waits, Errs, Polled}
-use Rattle.rkt_data.specs.Tap.{Ending, PollsTo}
+use Rattle.rkt_data.specs.CountedSource.{Ending, PollsTo}
 use Rattle.rkt_source.specs.declared.source.Gate.{Gate}
 use Rattle.rkt_source.specs.declared.source.SourceError.{SourceError}
 use Rattle.rkt_message.specs.Body.{BodyOf, left_of}
@@ -62,12 +62,14 @@ Moves meaning c d count = Takes meaning c d count × (left_of meaning d ≡ opti
 -- what a read answers, into a buffer that held `old` and holds `new`: the next bytes, and none only at the end
 abbrev pub Reads : {S : Type 0} → (S → Meaning) → Content S → Content S → List ℕ → List ℕ → Poll (Result ℕ SourceError) → Type 0
 Reads meaning c d old new Pending = StreamWaits meaning c d × (left_of meaning d ≡ left_of meaning c) × Takes meaning c d 0
-Reads meaning c d old new (Ready (Err e)) = StreamErrs meaning e c d × (left_of meaning d ≡ left_of meaning c) × Takes meaning c d 0
+Reads meaning c d old new (Ready (Err e)) =
+    StreamErrs meaning e c d × (left_of meaning d ≡ left_of meaning c) × Takes meaning c d 0
 Reads meaning c d old new (Ready (Ok n)) = (n ≤ length old) × (left_of meaning d ≡ option_map (drop n) (left_of meaning c))
     × ForSome (left_of meaning c) (λ w. (take n new ≡ take n w) × (0 < length old → n ≡ 0 → w ≡ []))
     × Takes meaning c d n
 
 -- one read of a source under this Gate with all the room there is, which answers what the source does
-abbrev pub ReadsSource : {S : Type 0} → (S → Meaning) → Polled S → Gate → S → Content S → List ℕ → List ℕ → Poll (Result ℕ SourceError) → Type 0
+abbrev pub ReadsSource : {S : Type 0} → (S → Meaning) → Polled S → Gate → S → Content S → List ℕ → List ℕ
+    → Poll (Result ℕ SourceError) → Type 0
 ReadsSource meaning polled gate s d old new answer =
     (t : _) × (d ≡ content.Streamed t) × polled s gate (length old) answer t × Answers (meaning s) (meaning t) old new answer

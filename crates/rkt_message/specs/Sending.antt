@@ -31,7 +31,8 @@ pub record Sending (S : Type 0) : Type 0 where
   -- whether the last answer was given: the end, or an error other than want of memory
   pub is_over : Bool
 
--- the same response, but for its body, which may have been read further under Gates with this trip; a size that was computed may be kept
+-- the same response, but for its body, which may have been read further under Gates with this trip; a size that was
+-- computed may be kept
 pub record ReadsOnUnder {S : Type 0} (meaning : S → Meaning) (trip : Option ℕ) (p q : ResponseOf S) : Type 0 where
   pub status : q.status ≡ p.status
   pub headers : q.headers ≡ p.headers
@@ -53,18 +54,20 @@ is_done stage.Body = false
 is_done stage.Done = true
 
 -- where a state stands: before the head nothing was given, and behind it what is left of the body completes what was given
-abbrev pub StandsAt : {S : Type 0} → (S → Meaning) → Stage → ResponseOf S → ResponseOf S → List Piece → Type 0
-StandsAt meaning stage.Head response begun given = (given ≡ []) × (response ≡ begun)
-StandsAt meaning stage.Body response begun given = (given ≢ []) × ((rest : List Piece) → SentBody meaning response.body rest → Sent meaning begun (given ++ rest))
-StandsAt meaning stage.Done response begun given = ⊤
+abbrev pub InvariantAt : {S : Type 0} → (S → Meaning) → Stage → ResponseOf S → ResponseOf S → List Piece → Type 0
+InvariantAt meaning stage.Head response begun given = (given ≡ []) × (response ≡ begun)
+InvariantAt meaning stage.Body response begun given =
+    (given ≢ []) × ((rest : List Piece) → SentBody meaning response.body rest → Sent meaning begun (given ++ rest))
+InvariantAt meaning stage.Done response begun given = ⊤
 
 -- what every state keeps
-pub record IsSending {S : Type 0} (meaning : S → Meaning) (at : Stage) (response begun : ResponseOf S) (turns waits : ℕ) (given : List Piece) : Type 0 where
+pub record IsSending {S : Type 0} (meaning : S → Meaning) (at : Stage) (response begun : ResponseOf S) (turns waits : ℕ)
+    (given : List Piece) : Type 0 where
   pub read_on : ReadOn meaning begun response
   pub below : waits < turns
   pub waited : HasWaited meaning waits response.body.content
   pub chunk : 0 < response.body.chunk
-  pub stands : StandsAt meaning at response begun given
+  pub stands : InvariantAt meaning at response begun given
 
 -- what has still to be given behind the head: nothing once the last answer was given, and until then what is left of the body
 abbrev pub OwesBehindHead : {S : Type 0} → (S → Meaning) → Bool → BodyOf S → List Piece → Type 0
@@ -75,7 +78,8 @@ OwesBehindHead meaning false body pieces = SentBody meaning body pieces
 abbrev pub Owes : {S : Type 0} → (S → Meaning) → Sending S → List Piece → Type 0
 Owes meaning s pieces = OwesBehindHead meaning s.is_over s.response.body pieces
 
--- what was given so far is a front of a list that the response is sent as, and what is still owed is the rest of it; something is owed always
+-- what was given so far is a front of a list that the response is sent as, and what is still owed is the rest of it;
+-- something is owed always
 pub record IsFront {S : Type 0} (meaning : S → Meaning) (s : Sending S) : Type 0 where
   pub completed : (rest : List Piece) → Owes meaning s rest → Sent meaning s.begun (s.given ++ rest)
   pub goes_on : (rest : List Piece) × Owes meaning s rest
@@ -137,11 +141,12 @@ pub record Exhausts {S : Type 0} (meaning : S → Meaning) (s t : Sending S) : T
 
 -- why a body is given up: its source refused with some error, or was Pending too often
 abbrev pub GivesUp : {S : Type 0} → (S → Meaning) → Sending S → Sending S → Type 0
-GivesUp meaning s t = ((e : SourceError) × StreamErrs meaning e s.response.body.content t.response.body.content) ⊎ Exhausts meaning s t
+GivesUp meaning s t =
+    ((e : SourceError) × StreamErrs meaning e s.response.body.content t.response.body.content) ⊎ Exhausts meaning s t
 
--- the source of the body was asked once, under this Gate with room for a chunk, and this was its answer: as many bytes as the chunk
--- has, none at the end, Pending, and of a fault of the body Pending or a refusal; for a head, a bad one and want of memory it was
--- not asked
+-- the source of the body was asked once, under this Gate with room for a chunk, and this was its answer: as many bytes
+-- as the chunk has, none at the end, Pending, and of a fault of the body Pending or a refusal; for a head, a bad one
+-- and want of memory it was not asked
 abbrev pub PieceByGate : {S : Type 0} → Polled S → Gate → ℕ → Poll (Result Piece PieceError) → Content S → Content S → Type 0
 PieceByGate polled gate room Pending c d = Asked polled gate room Pending c d
 PieceByGate polled gate room (Ready (Ok (Head status headers))) c d = LeftAlone c d

@@ -7,7 +7,7 @@ use Rattle.rkt_base.specs.declared.poll.Poll.{Poll}
 use Rattle.rkt_base.specs.declared.poll.Poll.TheVariants.{Ready, Pending}
 use Rattle.rkt_source.specs.Source.{Meaning, Polled}
 use Rattle.rkt_data.specs.Gathering.{Causes, cause_of}
-use Rattle.rkt_data.specs.Tap.{Ending, ended, gave}
+use Rattle.rkt_data.specs.CountedSource.{Ending, ended, gave}
 use Rattle.rkt_data.specs.declared.error.DataError.{DataError}
 use Rattle.rkt_data.specs.declared.error.DataError.TheVariants as error
 use Rattle.rkt_source.specs.declared.source.Gate.{Gate}
@@ -37,7 +37,8 @@ abbrev pub MovesBy : {S : Type 0} → (S → Meaning) → Content S → Content 
 MovesBy meaning c d old new = (count : ℕ) × (length new ≡ length old + count) × Moves meaning c d count
 
 -- several reads under one Gate that have ended so, by which the bytes read became more
-pub record Draws {S : Type 0} (meaning : S → Meaning) (polled : Polled S) (gate : Gate) (how : Ending) (b c : BodyOf S) (old new : List ℕ) : Type 0 where
+pub record Draws {S : Type 0} (meaning : S → Meaning) (polled : Polled S) (gate : Gate) (how : Ending) (b c : BodyOf S)
+    (old new : List ℕ) : Type 0 where
   pub follows : Follows meaning gate.tripped b c
   pub preset : preset_of c.content ≡ preset_of b.content
   pub by_gate : ByGate polled gate how b.content c.content
@@ -66,10 +67,23 @@ end_if_stopped None = gave
 end_if_stopped (Some why) = stop_end why
 
 -- what a poll answers that gathers bytes: all of them
-abbrev pub GathersBytes : {S : Type 0} → (S → Meaning) → Gathering S → Gathering S → Poll (Result (Vec ℕ Global) DataError) → Type 0
-GathersBytes meaning a b Pending = (b.failed ≡ None) × (b.done ≡ false) × StreamWaits meaning a.body.content b.body.content × (all_of meaning b.got b.body.content ≡ all_of meaning a.got a.body.content) × MovesBy meaning a.body.content b.body.content a.got b.got
-GathersBytes meaning a b (Ready (Err e)) = (b.failed ≡ Some e) × (b.done ≡ false) × BytesErr meaning a.body.content b.body.content e × ((count : ℕ) × Moves meaning a.body.content b.body.content count)
-GathersBytes meaning a b (Ready (Ok v)) = (b.done ≡ true) × ForSome (all_of meaning a.got a.body.content) (λ w. (v.items ≡ w) × (left_of meaning b.body.content ≡ Some [])) × MovesBy meaning a.body.content b.body.content a.got v.items
+abbrev pub GathersBytes : {S : Type 0} → (S → Meaning) → Gathering S → Gathering S → Poll (Result (Vec ℕ Global) DataError)
+    → Type 0
+GathersBytes meaning a b Pending =
+    (b.failed ≡ None)
+    × (b.done ≡ false)
+    × StreamWaits meaning a.body.content b.body.content
+    × (all_of meaning b.got b.body.content ≡ all_of meaning a.got a.body.content)
+    × MovesBy meaning a.body.content b.body.content a.got b.got
+GathersBytes meaning a b (Ready (Err e)) =
+    (b.failed ≡ Some e)
+    × (b.done ≡ false)
+    × BytesErr meaning a.body.content b.body.content e
+    × ((count : ℕ) × Moves meaning a.body.content b.body.content count)
+GathersBytes meaning a b (Ready (Ok v)) =
+    (b.done ≡ true)
+    × ForSome (all_of meaning a.got a.body.content) (λ w. (v.items ≡ w) × (left_of meaning b.body.content ≡ Some []))
+    × MovesBy meaning a.body.content b.body.content a.got v.items
 
 -- the preset size after such a poll: once all was read, what was read is taken from it
 abbrev pub LowersBytes : {S : Type 0} → Content S → Content S → Poll (Result (Vec ℕ Global) DataError) → Type 0
@@ -79,22 +93,35 @@ LowersBytes c d (Ready (Ok v)) = preset_of d ≡ lowered c (length v.items)
 
 -- when a reading of text may fail with each error: NotUtf8 where all was read and is no UTF-8
 abbrev pub TextErr : {S : Type 0} → (S → Meaning) → Gathering S → Gathering S → DataError → Type 0
-TextErr meaning a b e = Causes
-    (λ cause. StreamErrs meaning cause a.body.content b.body.content)
-    ⊥
-    (λ valid_up_to. ForSome (all_of meaning a.got a.body.content) (λ w. (valid_up_to ≡ utf8_valid_len w) × (IsUtf8 w → ⊥) × (left_of meaning b.body.content ≡ Some [])))
-    ⊤
-    e
+TextErr meaning a b e =
+    Causes (λ cause. StreamErrs meaning cause a.body.content b.body.content) ⊥
+    (λ valid_up_to. ForSome (all_of meaning a.got a.body.content) (λ w.
+    (valid_up_to ≡ utf8_valid_len w) × (IsUtf8 w → ⊥) × (left_of meaning b.body.content ≡ Some []))) ⊤ e
 
 -- what a poll answers that gathers text: all bytes, which are UTF-8
-abbrev pub GathersText : {S : Type 0} → (S → Meaning) → Gathering S → Gathering S → Poll (Result (String Global) DataError) → Type 0
-GathersText meaning a b Pending = (b.failed ≡ None) × (b.done ≡ false) × StreamWaits meaning a.body.content b.body.content × (all_of meaning b.got b.body.content ≡ all_of meaning a.got a.body.content) × MovesBy meaning a.body.content b.body.content a.got b.got
-GathersText meaning a b (Ready (Err e)) = (b.failed ≡ Some e) × (b.done ≡ false) × TextErr meaning a b e × ((count : ℕ) × Moves meaning a.body.content b.body.content count)
-GathersText meaning a b (Ready (Ok t)) = (b.done ≡ true) × ForSome (all_of meaning a.got a.body.content) (λ w. (string_bytes t ≡ w) × (left_of meaning b.body.content ≡ Some [])) × MovesBy meaning a.body.content b.body.content a.got (string_bytes t)
+abbrev pub GathersText : {S : Type 0} → (S → Meaning) → Gathering S → Gathering S → Poll (Result (String Global) DataError)
+    → Type 0
+GathersText meaning a b Pending =
+    (b.failed ≡ None)
+    × (b.done ≡ false)
+    × StreamWaits meaning a.body.content b.body.content
+    × (all_of meaning b.got b.body.content ≡ all_of meaning a.got a.body.content)
+    × MovesBy meaning a.body.content b.body.content a.got b.got
+GathersText meaning a b (Ready (Err e)) =
+    (b.failed ≡ Some e)
+    × (b.done ≡ false)
+    × TextErr meaning a b e
+    × ((count : ℕ) × Moves meaning a.body.content b.body.content count)
+GathersText meaning a b (Ready (Ok t)) =
+    (b.done ≡ true)
+    × ForSome (all_of meaning a.got a.body.content) (λ w. (string_bytes t ≡ w) × (left_of meaning b.body.content ≡ Some []))
+    × MovesBy meaning a.body.content b.body.content a.got (string_bytes t)
 
 -- the preset size after such a poll
-abbrev pub LowersText : {S : Type 0} → (S → Meaning) → Gathering S → Content S → Poll (Result (String Global) DataError) → Type 0
+abbrev pub LowersText : {S : Type 0} → (S → Meaning) → Gathering S → Content S → Poll (Result (String Global) DataError)
+    → Type 0
 LowersText meaning a d Pending = preset_of d ≡ preset_of a.body.content
-LowersText meaning a d (Ready (Err (error.NotUtf8 valid_up_to))) = ForSome (all_of meaning a.got a.body.content) (λ w. preset_of d ≡ lowered a.body.content (length w))
+LowersText meaning a d (Ready (Err (error.NotUtf8 valid_up_to))) =
+    ForSome (all_of meaning a.got a.body.content) (λ w. preset_of d ≡ lowered a.body.content (length w))
 LowersText meaning a d (Ready (Err e)) = preset_of d ≡ preset_of a.body.content
 LowersText meaning a d (Ready (Ok t)) = preset_of d ≡ lowered a.body.content (length (string_bytes t))

@@ -89,7 +89,7 @@ impl<S> Body<S> {
 
 impl<S: Source> Body<S> {
     ghost use Rattle.rkt_message.specs.Body.{body_of, is_some_content, lowered, preset_of, resized, size_of, stripped};
-    ghost use Rattle.rkt_data.specs.Tap.{ending_of};
+    ghost use Rattle.rkt_data.specs.CountedSource.{ending_of};
     ghost use Rattle.rkt_message.specs.Reading.{ByGate, Follows, Reads, ReadsSource};
 
     /// Sets the most bytes that are sent at once; 0 counts as 1.
@@ -170,7 +170,9 @@ impl<S: Source> Body<S> {
 
     /// Moves the bytes out, where there are any to be read.
     pub(crate) fn take_bytes(&mut self, alloc: Global) -> Option<Vec<u8>>
-        ensures some { IfSome result (λ bytes. (size : _) × (self.old.content ≡ Content.Sized bytes.items size) × (self.new ≡ record self.old { content = Content.Sized [] size })) }
+        ensures some { IfSome result (λ bytes. (size : _)
+            × (self.old.content ≡ Content.Sized bytes.items size)
+            × (self.new ≡ record self.old { content = Content.Sized [] size })) }
         ensures none { IfNone result (self.new ≡ self.old) }
     {
         self.content.take_bytes(alloc)
@@ -192,13 +194,18 @@ impl<S: Source> Body<S> {
         ensures by_gate { ByGate S.polled gate (ending_of result) self.old.content self.new.content }
         ensures answer { Reads S.meaning self.old.content self.new.content buf.old buf.new result }
         // A source is asked once with all the room, where the buffer takes a byte.
-        ensures source { (s : _) → self.old.content ≡ Content.Streamed s → 0 < length buf.old → ReadsSource S.meaning S.polled gate s self.new.content buf.old buf.new result }
+        ensures source { (s : _)
+            → self.old.content ≡ Content.Streamed s
+            → 0 < length buf.old
+            → ReadsSource S.meaning S.polled gate s self.new.content buf.old buf.new result }
         // Bytes are read as many as the buffer takes.
         ensures bytes { (rest : _) (size : _) → self.old.content ≡ Content.Sized rest size
             → let count = min (length buf.old) (length rest) in
             (result ≡ Ready (Ok count)) × (self.new.content ≡ Content.Sized (drop count rest) size) }
         // The buffer behind them stays as it was.
-        ensures behind { (rest : _) (size : _) → self.old.content ≡ Content.Sized rest size → let count = min (length buf.old) (length rest) in buf.new ≡ take count rest ++ drop count buf.old }
+        ensures behind { (rest : _) (size : _)
+            → self.old.content ≡ Content.Sized rest size
+            → let count = min (length buf.old) (length rest) in buf.new ≡ take count rest ++ drop count buf.old }
     {
         self.content.poll_read(gate, buf)
     }

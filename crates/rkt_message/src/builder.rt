@@ -67,7 +67,8 @@ impl<S: Source> Builder<S> {
 
     /// `Response::set_raw_header`.
     pub fn raw_header(&mut self, name: &str, value: &str) -> Result<(), NoMemory>
-        ensures ok { OnOk result (self.new ≡ with_headers self.old (replaced self.old.headers (record { name = name.now; value = value.now }))) }
+        ensures ok { OnOk result
+            (self.new ≡ with_headers self.old (replaced self.old.headers (record { name = name.now; value = value.now }))) }
         ensures err { OnErr result (self.new ≡ self.old) }
     {
         self.response.set_raw_header(name, value)?;
@@ -76,7 +77,8 @@ impl<S: Source> Builder<S> {
 
     /// `Response::adjoin_raw_header`.
     pub fn raw_header_adjoin(&mut self, name: &str, value: &str) -> Result<(), NoMemory>
-        ensures ok { OnOk result (self.new ≡ with_headers self.old (added self.old.headers (record { name = name.now; value = value.now }))) }
+        ensures ok { OnOk result
+            (self.new ≡ with_headers self.old (added self.old.headers (record { name = name.now; value = value.now }))) }
         ensures err { OnErr result (self.new ≡ self.old) }
     {
         self.response.adjoin_raw_header(name, value)

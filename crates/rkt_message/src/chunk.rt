@@ -64,7 +64,8 @@ fn read_chunk<S: Source>(response: &mut Response<S>, gate: Gate, room: Vec<u8>) 
     ensures headers { response.new.headers ≡ response.old.headers }
     ensures follows { Follows S.meaning gate.tripped response.old.body response.new.body }
     ensures preset { preset_of response.new.body.content ≡ preset_of response.old.body.content }
-    ensures by_gate { Asked S.polled gate response.old.body.chunk (chunk_answer result) response.old.body.content response.new.body.content }
+    ensures by_gate { Asked S.polled gate response.old.body.chunk
+        (chunk_answer result) response.old.body.content response.new.body.content }
     ensures reads { ReadsChunk S.meaning response.old.body response.new.body result }
 {
     let mut room = room;
@@ -104,7 +105,8 @@ fn read_copied<S: Source>(
     ensures headers { response.new.headers ≡ response.old.headers }
     ensures follows { Follows S.meaning gate.tripped response.old.body response.new.body }
     ensures preset { preset_of response.new.body.content ≡ preset_of response.old.body.content }
-    ensures by_gate { Asked S.polled gate response.old.body.chunk (chunk_answer result) response.old.body.content response.new.body.content }
+    ensures by_gate { Asked S.polled gate response.old.body.chunk
+        (chunk_answer result) response.old.body.content response.new.body.content }
     ensures reads { ReadsChunk S.meaning response.old.body response.new.body result }
 {
     match response.body.poll_read(gate, buffer.as_mut_slice()) {

@@ -2,7 +2,7 @@
 ghost use Rattle.std.specs.Prelude.{◌≡◌, ◌<◌, ◌++◌, [], Ok, IfSome, IfNone, drop, length, min, take};
 ghost use Rattle.rkt_base.specs.declared.poll.Poll.TheVariants.{Ready};
 ghost use Rattle.rkt_source.specs.Source.{Keeps, Answers};
-ghost use Rattle.rkt_data.specs.Tap.{PollsTo, ending_of};
+ghost use Rattle.rkt_data.specs.CountedSource.{PollsTo, ending_of};
 
 use rkt_base::Poll;
 use rkt_data::{Gate, Source, SourceError};
@@ -173,7 +173,8 @@ impl<S: Source> Content<S> {
 
     /// Moves the bytes out, where there are any to be read.
     pub fn take_bytes(&mut self, alloc: Global) -> Option<Vec<u8>>
-        ensures some { IfSome result (λ bytes. (size : _) × (self.old ≡ Content.Sized bytes.items size) × (self.new ≡ Content.Sized [] size)) }
+        ensures some { IfSome result (λ bytes.
+            (size : _) × (self.old ≡ Content.Sized bytes.items size) × (self.new ≡ Content.Sized [] size)) }
         ensures none { IfNone result (self.new ≡ self.old) }
     {
         match self {
@@ -200,11 +201,16 @@ impl<S: Source> Content<S> {
         ensures by_gate { ByGate S.polled gate (ending_of result) self.old self.new }
         ensures answer { Reads S.meaning self.old self.new buf.old buf.new result }
         // A source is asked once with all the room, where the buffer takes a byte.
-        ensures source { (s : _) → self.old ≡ Content.Streamed s → 0 < length buf.old → ReadsSource S.meaning S.polled gate s self.new buf.old buf.new result }
+        ensures source { (s : _)
+            → self.old ≡ Content.Streamed s
+            → 0 < length buf.old
+            → ReadsSource S.meaning S.polled gate s self.new buf.old buf.new result }
         ensures bytes { (rest : _) (size : _) → self.old ≡ Content.Sized rest size
             → let count = min (length buf.old) (length rest) in
             (result ≡ Ready (Ok count)) × (self.new ≡ Content.Sized (drop count rest) size) }
-        ensures behind { (rest : _) (size : _) → self.old ≡ Content.Sized rest size → let count = min (length buf.old) (length rest) in buf.new ≡ take count rest ++ drop count buf.old }
+        ensures behind { (rest : _) (size : _)
+            → self.old ≡ Content.Sized rest size
+            → let count = min (length buf.old) (length rest) in buf.new ≡ take count rest ++ drop count buf.old }
     {
         match self {
             Content::Sized { rest, .. } => Poll::Ready(Ok(rest.read(buf))),

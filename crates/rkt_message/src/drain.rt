@@ -25,7 +25,8 @@ pub fn drain<S: Source>(
 ) -> (usize, Stop)
     requires within { count ≤ vec_len room.old }
     ensures within { result.0 ≤ vec_len room.new }
-    ensures draws { Draws S.meaning S.polled gate (stop_end result.1) body.old body.new (take count room.old.items) (take result.0 room.new.items) }
+    ensures draws { Draws S.meaning S.polled gate (stop_end result.1) body.old body.new (take count room.old.items)
+        (take result.0 room.new.items) }
     ensures stops { Stops S.meaning body.old.content body.new.content result.1 }
 {
     if count == 0 {
@@ -45,7 +46,8 @@ fn grow<S: Source>(
 ) -> (usize, Stop)
     requires within { count ≤ vec_len room.old }
     ensures within { result.0 ≤ vec_len room.new }
-    ensures draws { Draws S.meaning S.polled gate (stop_end result.1) body.old body.new (take count room.old.items) (take result.0 room.new.items) }
+    ensures draws { Draws S.meaning S.polled gate (stop_end result.1) body.old body.new (take count room.old.items)
+        (take result.0 room.new.items) }
     ensures stops { Stops S.meaning body.old.content body.new.content result.1 }
 {
     let mut n = count;
@@ -70,8 +72,10 @@ fn pour<S: Source>(
 ) -> (usize, Option<Stop>)
     requires within { count ≤ length room.old }
     ensures within { result.0 ≤ length room.new }
-    ensures draws { Draws S.meaning S.polled gate (end_if_stopped result.1) body.old body.new (take count room.old) (take result.0 room.new) }
-    ensures stops { MatchOption result.1 (result.0 ≡ length room.new) (λ stop. Stops S.meaning body.old.content body.new.content stop) }
+    ensures draws { Draws S.meaning S.polled gate (end_if_stopped result.1) body.old body.new (take count room.old)
+        (take result.0 room.new) }
+    ensures stops { MatchOption result.1 (result.0 ≡ length room.new) (λ stop.
+        Stops S.meaning body.old.content body.new.content stop) }
 {
     let mut n = count;
     while n < room.len() {

@@ -4,23 +4,17 @@ ghost use Rattle.std.specs.List.{list_all};
 ghost use Rattle.std.specs.Prelude.{◌≡◌, ◌++◌, [], IfOk};
 ghost use Rattle.rkt_http.specs.Headers.{fields_of};
 ghost use Rattle.rkt_message.specs.Lines.{lines_of, only_length};
-ghost use Rattle.rkt_message.specs.Sent.{has_head, head_of, is_sendable, is_token, is_value_byte, sent_headers};
+ghost use Rattle.rkt_message.specs.Sent.{has_head, head_of, is_sendable, is_token, sent_headers};
 
 use crate::piece::Piece;
 use crate::response::Response;
 use rkt_base::{NoMemory, Seq, Text};
 use rkt_data::Source;
-use rkt_grammar::has_token_bytes;
+use rkt_grammar::{has_field_value_bytes, has_token_bytes};
 use rkt_http::HeaderMap;
 use std::alloc::Global;
 
 const CONTENT_LENGTH: &str = "Content-Length";
-
-fn is_value_byte(byte: u8) -> bool
-    ensures { result ≡ is_value_byte byte }
-{
-    byte == b'\t' || byte >= 32 && byte != 127
-}
 
 fn is_token(text: &str) -> bool
     ensures { result ≡ is_token text.now }
@@ -28,17 +22,11 @@ fn is_token(text: &str) -> bool
     !text.is_empty() && has_token_bytes(text)
 }
 
-fn is_value(text: &str) -> bool
-    ensures { result ≡ list_all is_value_byte text.now }
-{
-    text.as_bytes().iter().all(|byte| is_value_byte(*byte))
-}
-
 fn are_sendable(headers: &HeaderMap) -> bool
     ensures { result ≡ list_all is_sendable (fields_of headers.now) }
 {
     for (name, value) in headers.iter() {
-        if !is_token(name) || !is_value(value) {
+        if !is_token(name) || !has_field_value_bytes(value) {
             return false;
         }
     }
@@ -66,7 +54,7 @@ fn length_line(alloc: Global, name: &str, size: usize) -> Result<(Text, Text), N
     Ok((Text::new(alloc, name)?, Text::from_string(size)))
 }
 
-// Room for a line of each group, and one more.
+// Room for a line of each value, and one more.
 fn room_for_lines(alloc: Global, headers: &HeaderMap) -> Result<Seq<(Text, Text)>, NoMemory>
     ensures { IfOk result (λ lines. lines ≡ []) }
 {

@@ -6,7 +6,6 @@ mod builder;
 mod chunk;
 mod content;
 mod drain;
-mod given;
 mod head;
 mod lends;
 mod piece;

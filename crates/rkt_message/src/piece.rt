@@ -1,8 +1,7 @@
 //! What a response is sent as.
 ghost use Rattle.std.specs.Prelude.{◌≡◌, IfOk};
 
-use rkt_base::{Bytes, NoMemory, Seq, Text};
-use rkt_grammar::copy_pairs;
+use rkt_base::{Bytes, NoMemory, Seq, Text, copy_all};
 use std::alloc::{AllocError, Global};
 use thiserror::Error;
 
@@ -50,7 +49,7 @@ impl Piece {
         match self {
             Piece::Head { status, headers } => Ok(Piece::Head {
                 status: *status,
-                headers: Seq::from_vec(copy_pairs(alloc, headers.as_slice())?),
+                headers: Seq::from_vec(copy_all(alloc, headers.as_slice())?),
             }),
             Piece::Chunk(bytes) => Ok(Piece::Chunk(bytes.try_clone(alloc)?)),
             Piece::End => Ok(Piece::End),

@@ -6,19 +6,18 @@ ghost use Rattle.rkt_message.specs.Sending.{PieceByGate, TakesFull};
 ghost use Rattle.rkt_message.specs.Sent.{has_head};
 
 use crate::chunk::{ChunkRead, next_chunk};
-use crate::given::Given;
 use crate::head::{has_head, head_of};
 use crate::piece::{Piece, PieceError};
 use crate::response::Response;
 use crate::stage::Stage;
-use rkt_base::Poll;
+use rkt_base::{Poll, Trail};
 use rkt_data::{Gate, Source};
 use std::alloc::Global;
 use std::marker::Model;
 use std::snapshot::Snapshot;
 
 // Gives a piece, behind those that were given.
-fn give(given: &mut Given, piece: Piece) -> Poll<Result<Piece, PieceError>>
+fn give(given: &mut Trail<Piece>, piece: Piece) -> Poll<Result<Piece, PieceError>>
     ensures answer { result ≡ Ready (Ok piece) }
     ensures given { given.new ≡ given.old ++ piece ∷ [] }
 {
@@ -34,7 +33,8 @@ pub struct Pieces<S: Source> {
     turns: u32,
     waits: u32,
     stage: Stage,
-    given: Given,
+    // Those that were given so far, for contracts alone.
+    given: Trail<Piece>,
     // Where a source is read into.
     buffer: Vec<u8>,
 }
@@ -44,7 +44,14 @@ impl<S: Source> Model for Pieces<S> {
 
     ghost Value = { Sending S };
 
-    ghost view = { λ p. record { response = p.response; begun = p.begun.value; turns = p.turns; waits = p.waits; given = p.given; is_over = is_done p.stage } };
+    ghost view = { λ p. record {
+      response = p.response;
+      begun = p.begun.value;
+      turns = p.turns;
+      waits = p.waits;
+      given = p.given;
+      is_over = is_done p.stage;
+    } };
 
     ghost invariant = { λ p. IsSending S.meaning p.stage p.response p.begun.value p.turns p.waits p.given };
 }
@@ -55,7 +62,8 @@ impl<S: Source> Pieces<S> {
     /// Sends a response. Where the source of its body is Pending `turns` times in a row, the body has failed; 0 counts
     /// as 1.
     pub fn new(response: Response<S>, turns: u32) -> Pieces<S>
-        ensures { result ≡ record { response = response; begun = response; turns = max turns 1; waits = 0; given = []; is_over = false } }
+        ensures { result
+            ≡ record { response = response; begun = response; turns = max turns 1; waits = 0; given = []; is_over = false } }
     {
         // This call tells the prover that a chunk has a byte, which the invariant of `Pieces` asks.
         let _ = response.body().max_chunk_size();
@@ -66,7 +74,7 @@ impl<S: Source> Pieces<S> {
             turns: turns.max(1),
             waits: 0,
             stage: Stage::Head,
-            given: Given::new(),
+            given: Trail::new(),
         }
     }
 
@@ -86,8 +94,10 @@ impl<S: Source> Pieces<S> {
         ensures front { IfReadyOk result (λ _. IsFront S.meaning self.new) }
         // Of a body of bytes each chunk takes as many as it may hold.
         ensures full { IfReadyOk result (TakesFull self.old.response.body) }
-        ensures bad_head { (result ≡ Ready (Err PieceError.BadHead)) ↔ ((self.old.given ≡ []) × (has_head self.old.begun ≡ false)) }
-        ensures body_fault { result ≡ Ready (Err PieceError.BodyFault) → (self.old.given ≢ []) × GivesUp S.meaning self.old self.new }
+        ensures bad_head { (result ≡ Ready (Err PieceError.BadHead))
+            ↔ ((self.old.given ≡ []) × (has_head self.old.begun ≡ false)) }
+        ensures body_fault { result ≡ Ready (Err PieceError.BodyFault)
+            → (self.old.given ≢ []) × GivesUp S.meaning self.old self.new }
         ensures over { IfReadyErr result (λ e. e ≢ PieceError.NoMemory → self.new.is_over ≡ true) }
         ensures stays { IfReadyErr result (λ _. self.new.given ≡ self.old.given) }
         ensures no_memory { result ≡ Ready (Err PieceError.NoMemory) → self.new ≡ self.old }

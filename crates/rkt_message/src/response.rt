@@ -136,7 +136,8 @@ impl<S: Source> Response<S> {
 
     /// `set_header` of a name and a value.
     pub fn set_raw_header(&mut self, name: &str, value: &str) -> Result<bool, NoMemory>
-        ensures ok { OnOk result (self.new ≡ with_headers self.old (replaced self.old.headers (record { name = name.now; value = value.now }))) }
+        ensures ok { OnOk result
+            (self.new ≡ with_headers self.old (replaced self.old.headers (record { name = name.now; value = value.now }))) }
         ensures there { IfOk result (λ there. there ≡ is_some (group_of self.old.headers name.now)) }
         ensures err { OnErr result (self.new ≡ self.old) }
     {
@@ -154,7 +155,8 @@ impl<S: Source> Response<S> {
 
     /// `adjoin_header` of a name and a value.
     pub fn adjoin_raw_header(&mut self, name: &str, value: &str) -> Result<(), NoMemory>
-        ensures ok { OnOk result (self.new ≡ with_headers self.old (added self.old.headers (record { name = name.now; value = value.now }))) }
+        ensures ok { OnOk result
+            (self.new ≡ with_headers self.old (added self.old.headers (record { name = name.now; value = value.now }))) }
         ensures err { OnErr result (self.new ≡ self.old) }
     {
         let header = Header::new(self.alloc, name, value)?;
@@ -207,7 +209,9 @@ impl<S: Source> Response<S> {
     pub fn merge(&mut self, other: Response<S>) -> Result<(), NoMemory>
         ensures ok { OnOk result (self.new ≡ merged self.old other) }
         // Headers that the other has none of stay.
-        ensures stays { OnOk result ((name : List ℕ) → group_of other.headers name ≡ None → group_of self.new.headers name ≡ group_of self.old.headers name) }
+        ensures stays { OnOk result ((name : List ℕ)
+            → group_of other.headers name ≡ None
+            → group_of self.new.headers name ≡ group_of self.old.headers name) }
         ensures err { OnErr result (self.new ≡ self.old) }
     {
         self.headers.overwrite(other.headers)?;

@@ -46,7 +46,8 @@ impl<S: Source> ToString<S> {
     pub fn poll(&mut self, alloc: Global, gate: Gate) -> Poll<Result<String, DataError>>
         requires { self.old.done ≡ false }
         ensures follows { Follows S.meaning gate.tripped self.old.body self.new.body }
-        ensures by_gate { self.old.failed ≡ None → ByGate S.polled gate (reads_end result) self.old.body.content self.new.body.content }
+        ensures by_gate { self.old.failed ≡ None
+            → ByGate S.polled gate (reads_end result) self.old.body.content self.new.body.content }
         ensures repeats { ForSome self.old.failed (λ e. (result ≡ Ready (Err e)) × (self.new ≡ self.old)) }
         ensures answer { self.old.failed ≡ None → GathersText S.meaning self.old self.new result }
         ensures lowers { self.old.failed ≡ None → LowersText S.meaning self.old self.new.body.content result }

@@ -2,14 +2,13 @@
 ghost use Rattle.std.specs.Option.{ForSome};
 ghost use Rattle.std.specs.Prelude.{◌≡◌, Err, None, Some, false};
 ghost use Rattle.rkt_base.specs.declared.poll.Poll.TheVariants.{Ready};
-ghost use Rattle.rkt_source.specs.Buffer.{items_of};
 ghost use Rattle.rkt_data.specs.Gathering.{reads_end};
 ghost use Rattle.rkt_message.specs.Reading.{ByGate, Follows};
 
 use crate::body::Body;
 use crate::drain::{Stop, drain};
 use rkt_base::Poll;
-use rkt_data::{DataError, Gate, Source};
+use rkt_data::{DataError, Gate, Source, resume_buffer};
 use std::alloc::Global;
 use std::marker::Model;
 
@@ -68,7 +67,8 @@ impl<S: Source> Whole<S> {
     pub fn poll(&mut self, alloc: Global, gate: Gate) -> Poll<Result<Vec<u8>, DataError>>
         requires { self.old.done ≡ false }
         ensures follows { Follows S.meaning gate.tripped self.old.body self.new.body }
-        ensures by_gate { self.old.failed ≡ None → ByGate S.polled gate (reads_end result) self.old.body.content self.new.body.content }
+        ensures by_gate { self.old.failed ≡ None
+            → ByGate S.polled gate (reads_end result) self.old.body.content self.new.body.content }
         ensures repeats { ForSome self.old.failed (λ e. (result ≡ Ready (Err e)) × (self.new ≡ self.old)) }
         ensures answer { self.old.failed ≡ None → GathersBytes S.meaning self.old self.new result }
         ensures lowers { LowersBytes self.old.body.content self.new.body.content result }
@@ -76,7 +76,7 @@ impl<S: Source> Whole<S> {
         if let Some(e) = self.failed {
             return Poll::Ready(Err(e));
         }
-        let mut room = resume(&mut self.room, alloc);
+        let mut room = resume_buffer(&mut self.room, alloc);
         let (count, stop) = drain(&mut self.body, alloc, gate, &mut room, self.count);
         match stop {
             Stop::End => {
@@ -97,16 +97,5 @@ impl<S: Source> Whole<S> {
                 Poll::Ready(Err(e))
             }
         }
-    }
-}
-
-// The buffer that an earlier poll has left, or a new one.
-fn resume(room: &mut Option<Vec<u8>>, alloc: Global) -> Vec<u8>
-    ensures items { result.items ≡ items_of room.old }
-    ensures taken { room.new ≡ None }
-{
-    match room.take() {
-        Some(room) => room,
-        None => Vec::new(alloc),
     }
 }

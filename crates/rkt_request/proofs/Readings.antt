@@ -7,7 +7,7 @@ use Rattle.rkt_data.specs.Body.{Body}
 use Rattle.rkt_data.specs.Gathering.{Gathering, reads_end}
 use Rattle.rkt_source.specs.Source.{Meaning, Polled}
 use Rattle.rkt_data.specs.Stream.{Follows, PullsAtMost}
-use Rattle.rkt_data.specs.Tap.{Tapped, SameTap, ByGate, TapWaits}
+use Rattle.rkt_data.specs.CountedSource.{Tapped, SameTap, ByGate, TapWaits}
 use Rattle.rkt_data.specs.declared.error.DataError.{DataError}
 use Rattle.rkt_data.specs.declared.error.DataError.TheVariants.{NoMemory}
 use Rattle.rkt_source.specs.declared.source.Gate.{Gate}

@@ -22,7 +22,8 @@ pub record Guarding (V B G E R : Type 0) : Type 1 where
 
 -- a guard that says nothing: it may answer anything, and be Pending however often
 abbrev pub any_guard : {V B G E R : Type 0} → Guarding V B G E R
-any_guard = record { begun = λ request body gates n reading. ⊤; may = λ request body gates outcome. ⊤; pendings = λ request body. None }
+any_guard =
+    record { begun = λ request body gates n reading. ⊤; may = λ request body gates outcome. ⊤; pendings = λ request body. None }
 
 -- one Pending more, behind n of them, is within the bound, where there is one
 abbrev pub IsWithin : Option ℕ → ℕ → Type 0
@@ -37,10 +38,14 @@ module _ {V B G E R : Type 0} (D : Guarding V B G E R) where
   -- the answer of the last of these polls, of a reading that was Pending n times before; nothing is told of one that
   -- found no memory
   abbrev pub AnswersData : {W : Type 0} → Seen V → B → List Gate → ℕ → Poll (Result (Guarded B G E) W) → R → Type 0
-  AnswersData request body gates n Pending reading = IsWithin (D.pendings request body) n × D.begun request body gates (n + 1) reading
+  AnswersData request body gates n Pending reading =
+      IsWithin (D.pendings request body) n × D.begun request body gates (n + 1) reading
   AnswersData request body gates n (Ready (Ok outcome)) reading = D.may request body gates outcome
   AnswersData request body gates n (Ready (Err e)) reading = ⊤
 
   -- what a poll gives, whatever the reading was begun for
   abbrev pub ReadsOn : {W : Type 0} → R → Gate → Poll (Result (Guarded B G E) W) → R → Type 0
-  ReadsOn old gate answer new = (request : Seen V) (body : B) (gates : List Gate) (n : ℕ) → D.begun request body gates n old → AnswersData request body (gates ++ gate ∷ []) n answer new
+  ReadsOn old gate answer new =
+      (request : Seen V) (body : B) (gates : List Gate) (n : ℕ)
+      → D.begun request body gates n old
+      → AnswersData request body (gates ++ gate ∷ []) n answer new

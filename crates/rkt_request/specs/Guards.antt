@@ -9,7 +9,7 @@ use Rattle.rkt_data.specs.Gathering.{Gathering, GathersBytes, reads_end}
 use Rattle.rkt_source.specs.Source.{Meaning, Polled}
 use Rattle.rkt_data.specs.Stream.{Follows, PullsAtMost}
 use Rattle.rkt_data.specs.Text.{AnswersText}
-use Rattle.rkt_data.specs.Tap.{Tapped, SameTap, ByGate}
+use Rattle.rkt_data.specs.CountedSource.{Tapped, SameTap, ByGate}
 use Rattle.rkt_data.specs.declared.capped.Capped.{Capped}
 use Rattle.rkt_data.specs.declared.data_stream.ByteUnit.{ByteUnit}
 use Rattle.rkt_data.specs.declared.error.DataError.{DataError}
@@ -34,7 +34,10 @@ bad_request = record { code = 400 }
 
 -- the limit that a configuration has for a name, or else this one
 abbrev pub IsLimit : {V : Type 0} → List ℕ → ℕ → Seen V → ℕ → Type 0
-IsLimit name otherwise request limit = (found : Option ByteUnit) × IsLimitOf request.config.limits name found × (limit ≡ option_map_or (λ unit. unit.0) found otherwise)
+IsLimit name otherwise request limit =
+    (found : Option ByteUnit)
+    × IsLimitOf request.config.limits name found
+    × (limit ≡ option_map_or (λ unit. unit.0) found otherwise)
 
 -- the source that a body is read from: none, where all that it has is held
 abbrev pub read_of : {S : Type 0} → Body S → Option (Tapped S)
@@ -51,7 +54,8 @@ module _ {S : Type 0} (meaning : S → Meaning) (polled : Polled S) where
   -- reads under each of these Gates in turn, the last of each Pending, lead a body's source from the first to the second
   abbrev pub Leads : List Gate → Option (Tapped S) → Option (Tapped S) → Type 0
   Leads [] t u = u ≡ t
-  Leads (gate ∷ gates) t u = (v : Option (Tapped S)) × SameTap meaning gate.tripped t v × ByGate polled gate Pending t v × Leads gates v u
+  Leads (gate ∷ gates) t u =
+      (v : Option (Tapped S)) × SameTap meaning gate.tripped t v × ByGate polled gate Pending t v × Leads gates v u
 
   -- a state gathers the whole body up to this limit; it was polled under these Gates, and the source was Pending n
   -- times at least
@@ -66,7 +70,8 @@ module _ {S : Type 0} (meaning : S → Meaning) (polled : Polled S) where
     pub bound : PullsAtMost meaning reading.stream
 
   -- the last of these polls has given an answer, which is not want of memory, as such a state answers
-  pub record Ends {X : Type 0} (Answers : Gathering S → Gathering S → Poll (Result X DataError) → Type 0) (most : ℕ) (body : Body S) (gates : List Gate) (answer : Result X DataError) : Type 0 where
+  pub record Ends {X : Type 0} (Answers : Gathering S → Gathering S → Poll (Result X DataError) → Type 0) (most : ℕ)
+      (body : Body S) (gates : List Gate) (answer : Result X DataError) : Type 0 where
     pub earlier : List Gate
     pub last : Gate
     pub polls : gates ≡ earlier ++ last ∷ []
@@ -85,22 +90,39 @@ or_bad_request (Ok x) = Success x
 or_bad_request (Err e) = Error (bad_request, Io e)
 
 -- the guard that reads a body by such a state, up to the limit of a name
-abbrev pub capped_guard : {V S X : Type 0} → (S → Meaning) → Polled S → (Gathering S → Gathering S → Poll (Result X DataError) → Type 0) → List ℕ → ℕ → Guarding V (Body S) X GuardError (Gathering S)
+abbrev pub capped_guard : {V S X : Type 0} → (S → Meaning) → Polled S
+    → (Gathering S → Gathering S → Poll (Result X DataError) → Type 0)
+    → List ℕ → ℕ
+    → Guarding V (Body S) X GuardError (Gathering S)
 capped_guard {V} {S} {X} meaning polled Answers name otherwise = record {
-  begun = λ request body gates n reading. (limit : ℕ) × IsLimit name otherwise request limit × IsReading meaning polled limit body gates n reading;
-  may = λ request body gates outcome. (limit : ℕ) × IsLimit name otherwise request limit × ((answer : Result X DataError) × Ends meaning polled Answers limit body gates answer × (outcome ≡ or_bad_request answer));
+  begun = λ request body gates n reading.
+      (limit : ℕ) × IsLimit name otherwise request limit × IsReading meaning polled limit body gates n reading;
+  may = λ request body gates outcome. (limit : ℕ)
+      × IsLimit name otherwise request limit
+      × ((answer : Result X DataError)
+      × Ends meaning polled Answers limit body gates answer
+      × (outcome ≡ or_bad_request answer));
   pendings = λ request body. Some (pendings meaning (read_of body) - pended meaning (read_of body));
 }
 
 -- the guards of a text and of bytes
-abbrev pub text_guard : {V S : Type 0} → (S → Meaning) → Polled S → Guarding V (Body S) (Capped (String Global)) GuardError (Gathering S)
+abbrev pub text_guard : {V S : Type 0}
+    → (S → Meaning)
+    → Polled S
+    → Guarding V (Body S) (Capped (String Global)) GuardError (Gathering S)
 text_guard meaning polled = capped_guard meaning polled (AnswersText meaning) (codes "string") 8192
 
-abbrev pub bytes_guard : {V S : Type 0} → (S → Meaning) → Polled S → Guarding V (Body S) (Capped (Vec ℕ Global)) GuardError (Gathering S)
+abbrev pub bytes_guard : {V S : Type 0}
+    → (S → Meaning)
+    → Polled S
+    → Guarding V (Body S) (Capped (Vec ℕ Global)) GuardError (Gathering S)
 bytes_guard meaning polled = capped_guard meaning polled (GathersBytes meaning) (codes "bytes") 8192
 
 -- the guard that answers what this makes of another guard's outcome
-abbrev pub guard_by : {V B G H D E R : Type 0} → (Guarded B G D → Guarded B H E → Type 0) → Guarding V B G D R → Guarding V B H E R
+abbrev pub guard_by : {V B G H D E R : Type 0}
+    → (Guarded B G D → Guarded B H E → Type 0)
+    → Guarding V B G D R
+    → Guarding V B H E R
 guard_by {V} {B} {G} {H} {D} {E} {R} Makes inner = record {
   begun = inner.begun;
   may = λ request body gates outcome. (answer : Guarded B G D) × inner.may request body gates answer × Makes answer outcome;
@@ -113,7 +135,8 @@ guard_map f inner = guard_by (λ answer outcome. outcome ≡ f answer) inner
 
 -- a value that is complete, and else an error with 400 that says how much was read
 abbrev pub strict : {X F : Type 0} → Outcome (Capped X) (Status × GuardError) F → Outcome X (Status × GuardError) F
-strict (Success capped) = if capped.n.complete then Success capped.value else Error (bad_request, LimitExceeded capped.n.written)
+strict (Success capped) =
+    if capped.n.complete then Success capped.value else Error (bad_request, LimitExceeded capped.n.written)
 strict (Error e) = Error e
 strict (Forward f) = Forward f
 
@@ -142,8 +165,10 @@ value_or_refusal (Ok x) = Success (record { 0 = x })
 value_or_refusal (Err e) = Error (bad_request, text_error.Text e)
 
 -- what is made of the outcome of a text that gives a value or an error by these readings
-abbrev pub ParsedAs : {P E F : Type 0} → (List ℕ → Result P E → Type 0) → Outcome (String Global) (Status × GuardError) F → Outcome (Parsed P) (Status × TextError E) F → Type 0
-ParsedAs {P} {E} {F} Reads (Success text) outcome = (answer : Result P E) × Reads (string_bytes text) answer × (outcome ≡ value_or_refusal answer)
+abbrev pub ParsedAs : {P E F : Type 0} → (List ℕ → Result P E → Type 0) → Outcome (String Global) (Status × GuardError) F
+    → Outcome (Parsed P) (Status × TextError E) F → Type 0
+ParsedAs {P} {E} {F} Reads (Success text) outcome =
+    (answer : Result P E) × Reads (string_bytes text) answer × (outcome ≡ value_or_refusal answer)
 ParsedAs Reads (Error e) outcome = outcome ≡ Error (e.0, text_error.Body e.1)
 ParsedAs Reads (Forward f) outcome = outcome ≡ Forward f
 

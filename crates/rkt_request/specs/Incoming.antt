@@ -60,7 +60,8 @@ abbrev pub IsJar : List (List ℕ) → JarParts → Type 0
 IsJar values jar = AddsCookies (flat_map cookie_pieces values) empty_jar jar
 
 -- what a head makes, where this is lent: a request, a jar and faults
-pub record IsIncoming {V : Type 0} (head : Head) (config : Config) (managed : List (ℕ × V)) (request : Seen V) (jar : JarParts) (faults : List Bad) : Type 0 where
+pub record IsIncoming {V : Type 0} (head : Head) (config : Config) (managed : List (ℕ × V)) (request : Seen V) (jar : JarParts)
+    (faults : List Bad) : Type 0 where
   -- the method of exactly that name, or else Get
   pub method : request.method ≡ unwrap_or (method_of head.method) Get
   -- the origin that the target spells, or else the root

@@ -34,10 +34,9 @@ grows_again a b c p q = record {
 }
 
 pub may_grow_again : {C : Type 0} (a b c : Lent C) → MayGrow a b → MayGrow b c → MayGrow a c
-may_grow_again a b c p q = ⊎_elim
-    (λ (same : c ≡ b). subst (MayGrow a) (sym same) p)
-    (λ (more : Grows b.kept c.kept × (c.gate ≡ b.gate)). ⊎_elim
-    (λ (first : b ≡ a). inr (subst (λ x. Grows x.kept c.kept × (c.gate ≡ x.gate)) first more))
-    (λ (before : Grows a.kept b.kept × (b.gate ≡ a.gate)). inr (grows_again a.kept b.kept c.kept before.0 more.0, more.1 ∙ before.1))
-    p)
-    q
+may_grow_again a b c p q =
+    ⊎_elim (λ (same : c ≡ b). subst (MayGrow a) (sym same) p)
+    (λ (more : Grows b.kept c.kept × (c.gate ≡ b.gate)).
+    ⊎_elim (λ (first : b ≡ a). inr (subst (λ x. Grows x.kept c.kept × (c.gate ≡ x.gate)) first more))
+    (λ (before : Grows a.kept b.kept × (b.gate ≡ a.gate)).
+    inr (grows_again a.kept b.kept c.kept before.0 more.0, more.1 ∙ before.1)) p) q

@@ -6,7 +6,8 @@ use Rattle.rkt_media.specs.Media.{Media, known_media}
 use Rattle.rkt_media.specs.declared.known.Known.TheVariants.{Any}
 use Rattle.rkt_request.specs.Seen.{IsAccept, IsContentType}
 
-pub record IsRead (headers : List Group) (content_type : Option Media) (accept : Option (List Weighed)) (any : Media) : Type 0 where
+pub record IsRead (headers : List Group) (content_type : Option Media) (accept : Option (List Weighed))
+    (any : Media) : Type 0 where
   pub content_type_read : IsContentType headers content_type
   pub accept_read : IsAccept headers accept
   pub any_is : any ≡ known_media Any

@@ -51,7 +51,8 @@ IsRealIp seen found = MaybeReadAs IsIpText (real_ip_text seen) found
 
 -- the client's address: that one, or else that of who sent the request
 abbrev pub IsClientIp : {V : Type 0} → Seen V → Option IpAddr → Type 0
-IsClientIp seen found = (real : Option IpAddr) × IsRealIp seen real × (found ≡ option_or real (option_map socket_ip seen.remote))
+IsClientIp seen found =
+    (real : Option IpAddr) × IsRealIp seen real × (found ≡ option_or real (option_map socket_ip seen.remote))
 
 -- the content type that the first Content-Type header spells, if there is one that spells any
 abbrev pub IsContentType : List Group → Option Media → Type 0

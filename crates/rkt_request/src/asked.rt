@@ -59,7 +59,10 @@ pub(crate) fn read_origin(
     method: Option<Method>,
     target: &str,
 ) -> Result<(Origin, Seq<Bad>), NoMemory>
-    ensures { IfOk result (λ read. (found : Option Target) × ReadAs (Spells OfRequest) target.now found × (read.0 ≡ unwrap_or found root) × (read.1 ≡ faults_of method found)) }
+    ensures { IfOk result (λ read. (found : Option Target)
+        × ReadAs (Spells OfRequest) target.now found
+        × (read.0 ≡ unwrap_or found root)
+        × (read.1 ≡ faults_of method found)) }
 {
     let target = read_target(alloc, target)?;
     let faults = faults_of(alloc, method, &target)?;

@@ -60,9 +60,12 @@ impl<T: Types> Ctx<T> {
         f: F,
     ) -> Result<T::Cached, NoMemory>
         requires { F.pre f }
-        ensures kept { (value : T.Cached) → cached_at key self.old.kept.cache ≡ Some value → (result ≡ Ok value) × (self.new ≡ self.old) }
+        ensures kept { (value : T.Cached)
+            → cached_at key self.old.kept.cache ≡ Some value
+            → (result ≡ Ok value) × (self.new ≡ self.old) }
         ensures made { cached_at key self.old.kept.cache ≡ None
-            → IfOk result (λ value. F.post f value × (self.new ≡ with_cache self.old (self.old.kept.cache ++ (key, value) ∷ []))) }
+            → IfOk result (λ value.
+            F.post f value × (self.new ≡ with_cache self.old (self.old.kept.cache ++ (key, value) ∷ []))) }
         ensures err { OnErr result (self.new ≡ self.old) }
     {
         if let Some(value) = self.cached_at(key) {

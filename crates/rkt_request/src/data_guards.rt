@@ -18,7 +18,8 @@ use std::convert::Infallible;
 fn or_bad_request<V, F>(
     answer: Result<V, DataError>,
 ) -> Result<Outcome<V, (Status, GuardError), F>, NoMemory>
-    ensures { MatchResult result (λ outcome. (outcome ≡ or_bad_request answer) × (answer ≢ Err DataError.NoMemory)) (λ _. answer ≡ Err DataError.NoMemory) }
+    ensures { MatchResult result (λ outcome. (outcome ≡ or_bad_request answer) × (answer ≢ Err DataError.NoMemory))
+        (λ _. answer ≡ Err DataError.NoMemory) }
 {
     match answer {
         Ok(value) => Ok(Outcome::Success(value)),

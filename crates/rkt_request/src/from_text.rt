@@ -41,7 +41,8 @@ fn parsed_text<P: FromText, B>(
     alloc: Global,
     text: &str,
 ) -> Result<DataOutcome<Parsed<P>, TextError<P::Error>, B>, NoMemory>
-    ensures { IfOk result (λ outcome. (answer : Result P P.Error) × P.reads text.now answer × (outcome ≡ value_or_refusal answer)) }
+    ensures { IfOk result (λ outcome.
+        (answer : Result P P.Error) × P.reads text.now answer × (outcome ≡ value_or_refusal answer)) }
 {
     match P::from_text(alloc, text) {
         Ok(value) => Ok(Outcome::Success(Parsed(value))),

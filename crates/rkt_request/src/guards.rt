@@ -72,7 +72,8 @@ impl<'a, T: Types> FromRequest<Request<'a, T>, Ctx<T>> for SocketAddr {
 impl<'a, T: Types> FromRequest<Request<'a, T>, Ctx<T>> for IpAddr {
     type Error = Infallible;
 
-    ghost may = { λ seen before outcome after. (found : Option IpAddr) × IsClientIp seen found × Answers outcome (or_forward found) before after };
+    ghost may = { λ seen before outcome after.
+        (found : Option IpAddr) × IsClientIp seen found × Answers outcome (or_forward found) before after };
 
     fn from_request(
         _alloc: Global,
@@ -90,7 +91,8 @@ impl<'a, T: Types, const KEY: u32> FromRequest<Request<'a, T>, Ctx<T>>
     for State<'a, T::Value, KEY> {
     type Error = ();
 
-    ghost may = { λ seen before outcome after. Answers outcome (or_error (value_at (record { 0 = KEY }) seen.managed)) before after };
+    ghost may = { λ seen before outcome after.
+        Answers outcome (or_error (value_at (record { 0 = KEY }) seen.managed)) before after };
 
     fn from_request(
         _alloc: Global,

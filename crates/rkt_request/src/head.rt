@@ -1,6 +1,6 @@
-ghost use Rattle.std.specs.Prelude.{◌≡◌, ◌++◌, ◌∷◌, [], IfOk, OnOk};
+ghost use Rattle.std.specs.Prelude.{◌≡◌, IfOk};
 
-use rkt_base::{Bytes, NoMemory, Seq, Text};
+use rkt_base::{Bytes, NoMemory, Seq, Text, copy_all};
 use std::alloc::Global;
 use std::net::SocketAddr;
 
@@ -20,39 +20,14 @@ impl Head {
     {
         let method = self.method.try_clone(alloc)?;
         let target = self.target.try_clone(alloc)?;
-        let headers = copy_headers(alloc, self.headers.as_slice())?;
+        let headers = copy_all(alloc, self.headers.as_slice())?;
         Ok(Head {
             method,
             target,
-            headers,
+            headers: Seq::from_vec(headers),
             remote: self.remote,
         })
     }
-}
-
-// Puts a copy of a name and a value behind the others.
-fn push_copy(
-    alloc: Global,
-    copies: &mut Seq<(Text, Bytes)>,
-    name: &Text,
-    value: &Bytes,
-) -> Result<(), NoMemory>
-    ensures { OnOk result (copies.new ≡ copies.old ++ (name.now, value.now) ∷ []) }
-{
-    let name = name.try_clone(alloc)?;
-    let value = value.try_clone(alloc)?;
-    copies.push((name, value))
-}
-
-// A copy of names and values.
-fn copy_headers(alloc: Global, headers: &[(Text, Bytes)]) -> Result<Seq<(Text, Bytes)>, NoMemory>
-    ensures { IfOk result (λ copies. copies ≡ headers.now) }
-{
-    let mut copies = Seq::new(alloc);
-    for (name, value) in headers {
-        push_copy(alloc, &mut copies, name, value)?;
-    }
-    Ok(copies)
 }
 
 /// Where the route stands that a request is tried on.

@@ -30,7 +30,8 @@ impl<'a, T: Types> Request<'a, T> {
         config: &'a Config,
         managed: &'a Managed<T::Value>,
     ) -> Result<Incoming<'a, T>, NoMemory>
-        ensures { IfOk result (λ incoming. IsIncoming head.now config.now managed.now incoming.request incoming.jar incoming.faults) }
+        ensures { IfOk result (λ incoming.
+            IsIncoming head.now config.now managed.now incoming.request incoming.jar incoming.faults) }
     {
         let method = Method::from_wire(head.method.as_str());
         let (uri, faults) = read_origin(alloc, method, head.target.as_str())?;

@@ -214,7 +214,8 @@ impl RequestHeaders {
     /// Adds a header that becomes the first Accept.
     fn add_accept(&mut self, header: Header) -> Result<(), NoMemory>
         requires first { first_value (added self.old header) (codes "Accept") ≡ Some header.value }
-        requires others { first_value (added self.old header) (codes "Content-Type") ≡ first_value self.old (codes "Content-Type") }
+        requires others { first_value (added self.old header) (codes "Content-Type")
+            ≡ first_value self.old (codes "Content-Type") }
         ensures ok { OnOk result (self.new ≡ added self.old header) }
         ensures err { OnErr result (self.new ≡ self.old) }
     {

@@ -33,8 +33,8 @@ pub trait HasBody: Types {
 }
 
 impl<T: Types> HasBody for T {
-    ghost use Rattle.rkt_cancel.specs.Cancel.{cut_meaning};
-    ghost use Rattle.rkt_data.specs.Tap.{body};
+    ghost use Rattle.rkt_source.specs.Cancel.{cut_meaning};
+    ghost use Rattle.rkt_data.specs.CountedSource.{body};
 
     type Body = Body0<T>;
 

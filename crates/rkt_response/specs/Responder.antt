@@ -87,4 +87,5 @@ pub record Redirection : Type 0 where
   pub uri : Option (List ℕ)
 
 abbrev pub answer_of_redirect : {S : Type 0} → Redirection → Answer S
-answer_of_redirect redirect = option_map_or (λ uri. Ok (with_header (codes "Location") uri (status_alone redirect.code))) redirect.uri (refusal 500)
+answer_of_redirect redirect =
+    option_map_or (λ uri. Ok (with_header (codes "Location") uri (status_alone redirect.code))) redirect.uri (refusal 500)

@@ -47,7 +47,8 @@ fn cookie_of(alloc: Global, text: &str) -> Result<Cookie, NoMemory>
 
 impl<R: Drop> Flash<R> {
     pub fn new(alloc: Global, responder: R, kind: &str, message: &str) -> Result<Flash<R>, NoMemory>
-        ensures { IfOk result (λ flash. flash ≡ record { responder = responder; flashed = record { kind = kind.now; message = message.now } }) }
+        ensures { IfOk result (λ flash.
+            flash ≡ record { responder = responder; flashed = record { kind = kind.now; message = message.now } }) }
     {
         Ok(Flash {
             responder,
@@ -58,21 +59,24 @@ impl<R: Drop> Flash<R> {
 
     /// Of the kind `success`.
     pub fn success(alloc: Global, responder: R, message: &str) -> Result<Flash<R>, NoMemory>
-        ensures { IfOk result (λ flash. flash ≡ record { responder = responder; flashed = record { kind = codes "success"; message = message.now } }) }
+        ensures { IfOk result (λ flash.
+            flash ≡ record { responder = responder; flashed = record { kind = codes "success"; message = message.now } }) }
     {
         Flash::new(alloc, responder, "success", message)
     }
 
     /// Of the kind `warning`.
     pub fn warning(alloc: Global, responder: R, message: &str) -> Result<Flash<R>, NoMemory>
-        ensures { IfOk result (λ flash. flash ≡ record { responder = responder; flashed = record { kind = codes "warning"; message = message.now } }) }
+        ensures { IfOk result (λ flash.
+            flash ≡ record { responder = responder; flashed = record { kind = codes "warning"; message = message.now } }) }
     {
         Flash::new(alloc, responder, "warning", message)
     }
 
     /// Of the kind `error`.
     pub fn error(alloc: Global, responder: R, message: &str) -> Result<Flash<R>, NoMemory>
-        ensures { IfOk result (λ flash. flash ≡ record { responder = responder; flashed = record { kind = codes "error"; message = message.now } }) }
+        ensures { IfOk result (λ flash.
+            flash ≡ record { responder = responder; flashed = record { kind = codes "error"; message = message.now } }) }
     {
         Flash::new(alloc, responder, "error", message)
     }
@@ -94,7 +98,8 @@ impl<R: Drop> Flash<R> {
         // As a jar sends it, it is read as the same kind and message.
         ensures read_again { IfOk result (λ cookie. ReadsFlash (encoded_text (addition cookie).cookie) self.now.flashed) }
         // So it is as a client hands it back, without attributes.
-        ensures handed_back { IfOk result (λ cookie. ReadsFlash (first_piece (encoded_text (addition cookie).cookie)) self.now.flashed) }
+        ensures handed_back { IfOk result (λ cookie.
+            ReadsFlash (first_piece (encoded_text (addition cookie).cookie)) self.now.flashed) }
     {
         let text = self.text(alloc)?;
         cookie_of(alloc, text.as_str())

@@ -29,7 +29,8 @@ impl Model for FlashMessage {
 
 /// The kind and the message that a cookie's value says, if it says any.
 fn parts(text: &str) -> Option<(&str, &str)>
-    ensures { MatchOption result ((flashed : Flashed) → ¬ SaysFlash text.now flashed) (λ parts. SaysFlash text.now (record { kind = parts.0.now; message = parts.1.now })) }
+    ensures { MatchOption result ((flashed : Flashed) → ¬ SaysFlash text.now flashed) (λ parts.
+        SaysFlash text.now (record { kind = parts.0.now; message = parts.1.now })) }
 {
     let (number, rest) = text.split_once(':')?;
     let length = number.parse::<usize>().ok()?;
@@ -44,7 +45,9 @@ impl FlashMessage {
     ghost use Rattle.rkt_response.specs.contracts.flash_message.FlashMessage.{the_row};
 
     fn read(alloc: Global, jar: &CookieJar) -> Result<Option<FlashMessage>, NoMemory>
-        ensures { IfOk result (λ found. (flashed : Option Flashed) × IsFlashOf jar.now flashed × (found ≡ option_map (λ f. record { flashed = f; removed = false }) flashed)) }
+        ensures { IfOk result (λ found. (flashed : Option Flashed)
+            × IsFlashOf jar.now flashed
+            × (found ≡ option_map (λ f. record { flashed = f; removed = false }) flashed)) }
     {
         let Some(cookie) = jar.get(NAME) else {
             return Ok(None);
@@ -74,7 +77,8 @@ impl FlashMessage {
     }
 
     pub fn kind(&mut self, alloc: Global, jar: &mut CookieJar) -> Result<&str, NoMemory>
-        ensures* rests { sem 𝓛 (follows_so the_row the_row self.entry.ghost_name none (λ _ _. ⊤) (λ after. MatchResult result (λ _. after ≡ record self.old { removed = true }) (λ _. after ≡ self.old))) }
+        ensures* rests { sem 𝓛 (follows_so the_row the_row self.entry.ghost_name none (λ _ _. ⊤)
+            (λ after. MatchResult result (λ _. after ≡ record self.old { removed = true }) (λ _. after ≡ self.old))) }
         ensures value { IfOk result (λ kind. kind.now ≡ self.old.flashed.kind) }
         ensures removes { OnOk result (jar.new ≡ without_flash self.old.removed jar.old) }
         ensures err { OnErr result (jar.new ≡ jar.old) }
@@ -84,7 +88,8 @@ impl FlashMessage {
     }
 
     pub fn message(&mut self, alloc: Global, jar: &mut CookieJar) -> Result<&str, NoMemory>
-        ensures* rests { sem 𝓛 (follows_so the_row the_row self.entry.ghost_name none (λ _ _. ⊤) (λ after. MatchResult result (λ _. after ≡ record self.old { removed = true }) (λ _. after ≡ self.old))) }
+        ensures* rests { sem 𝓛 (follows_so the_row the_row self.entry.ghost_name none (λ _ _. ⊤)
+            (λ after. MatchResult result (λ _. after ≡ record self.old { removed = true }) (λ _. after ≡ self.old))) }
         ensures value { IfOk result (λ message. message.now ≡ self.old.flashed.message) }
         ensures removes { OnOk result (jar.new ≡ without_flash self.old.removed jar.old) }
         ensures err { OnErr result (jar.new ≡ jar.old) }
@@ -112,7 +117,8 @@ impl FlashMessage {
 impl<'a, T: Types> FromRequest<Request<'a, T>, Ctx<T>> for FlashMessage {
     type Error = ();
 
-    ghost may = { λ seen before outcome after. (found : Option Flashed) × IsFlashOf before.kept.jar found × Answers outcome (answer_of found) before after };
+    ghost may = { λ seen before outcome after.
+        (found : Option Flashed) × IsFlashOf before.kept.jar found × Answers outcome (answer_of found) before after };
 
     fn from_request(
         alloc: Global,

@@ -29,7 +29,8 @@ pub type ResponseResult<S> = Result<Response<S>, Want<Status>>;
 /// A value that a response is made of. One that says nothing of itself may answer anything, and leaves the context as it was.
 pub trait Responder<T: Types>: Sized {
     /// What the value may answer to a request, and what it leaves of the context that it is lent.
-    ghost may: { Self → Seen T.Value → Lent T.Cached → Answer T.Stream → Lent T.Cached → Type 0 } = { λ _ _ before _ after. after ≡ before };
+    ghost may: { Self → Seen T.Value → Lent T.Cached → Answer T.Stream → Lent T.Cached
+        → Type 0 } = { λ _ _ before _ after. after ≡ before };
 
     /// What it may leave of the context where memory runs out.
     ghost starves: { Self → Seen T.Value → Lent T.Cached → Lent T.Cached → Type 0 } = { λ _ _ before after. after ≡ before };

@@ -58,7 +58,8 @@ pub record CatchersCollide {C : Type 0} (a b : Catcher C) : Type 0 where
 
 -- the items at two positions, the second behind the first, collide
 abbrev pub CollidesAt : {X : Type 0} → (X → X → Type 0) → List X → ℕ × ℕ → Type 0
-CollidesAt Collide items pair = (pair.0 < pair.1) × IsSomeAnd (slice_get items pair.0) (λ a. IsSomeAnd (slice_get items pair.1) (Collide a))
+CollidesAt Collide items pair =
+    (pair.0 < pair.1) × IsSomeAnd (slice_get items pair.0) (λ a. IsSomeAnd (slice_get items pair.1) (Collide a))
 
 -- one pair comes before another, by its first position and then by its second
 abbrev pub PairBefore : ℕ × ℕ → ℕ × ℕ → Type 0

@@ -21,7 +21,11 @@ route_at rank method handler uri = record {
 
 -- the route that static information describes, at its URI
 abbrev pub route_of_info : {H S : Type 0} → StaticInfo H S → MountedUri → Route H S
-route_of_info info uri = record (route_at info.rank info.method info.handler uri) { name = Some info.name.now; format = info.format; sentinels = info.sentinels }
+route_of_info info uri = record (route_at info.rank info.method info.handler uri) {
+  name = Some info.name.now;
+  format = info.format;
+  sentinels = info.sentinels;
+}
 
 -- a route below another base, which a text spells: all else is kept
 pub record IsMovedTo {H S : Type 0} (route : Route H S) (text : List ℕ) (moved : Route H S) : Type 0 where

@@ -12,7 +12,8 @@ without_front front text = if bytes_eq (take (length front) text) front then Som
 
 -- the text without this end, if it has it
 abbrev pub without_end : List ℕ → List ℕ → Option (List ℕ)
-without_end end text = if bytes_eq (drop (length text - length end) text) end then Some (take (length text - length end) text) else None
+without_end end text =
+    if bytes_eq (drop (length text - length end) text) end then Some (take (length text - length end) text) else None
 
 -- what stands in angle brackets, if the text does
 abbrev pub in_brackets : List ℕ → Option (List ℕ)
@@ -34,7 +35,8 @@ segment_of text = segment_by text (in_brackets text)
 
 -- static without a dynamic segment, wild where there are only such, and else partial
 abbrev pub color_of : List Segment → Color
-color_of segments = if list_any (λ s. s.dynamic) segments then (if list_all (λ s. s.dynamic) segments then Wild else Partial) else Static
+color_of segments =
+    if list_any (λ s. s.dynamic) segments then (if list_all (λ s. s.dynamic) segments then Wild else Partial) else Static
 
 -- what a color weighs in a rank
 abbrev pub weight : Color → ℕ

@@ -43,7 +43,8 @@ impl Base {
 
     /// The base that a text spells, in normal form and without its query.
     pub(crate) fn parse_normal(alloc: Global, text: &str) -> Result<Base, Want<InvalidUri>>
-        ensures accepted { IfOk result (λ b. (t : Target) × Spells Profile.Request text.now t × (b ≡ normalized (path_alone t))) }
+        ensures accepted { IfOk result (λ b.
+            (t : Target) × Spells Profile.Request text.now t × (b ≡ normalized (path_alone t))) }
         ensures refused { IfRefused result (λ e. LeavesAt (IsOrigin Profile.Request) text.now e.at) }
     {
         let mut origin = Origin::parse(alloc, text)?;

@@ -71,7 +71,8 @@ impl<C: Drop> Catcher<C> {
     /// A catcher at the base `/`, for a code or for every one.
     pub fn new(alloc: Global, code: Option<u16>, handler: C) -> Result<Catcher<C>, Want<BadCode>>
         ensures accepted { IfOk result (λ c. IfSome code IsErrorCode × (c ≡ catcher_at_root None code (Catching.App handler))) }
-        ensures complete { IfSome code IsErrorCode → GivesUnlessNoMemory result (catcher_at_root None code (Catching.App handler)) }
+        ensures complete { IfSome code IsErrorCode
+            → GivesUnlessNoMemory result (catcher_at_root None code (Catching.App handler)) }
         ensures refused { IfRefused result (λ e. (code ≡ Some e.code) × ¬ IsErrorCode e.code) }
     {
         if let Some(bad) = bad_code(code) {
@@ -118,9 +119,12 @@ impl<C: Drop> Catcher<C> {
     ) -> Result<Catcher<C>, Want<InvalidUri>>
         requires { FnOnceTakesAt F.FnOnce mapper self.base }
         // The base is the one that the mapper's text spells.
-        ensures accepted { IfOk result (λ c. (text : _) × FnOnceReturnsAt F.FnOnce mapper self.base (Ok text) × IsMovedTo self (string_bytes text) c) }
+        ensures accepted { IfOk result (λ c.
+            (text : _) × FnOnceReturnsAt F.FnOnce mapper self.base (Ok text) × IsMovedTo self (string_bytes text) c) }
         // A refusal names the place where the mapper's text leaves the grammar, so that a base is never refused.
-        ensures refused { IfRefused result (λ e. (text : _) × FnOnceReturnsAt F.FnOnce mapper self.base (Ok text) × LeavesAt (IsOrigin Profile.Request) (string_bytes text) e.at) }
+        ensures refused { IfRefused result (λ e. (text : _)
+            × FnOnceReturnsAt F.FnOnce mapper self.base (Ok text)
+            × LeavesAt (IsOrigin Profile.Request) (string_bytes text) e.at) }
     {
         let Ok(text) = mapper(self.base.origin()) else {
             // By calls, in which that is proved once for its type.

@@ -62,7 +62,9 @@ impl<H: Drop, S: Drop> Route<H, S> {
         ensures mounted { IfOk result (λ r. SpellsMounted (codes "/") uri.now r.uri) }
         ensures made { IfOk result (λ r. r ≡ route_at None method handler r.uri) }
         // What the text spells is accepted, unless memory runs out.
-        ensures complete { (m : MountedUri) → SpellsMounted (codes "/") uri.now m → GivesUnlessNoMemory result (route_at None method handler m) }
+        ensures complete { (m : MountedUri)
+            → SpellsMounted (codes "/") uri.now m
+            → GivesUnlessNoMemory result (route_at None method handler m) }
         // A refusal names the place where the text leaves the grammar.
         ensures refused { IfRefused result (λ e. LeavesAt (IsOrigin Profile.Route) uri.now e.at) }
     {
@@ -79,7 +81,9 @@ impl<H: Drop, S: Drop> Route<H, S> {
     ) -> Result<Route<H, S>, Want<InvalidUri>>
         ensures mounted { IfOk result (λ r. SpellsMounted (codes "/") uri.now r.uri) }
         ensures made { IfOk result (λ r. r ≡ route_at rank method handler r.uri) }
-        ensures complete { (m : MountedUri) → SpellsMounted (codes "/") uri.now m → GivesUnlessNoMemory result (route_at rank method handler m) }
+        ensures complete { (m : MountedUri)
+            → SpellsMounted (codes "/") uri.now m
+            → GivesUnlessNoMemory result (route_at rank method handler m) }
         ensures refused { IfRefused result (λ e. LeavesAt (IsOrigin Profile.Route) uri.now e.at) }
     {
         let uri = RouteUri::at_root(alloc, uri)?;
@@ -99,7 +103,9 @@ impl<H: Drop, S: Drop> Route<H, S> {
     pub fn from_info(alloc: Global, info: StaticInfo<H, S>) -> Result<Route<H, S>, Want<InvalidUri>>
         ensures mounted { IfOk result (λ r. SpellsMounted (codes "/") info.uri.now r.uri) }
         ensures made { IfOk result (λ r. r ≡ route_of_info info r.uri) }
-        ensures complete { (m : MountedUri) → SpellsMounted (codes "/") info.uri.now m → GivesUnlessNoMemory result (route_of_info info m) }
+        ensures complete { (m : MountedUri)
+            → SpellsMounted (codes "/") info.uri.now m
+            → GivesUnlessNoMemory result (route_of_info info m) }
         ensures refused { IfRefused result (λ e. LeavesAt (IsOrigin Profile.Route) info.uri.now e.at) }
     {
         let Ok(name) = Text::new(alloc, info.name) else {
@@ -134,9 +140,12 @@ impl<H: Drop, S: Drop> Route<H, S> {
     ) -> Result<Route<H, S>, Want<InvalidUri>>
         requires { FnOnceTakesAt F.FnOnce mapper self.uri.base }
         // The base is the one that the mapper's text spells.
-        ensures accepted { IfOk result (λ r. (text : _) × FnOnceReturnsAt F.FnOnce mapper self.uri.base (Ok text) × IsMovedTo self (string_bytes text) r) }
+        ensures accepted { IfOk result (λ r.
+            (text : _) × FnOnceReturnsAt F.FnOnce mapper self.uri.base (Ok text) × IsMovedTo self (string_bytes text) r) }
         // A refusal names the place where the mapper's text leaves the grammar, so that a base is never refused.
-        ensures refused { IfRefused result (λ e. (text : _) × FnOnceReturnsAt F.FnOnce mapper self.uri.base (Ok text) × LeavesAt (IsOrigin Profile.Request) (string_bytes text) e.at) }
+        ensures refused { IfRefused result (λ e. (text : _)
+            × FnOnceReturnsAt F.FnOnce mapper self.uri.base (Ok text)
+            × LeavesAt (IsOrigin Profile.Request) (string_bytes text) e.at) }
     {
         match self.uri.at_mapped(alloc, mapper) {
             Ok(uri) => {

@@ -32,7 +32,8 @@ impl Model for RouteUri {
 
     ghost view = { λ u. record { base = u.base; unmounted = u.unmounted; origin = u.origin } };
 
-    ghost invariant = { λ u. IsRead (record { base = u.base; unmounted = u.unmounted; origin = u.origin }) u.segments u.fields u.rank };
+    ghost invariant = { λ u.
+        IsRead (record { base = u.base; unmounted = u.unmounted; origin = u.origin }) u.segments u.fields u.rank };
 }
 
 /// The segments between the separators, but for empty ones.
@@ -144,7 +145,8 @@ impl RouteUri {
     ) -> Result<RouteUri, NoMemory>
         requires base_fits { IsTarget Profile.Request base }
         requires uri_fits { IsTarget Profile.Route unmounted }
-        ensures { IfOk result (λ u. u ≡ record { base = normalized base; unmounted = normalized unmounted; origin = normalized origin }) }
+        ensures { IfOk result (λ u.
+            u ≡ record { base = normalized base; unmounted = normalized unmounted; origin = normalized origin }) }
     {
         let Ok(base) = base.into_normalized(alloc) else {
             // By calls, in which that is proved once for its type.
@@ -192,8 +194,11 @@ impl RouteUri {
         mapper: F,
     ) -> Result<RouteUri, Want<InvalidUri>>
         requires { FnOnceTakesAt F.FnOnce mapper self.now.base }
-        ensures accepted { IfOk result (λ u. (text : _) × FnOnceReturnsAt F.FnOnce mapper self.now.base (Ok text) × IsRebased self.now (string_bytes text) u) }
-        ensures refused { IfRefused result (λ e. (text : _) × FnOnceReturnsAt F.FnOnce mapper self.now.base (Ok text) × LeavesAt (IsOrigin Profile.Request) (string_bytes text) e.at) }
+        ensures accepted { IfOk result (λ u.
+            (text : _) × FnOnceReturnsAt F.FnOnce mapper self.now.base (Ok text) × IsRebased self.now (string_bytes text) u) }
+        ensures refused { IfRefused result (λ e. (text : _)
+            × FnOnceReturnsAt F.FnOnce mapper self.now.base (Ok text)
+            × LeavesAt (IsOrigin Profile.Request) (string_bytes text) e.at) }
     {
         let base = mapper(self.base_origin())?;
         self.at_base(alloc, base.as_str())

@@ -39,17 +39,27 @@ GivesBack whole handed (Forward back) = whole back.0 ≡ whole handed
 -- the laws of a callback that may change what it is lent: they hold of what a call leaves, and of what stands while it is
 -- under way
 pub record Keeps {Self H C A Task : Type 0} (calling : Calling Self H (Kept C) A Task) : Type 0 where
-  pub done : (callback : Self) (handed : H) (before after : Kept C) (gates : List Gate) (answer : A) → calling.may callback handed before gates answer after → Grows before after
-  pub begun : (callback : Self) (handed : H) (task : Task) (before now : Kept C) (gates : List Gate) (n : ℕ) → calling.begun callback handed task before now gates n → Grows before now
+  pub done : (callback : Self) (handed : H) (before after : Kept C) (gates : List Gate) (answer : A)
+      → calling.may callback handed before gates answer after
+      → Grows before after
+  pub begun : (callback : Self) (handed : H) (task : Task) (before now : Kept C) (gates : List Gate) (n : ℕ)
+      → calling.begun callback handed task before now gates n
+      → Grows before now
 
 -- besides, each Forward of a handler gives the body back
-pub record KeepsHandler {Self V B C R Task : Type 0} (whole : B → Option (List ℕ)) (calling : Calling Self (Handed V B) (Kept C) (Reply R B) Task) : Type 0 where
+pub record KeepsHandler {Self V B C R Task : Type 0} (whole : B → Option (List ℕ))
+    (calling : Calling Self (Handed V B) (Kept C) (Reply R B) Task) : Type 0 where
   pub keeps : Keeps calling
-  pub forwards : (handler : Self) (handed : Handed V B) (before after : Kept C) (gates : List Gate) (reply : Reply R B) → calling.may handler handed before gates reply after → GivesBack whole handed.body reply
+  pub forwards : (handler : Self) (handed : Handed V B) (before after : Kept C) (gates : List Gate) (reply : Reply R B)
+      → calling.may handler handed before gates reply after
+      → GivesBack whole handed.body reply
 
 -- a call that is done at its first poll, by a task that holds what it needs of what it was handed: it is never Pending and
 -- answers no Fault, and nothing is changed before it is done
-abbrev pub at_once : {Self H Held A Task : Type 0} → (Self → H → Task → Type 0) → (Self → H → Held → A → Held → Type 0) → Calling Self H Held A Task
+abbrev pub at_once : {Self H Held A Task : Type 0}
+    → (Self → H → Task → Type 0)
+    → (Self → H → Held → A → Held → Type 0)
+    → Calling Self H Held A Task
 at_once Holds may = record {
   may = λ callback handed before gates answer after. may callback handed before answer after;
   begun = λ callback handed task before now gates n. Holds callback handed task × (now ≡ before) × (n ≡ 0);

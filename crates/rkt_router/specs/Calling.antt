@@ -16,7 +16,8 @@ pub record Calling (Self Handed Held Answer Task : Type 0) : Type 1 where
   -- whether a call may answer Fault
   pub may_fault : Self → Handed → Held → Type 0
 
-module _ {Self Handed Held Answer Task : Type 0} (C : Calling Self Handed Held Answer Task) (callback : Self) (handed : Handed) where
+module _ {Self Handed Held Answer Task : Type 0} (C : Calling Self Handed Held Answer Task) (callback : Self)
+    (handed : Handed) where
   -- a task that was started and not polled
   abbrev pub Starts : Task → Type 0
   Starts task = (before : Held) → C.begun callback handed task before before [] 0
@@ -27,12 +28,16 @@ module _ {Self Handed Held Answer Task : Type 0} (C : Calling Self Handed Held A
 
   -- the answer of the last of these polls, of a task that was begun so: Pending comes only below the bound
   abbrev pub AnswersPoll : Held → List Gate → ℕ → Step Answer → Task → Held → Type 0
-  AnswersPoll before gates n Pending task now = (n < C.pendings callback handed before) × C.begun callback handed task before now gates (n + 1)
+  AnswersPoll before gates n Pending task now =
+      (n < C.pendings callback handed before) × C.begun callback handed task before now gates (n + 1)
   AnswersPoll before gates n (Done answer) task now = C.may callback handed before gates answer now
-  AnswersPoll before gates n Fault task now = C.may_fault callback handed before × C.begun callback handed task before now gates n
+  AnswersPoll before gates n Fault task now =
+      C.may_fault callback handed before × C.begun callback handed task before now gates n
   AnswersPoll before gates n Starved task now = C.begun callback handed task before now gates n
 
   -- what a poll gives, whatever the task was begun from
   abbrev pub Polls : Task → Held → Gate → Step Answer → Task → Held → Type 0
   Polls old was gate step new now =
-      (before : Held) (gates : List Gate) (n : ℕ) → C.begun callback handed old before was gates n → AnswersPoll before (gates ++ gate ∷ []) n step new now
+      (before : Held) (gates : List Gate) (n : ℕ)
+      → C.begun callback handed old before was gates n
+      → AnswersPoll before (gates ++ gate ∷ []) n step new now

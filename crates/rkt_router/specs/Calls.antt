@@ -8,8 +8,8 @@ use Rattle.rkt_router.specs.declared.step.Step.{Step}
 use Rattle.rkt_router.specs.declared.step.Step.TheVariants as step
 use Rattle.rkt_router.specs.declared.turn.Final.{Final}
 use Rattle.rkt_router.specs.declared.turn.Final.TheVariants.{Done, FailedTurn, Starved}
-use Rattle.rkt_router.specs.declared.turn.Turn.{Turn}
-use Rattle.rkt_router.specs.declared.turn.Turn.TheVariants.{Pending, Over}
+use Rattle.rkt_router.specs.declared.turn.Polled.{Polled}
+use Rattle.rkt_router.specs.declared.turn.Polled.TheVariants.{Pending, Over}
 
 -- which Gates a call may be polled under
 pub record GateRule : Type 0 where
@@ -44,14 +44,15 @@ OnceOver FailedTurn P = P
 OnceOver Starved P = ⊤
 
 -- the turn that a poll makes, where a turn is left behind it or not: one that is Pending at the last turn fails it
-abbrev pub turn_of : {O : Type 0} → Bool → Step O → Turn O
+abbrev pub turn_of : {O : Type 0} → Bool → Step O → Polled O
 turn_of true step.Pending = Pending
 turn_of false step.Pending = Over FailedTurn
 turn_of left (step.Done answer) = Over (Done answer)
 turn_of left step.Fault = Over FailedTurn
 turn_of left step.Starved = Over Starved
 
-module _ {Self Handed Held Answer Task : Type 0} (C : Calling Self Handed Held Answer Task) (callback : Self) (handed : Handed) where
+module _ {Self Handed Held Answer Task : Type 0} (C : Calling Self Handed Held Answer Task) (callback : Self)
+    (handed : Handed) where
   -- a call may fail its turn, of which there are so many, and this is what it leaves
   pub record Fails (turns : ℕ) (before : Held) (gates : List Gate) (after : Held) : Type 0 where
     pub task : Task
@@ -78,7 +79,8 @@ module _ {Self Handed Held Answer Task : Type 0} (C : Calling Self Handed Held A
     pub more : n < turns
     pub bounded : n ≤ C.pendings callback handed before
 
-module _ {Self Handed Held Answer Task : Type 0} (C : Calling Self Handed Held Answer Task) (rule : GateRule) (turns : ℕ) (callback : Self) (handed : Handed) where
+module _ {Self Handed Held Answer Task : Type 0} (C : Calling Self Handed Held Answer Task) (rule : GateRule) (turns : ℕ)
+    (callback : Self) (handed : Handed) where
   -- one whole call, under Gates of the rule
   pub record Made (before : Held) (reply : Final Answer) (after : Held) : Type 0 where
     pub gates : List Gate
@@ -102,6 +104,6 @@ module _ {Self Handed Held Answer Task : Type 0} (C : Calling Self Handed Held A
     pub goes : GoesOn C callback handed turns before gates task now n
 
   -- what a call is after its n-th turn: under way, or whole, or it had no memory
-  abbrev pub Turned : Held → Turn Answer → Task → Held → ℕ → Type 0
-  Turned before Pending task now n = Making before task now n
-  Turned before (Over reply) task now n = OnceOver reply (Made before reply now)
+  abbrev pub PolledAs : Held → Polled Answer → Task → Held → ℕ → Type 0
+  PolledAs before Pending task now n = Making before task now n
+  PolledAs before (Over reply) task now n = OnceOver reply (Made before reply now)

@@ -11,9 +11,11 @@ use Rattle.rkt_router.specs.declared.dummy.Dummy.{Dummy}
 
 -- it answers an empty response and changes nothing
 abbrev pub dummy_calling : {V B C R : Type 0} → Calling Dummy (Handed V B) (Kept C) (Reply R B) (Unit {0})
-dummy_calling = at_once (λ dummy handed task. ⊤) (λ dummy handed before reply after. (reply ≡ Success empty_response) × (after ≡ before))
+dummy_calling =
+    at_once (λ dummy handed task. ⊤) (λ dummy handed before reply after. (reply ≡ Success empty_response) × (after ≡ before))
 
-pub dummy_keeps : {V B C R : Type 0} (whole : B → Option (List ℕ)) → KeepsHandler whole (dummy_calling {V = V} {B = B} {C = C} {R = R})
+pub dummy_keeps : {V B C R : Type 0} (whole : B → Option (List ℕ))
+    → KeepsHandler whole (dummy_calling {V = V} {B = B} {C = C} {R = R})
 dummy_keeps whole = record {
   keeps = at_once_keeps _ _ (λ dummy handed before after reply is. grows_same before after is.1);
   forwards = λ dummy handed before after gates reply is. rw is.0 tt;

@@ -19,12 +19,18 @@ typed code content_type body = record {
 
 -- whether the media type that these headers prefer is JSON; where they accept none, they prefer any
 abbrev pub PrefersJson : List Group → Bool → Type 0
-PrefersJson headers json = (accept : Option (List Weighed)) × (media : Media) × IsAccept headers accept × IsAccepted accept media
+PrefersJson headers json =
+    (accept : Option (List Weighed)) × (media : Media)
+    × IsAccept headers accept
+    × IsAccepted accept media
     × (json ≡ is_kind (codes "application") (codes "json") media)
 
 -- the page of a status, as JSON or as HTML
 abbrev pub page_of : {S : Type 0} → Bool → ℕ → ResponseOf S
-page_of json code = if json then typed code (codes "application/json") (json_page code) else typed code (codes "text/html; charset=utf-8") (html_page code)
+page_of json code =
+    if json
+    then typed code (codes "application/json") (json_page code)
+    else typed code (codes "text/html; charset=utf-8") (html_page code)
 
 -- the default page of a status, for this request
 abbrev pub IsDefaultPage : {S V : Type 0} → ℕ → Seen V → ResponseOf S → Type 0

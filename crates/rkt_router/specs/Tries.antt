@@ -35,7 +35,8 @@ FormatFits asked false found = IfSome found (MediaCollide asked)
 -- the format of a request is what a route asks for, if it asks
 abbrev pub FormatMatches : {V : Type 0} → Option Media → Seen V → Type 0
 FormatMatches None request = ⊤
-FormatMatches (Some asked) request = (found : Option Media) × IsFormat request found × FormatFits asked (carries_payload request.method) found
+FormatMatches (Some asked) request =
+    (found : Option Media) × IsFormat request found × FormatFits asked (carries_payload request.method) found
 
 -- A route matches a request. H is the type of handlers, S that of what sentries ask, V that of managed values.
 pub record Matches {H S V : Type 0} (route : Route H S) (request : Seen V) : Type 0 where
@@ -51,7 +52,8 @@ MatchesAt routes request position = IsSomeAnd (slice_get routes position) (λ ro
 
 -- one position is tried before another: its rank is lower, or equal and it was mounted first
 abbrev pub Before : {H S : Type 0} → List (Route H S) → ℕ → ℕ → Type 0
-Before routes p q = IsSomeAnd (slice_get routes p) (λ a. IsSomeAnd (slice_get routes q) (λ b. (a.rank <ℤ b.rank) ⊎ ((a.rank ≡ b.rank) × (p < q))))
+Before routes p q = IsSomeAnd (slice_get routes p) (λ a.
+    IsSomeAnd (slice_get routes q) (λ b. (a.rank <ℤ b.rank) ⊎ ((a.rank ≡ b.rank) × (p < q))))
 
 -- the positions of the routes that match, in the order in which they are tried
 pub record IsTries {H S V : Type 0} (routes : List (Route H S)) (request : Seen V) (tries : List ℕ) : Type 0 where
@@ -77,7 +79,8 @@ NextTries routes request after (p ∷ tries) = IsNextTry routes request after (S
 -- the same, where nothing is tried behind the last
 abbrev pub AllNextTries : {H S V : Type 0} → List (Route H S) → Seen V → Option ℕ → List ℕ → Type 0
 AllNextTries routes request after [] = IsNextTry routes request after None
-AllNextTries routes request after (p ∷ tries) = IsNextTry routes request after (Some p) × AllNextTries routes request (Some p) tries
+AllNextTries routes request after (p ∷ tries) =
+    IsNextTry routes request after (Some p) × AllNextTries routes request (Some p) tries
 
 -- two requests are tried alike: they differ in nothing that a route asks for
 pub record TriedAlike {V : Type 0} (one other : Seen V) : Type 0 where

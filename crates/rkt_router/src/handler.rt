@@ -31,9 +31,12 @@ pub trait Handler<T: HasBody> {
         request: &Request<'_, T>,
         ctx: &mut Ctx<T>,
     ) -> Step<Outcome<Response<T::Stream>, Status, (T::Body, Status)>>
-        requires begun { (body : T.Body) × CanPoll calling self.now (record { request = request.now; body = body }) task.old ctx.old.kept }
+        requires begun { (body : T.Body)
+            × CanPoll calling self.now (record { request = request.now; body = body }) task.old ctx.old.kept }
         ensures gate { ctx.new.gate ≡ ctx.old.gate }
-        ensures polls { (body : T.Body) → Polls calling self.now (record { request = request.now; body = body }) task.old ctx.old.kept ctx.old.gate result task.new ctx.new.kept };
+        ensures polls { (body : T.Body)
+            → Polls calling self.now
+            (record { request = request.now; body = body }) task.old ctx.old.kept ctx.old.gate result task.new ctx.new.kept };
 
     /// Originals and floor stay, the log and the cache grow, and a Forward gives the body back.
     ghost keeps: { KeepsHandler T.whole calling };
@@ -66,9 +69,12 @@ pub trait CatchHandler<T: Types> {
         request: &Request<'_, T>,
         ctx: &mut Ctx<T>,
     ) -> Step<Result<Response<T::Stream>, Status>>
-        requires begun { (status : Status) × CanPoll calling self.now (record { status = status; request = request.now }) task.old ctx.old.kept }
+        requires begun { (status : Status)
+            × CanPoll calling self.now (record { status = status; request = request.now }) task.old ctx.old.kept }
         ensures gate { ctx.new.gate ≡ ctx.old.gate }
-        ensures polls { (status : Status) → Polls calling self.now (record { status = status; request = request.now }) task.old ctx.old.kept ctx.old.gate result task.new ctx.new.kept };
+        ensures polls { (status : Status)
+            → Polls calling self.now (record { status = status; request = request.now }) task.old ctx.old.kept ctx.old.gate
+            result task.new ctx.new.kept };
 
     /// Originals and floor stay, and the log and the cache grow.
     ghost keeps: { Keeps calling };

@@ -25,4 +25,4 @@ pub use rkt_route::{
 pub use router::Router;
 pub use step::Step;
 pub use tries::{Tries, next_tries_are_tries, tries_are_alike, tries_are_one_list};
-pub use turn::{Final, Turn, turn_catch, turn_handler};
+pub use turn::{Final, Polled, turn_catch, turn_handler};

@@ -20,7 +20,9 @@ fn ends_trailing(segments: &[Segment]) -> bool
 
 /// Whether a path has as many names as a route needs.
 fn lengths_match(segments: &[Segment], names: &Segments<'_>) -> bool
-    ensures { IsTrue result ↔ ((length names.now ≡ length segments.now) ⊎ (EndsTrailing segments.now × (length segments.now ≤ length names.now + 1))) }
+    ensures { IsTrue result
+        ↔ ((length names.now ≡ length segments.now)
+        ⊎ (EndsTrailing segments.now × (length segments.now ≤ length names.now + 1))) }
 {
     let (needed, found) = (segments.len(), names.len());
     found == needed || (ends_trailing(segments) && needed.saturating_sub(1) <= found)
@@ -109,7 +111,9 @@ fn format_matches<T: Types>(format: Option<&MediaType>, request: &Request<'_, T>
 
 /// Whether a request's path and query are what a route asks for.
 fn uri_matches<T: Types>(uri: &RouteUri, request: &Request<'_, T>) -> bool
-    ensures { IsTrue result ↔ (PathMatches (path_segments uri.now.origin) (segments_of request.now.uri) × All (IsAmong (fields_of request.now.uri)) (static_fields uri.now.origin)) }
+    ensures { IsTrue result
+        ↔ (PathMatches (path_segments uri.now.origin) (segments_of request.now.uri)
+        × All (IsAmong (fields_of request.now.uri)) (static_fields uri.now.origin)) }
 {
     path_matches(uri.segments(), &request.uri().segments()) && query_matches(uri.fields(), request)
 }

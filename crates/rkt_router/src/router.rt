@@ -113,7 +113,8 @@ impl<H, C, S> Router<H, C, S> {
     /// Refuses routes or catchers that collide, with all pairs of them.
     pub fn finalize(&self, alloc: Global) -> Result<(), Want<Collisions>>
         // It is refused exactly where some collide.
-        ensures ok { OnOk result (AreCollisions RoutesCollide self.now.routes [] × AreCollisions CatchersCollide self.now.catchers []) }
+        ensures ok { OnOk result (AreCollisions RoutesCollide self.now.routes []
+            × AreCollisions CatchersCollide self.now.catchers []) }
         ensures some { IfRefused result (λ found. ¬ ((found.routes ≡ []) × (found.catchers ≡ []))) }
         ensures routes { IfRefused result (λ found. AreCollisions RoutesCollide self.now.routes found.routes) }
         ensures catchers { IfRefused result (λ found. AreCollisions CatchersCollide self.now.catchers found.catchers) }

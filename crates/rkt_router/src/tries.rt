@@ -32,7 +32,8 @@ impl<'a, H, S, T: Types> Tries<'a, H, S, T> {
         order: &'a [usize],
         request: &'a Request<'a, T>,
     ) -> Tries<'a, H, S, T>
-        ensures { result ≡ record { routes = routes.entry.now; order = order.entry.now; request = request.entry.now; place = 0 } }
+        ensures { result
+            ≡ record { routes = routes.entry.now; order = order.entry.now; request = request.entry.now; place = 0 } }
     {
         Tries {
             routes,
@@ -69,11 +70,22 @@ pub fn tries_are_one_list<H, S, T: Types>(routes: &[Route<H, S>], request: &Requ
 /// is a front of them.
 pub fn next_tries_are_tries<H, S, T: Types>(routes: &[Route<H, S>], request: &Request<'_, T>)
     ensures all { (tries : List ℕ) → AllNextTries routes.now request.now None tries ↔ IsTries routes.now request.now tries }
-    ensures front { (front tries : List ℕ) → NextTries routes.now request.now None front → IsTries routes.now request.now tries → IsFrontOf front tries }
+    ensures front { (front tries : List ℕ)
+        → NextTries routes.now request.now None front
+        → IsTries routes.now request.now tries
+        → IsFrontOf front tries }
 {}
 
 /// A law of tries: requests that differ in nothing that a route asks for are tried alike.
 pub fn tries_are_alike<H, S, T: Types>(routes: &[Route<H, S>])
-    ensures next { (one other : Seen T.Value) → TriedAlike one other → (after found : Option ℕ) → IsNextTry routes.now one after found → IsNextTry routes.now other after found }
-    ensures tries { (one other : Seen T.Value) → TriedAlike one other → (tries : List ℕ) → IsTries routes.now one tries → IsTries routes.now other tries }
+    ensures next { (one other : Seen T.Value)
+        → TriedAlike one other
+        → (after found : Option ℕ)
+        → IsNextTry routes.now one after found
+        → IsNextTry routes.now other after found }
+    ensures tries { (one other : Seen T.Value)
+        → TriedAlike one other
+        → (tries : List ℕ)
+        → IsTries routes.now one tries
+        → IsTries routes.now other tries }
 {}

@@ -1,11 +1,11 @@
 //! One call of a callback, turn by turn.
 ghost use Rattle.std.specs.Prelude.{◌≡◌, ◌<◌, ◌+◌};
 ghost use Rattle.rkt_http.specs.declared.status.Status.{Status};
-ghost use Rattle.rkt_cancel.specs.Cancel.{Cancellable};
+ghost use Rattle.rkt_source.specs.Cancel.{Cancellable};
 ghost use Rattle.rkt_data.specs.Body.{Body};
 ghost use Rattle.rkt_request.specs.Lent.{Kept, Grows};
 ghost use Rattle.rkt_router.specs.Calling.{Polls};
-ghost use Rattle.rkt_router.specs.Calls.{GateRule, GateFits, Making, Turned, turn_of};
+ghost use Rattle.rkt_router.specs.Calls.{GateRule, GateFits, Making, PolledAs, turn_of};
 
 use crate::{CatchHandler, Handler, RouteOutcome, Step};
 use rkt_http::Status;
@@ -25,22 +25,22 @@ pub enum Final<O> {
 
 /// What one more turn makes of a call.
 #[derive(Debug, Drop)]
-pub enum Turn<O> {
+pub enum Polled<O> {
     /// It is under way.
     Pending,
     Over(Final<O>),
 }
 
-impl<O: Drop> Turn<O> {
+impl<O: Drop> Polled<O> {
     /// The turn that a poll makes. A call that is Pending fails its turn where no turn is left behind this one.
-    pub fn of(step: Step<O>, left: bool) -> Turn<O>
+    pub fn of(step: Step<O>, left: bool) -> Polled<O>
         ensures { result ≡ turn_of left step }
     {
         match step {
-            Step::Pending if left => Turn::Pending,
-            Step::Done(answer) => Turn::Over(Final::Done(answer)),
-            Step::Starved => Turn::Over(Final::Starved),
-            _ => Turn::Over(Final::FailedTurn),
+            Step::Pending if left => Polled::Pending,
+            Step::Done(answer) => Polled::Over(Final::Done(answer)),
+            Step::Starved => Polled::Over(Final::Starved),
+            _ => Polled::Over(Final::FailedTurn),
         }
     }
 }
@@ -54,22 +54,30 @@ pub fn turn_handler<T: Types, H: Handler<T>>(
     task: &mut H::Task,
     request: &Request<'_, T>,
     ctx: &mut Ctx<T>,
-) -> Turn<RouteOutcome<T>>
+) -> Polled<RouteOutcome<T>>
     requires underway { (rule : GateRule) × (body : Body (Cancellable T.Source)) × (before : Kept T.Cached)
-        × Making H.calling rule turns handler.now (record { request = request.now; body = body }) before task.old ctx.old.kept turn }
+        × Making H.calling rule turns handler.now
+        (record { request = request.now; body = body }) before task.old ctx.old.kept turn }
     ensures gate { ctx.new.gate ≡ ctx.old.gate }
-    ensures gives { (rule : GateRule) (body : Body (Cancellable T.Source)) (before : Kept T.Cached) → GateFits rule ctx.old.gate
-        → Making H.calling rule turns handler.now (record { request = request.now; body = body }) before task.old ctx.old.kept turn
-        → Turned H.calling rule turns handler.now (record { request = request.now; body = body }) before result task.new ctx.new.kept (turn + 1) }
+    ensures gives { (rule : GateRule) (body : Body (Cancellable T.Source)) (before : Kept T.Cached)
+        → GateFits rule ctx.old.gate
+        → Making H.calling rule turns handler.now
+        (record { request = request.now; body = body }) before task.old ctx.old.kept turn
+        → PolledAs H.calling rule turns handler.now
+        (record { request = request.now; body = body }) before result task.new ctx.new.kept (turn + 1) }
     ensures grows { (rule : GateRule) (body : Body (Cancellable T.Source)) (before : Kept T.Cached)
-        → Making H.calling rule turns handler.now (record { request = request.now; body = body }) before task.old ctx.old.kept turn → Grows before ctx.new.kept }
+        → Making H.calling rule turns handler.now
+        (record { request = request.now; body = body }) before task.old ctx.old.kept turn
+        → Grows before ctx.new.kept }
     // It goes on only where its poll was Pending, and a turn is left.
-    ensures left { result ≡ Turn.Pending → turn + 1 < turns }
-    ensures pending { result ≡ Turn.Pending → (body : Body (Cancellable T.Source))
-        → Polls H.calling handler.now (record { request = request.now; body = body }) task.old ctx.old.kept ctx.old.gate Step.Pending task.new ctx.new.kept }
+    ensures left { result ≡ Polled.Pending → turn + 1 < turns }
+    ensures pending { result ≡ Polled.Pending
+        → (body : Body (Cancellable T.Source))
+        → Polls H.calling handler.now
+        (record { request = request.now; body = body }) task.old ctx.old.kept ctx.old.gate Step.Pending task.new ctx.new.kept }
 {
     let step = handler.poll(alloc, task, request, ctx);
-    Turn::of(step, turn + 1 < turns)
+    Polled::of(step, turn + 1 < turns)
 }
 
 /// One more turn of a catcher's call, which was Pending so many turns of those that it has.
@@ -81,20 +89,28 @@ pub fn turn_catch<T: Types, C: CatchHandler<T>>(
     task: &mut C::Task,
     request: &Request<'_, T>,
     ctx: &mut Ctx<T>,
-) -> Turn<Result<Response<T::Stream>, Status>>
+) -> Polled<Result<Response<T::Stream>, Status>>
     requires underway { (rule : GateRule) × (status : Status) × (before : Kept T.Cached)
-        × Making C.calling rule turns catcher.now (record { status = status; request = request.now }) before task.old ctx.old.kept turn }
+        × Making C.calling rule turns catcher.now
+        (record { status = status; request = request.now }) before task.old ctx.old.kept turn }
     ensures gate { ctx.new.gate ≡ ctx.old.gate }
-    ensures gives { (rule : GateRule) (status : Status) (before : Kept T.Cached) → GateFits rule ctx.old.gate
-        → Making C.calling rule turns catcher.now (record { status = status; request = request.now }) before task.old ctx.old.kept turn
-        → Turned C.calling rule turns catcher.now (record { status = status; request = request.now }) before result task.new ctx.new.kept (turn + 1) }
+    ensures gives { (rule : GateRule) (status : Status) (before : Kept T.Cached)
+        → GateFits rule ctx.old.gate
+        → Making C.calling rule turns catcher.now
+        (record { status = status; request = request.now }) before task.old ctx.old.kept turn
+        → PolledAs C.calling rule turns catcher.now
+        (record { status = status; request = request.now }) before result task.new ctx.new.kept (turn + 1) }
     ensures grows { (rule : GateRule) (status : Status) (before : Kept T.Cached)
-        → Making C.calling rule turns catcher.now (record { status = status; request = request.now }) before task.old ctx.old.kept turn → Grows before ctx.new.kept }
+        → Making C.calling rule turns catcher.now
+        (record { status = status; request = request.now }) before task.old ctx.old.kept turn
+        → Grows before ctx.new.kept }
     // It goes on only where its poll was Pending, and a turn is left.
-    ensures left { result ≡ Turn.Pending → turn + 1 < turns }
-    ensures pending { result ≡ Turn.Pending → (status : Status)
-        → Polls C.calling catcher.now (record { status = status; request = request.now }) task.old ctx.old.kept ctx.old.gate Step.Pending task.new ctx.new.kept }
+    ensures left { result ≡ Polled.Pending → turn + 1 < turns }
+    ensures pending { result ≡ Polled.Pending
+        → (status : Status)
+        → Polls C.calling catcher.now (record { status = status; request = request.now }) task.old ctx.old.kept ctx.old.gate
+        Step.Pending task.new ctx.new.kept }
 {
     let step = catcher.poll(alloc, task, request, ctx);
-    Turn::of(step, turn + 1 < turns)
+    Polled::of(step, turn + 1 < turns)
 }

@@ -14,8 +14,8 @@ use Rattle.rkt_router.proofs.Alike.{next_alike}
 use Rattle.rkt_router.proofs.NextTries.{nexts_are_front, nexts_are_tries}
 use Rattle.rkt_router.proofs.OneList.{one_tries}
 use Rattle.rkt_routing.specs.Relations.{Relations}
-use Rattle.rkt_routing.specs.Routed.{Finds, Goes, RouteCall, Walks, mounted}
-use Rattle.rkt_routing.specs.Stands.{Follows}
+use Rattle.rkt_routing.specs.Routed.{Finds, Goes, RouteCall, TriesRoutes, mounted}
+use Rattle.rkt_routing.specs.Invariant.{Follows}
 use Rattle.rkt_routing.specs.Table.{SeenTable}
 use Rattle.rkt_routing.specs.WalkOrder.{AreCallsOf, AreWalksInOrder, IsForward, WalksInOrder}
 use Rattle.rkt_routing.specs.declared.run.Call.{Call}
@@ -105,10 +105,10 @@ module _ {V B C S H HTask K KTask N : Type 0} (rel : Relations V B C S H HTask K
   -- one call of a walk
   walks_one : (behind : Option ℕ) (at : RequestAt V B C) (status : Status) (call : Call) (calls : List Call) (next : Option ℕ) → TriedAlike at.request first
       → IsNextTry table.router.routes at.request behind next
-      → ((behind : Option ℕ) (at : RequestAt V B C) (status : Status) → TriedAlike at.request first → Walks rel table behind at status calls then_ → WalksOn behind calls)
+      → ((behind : Option ℕ) (at : RequestAt V B C) (status : Status) → TriedAlike at.request first → TriesRoutes rel table behind at status calls then_ → WalksOn behind calls)
       → MatchOption next (then_ (Forward (at.body, status)) at.request at.kept (call ∷ calls)) (λ position.
       (reply : Final (Reply S B)) × (after : Kept C) × (call_is : RouteCall rel table position at call reply after)
-      × Goes reply (λ body status'. Walks rel table (Some position) (record { request = mounted at.request call_is.route position; body = body; kept = after }) status' calls then_)
+      × Goes reply (λ body status'. TriesRoutes rel table (Some position) (record { request = mounted at.request call_is.route position; body = body; kept = after }) status' calls then_)
       (λ outcome. then_ outcome (mounted at.request call_is.route position) after calls))
       → WalksOn behind (call ∷ calls)
   walks_one behind at status call calls None alike next more is = ends behind at status (call ∷ calls) (next_alike table.router.routes at.request first alike behind None next) is
@@ -116,7 +116,7 @@ module _ {V B C S H HTask K KTask N : Type 0} (rel : Relations V B C S H HTask K
       replied behind position call calls is.0 (mounted at.request is.2.route position) is.1 (next_alike table.router.routes at.request first alike behind (Some position) next) (ap (λ (c : Call). c.which) is.2.kept_as) _
       (λ body status'. more (Some position) (record { request = mounted at.request is.2.route position; body = body; kept = is.1 }) status' (alike_mounted at.request is.2.route position alike)) is.3
 
-  walks_on : (behind : Option ℕ) (at : RequestAt V B C) (status : Status) (calls : List Call) → TriedAlike at.request first → Walks rel table behind at status calls then_ → WalksOn behind calls
+  walks_on : (behind : Option ℕ) (at : RequestAt V B C) (status : Status) (calls : List Call) → TriedAlike at.request first → TriesRoutes rel table behind at status calls then_ → WalksOn behind calls
   walks_on behind at status [] alike walks = ends behind at status [] (next_alike table.router.routes at.request first alike behind None walks.0) walks.1
   walks_on behind at status (call ∷ calls) alike walks =
       walks_one behind at status call calls walks.0 alike walks.1 (λ behind' at' status' alike' walks'. walks_on behind' at' status' calls alike' walks') walks.2
@@ -139,7 +139,7 @@ module _ {V B C S H HTask K KTask N : Type 0} (rel : Relations V B C S H HTask K
 module _ {V B C S H HTask K KTask N : Type 0} (rel : Relations V B C S H HTask K KTask) (table : SeenTable H K N) where
   -- whatever follows a walk
   pub in_order : (at : RequestAt V B C) (status : Status) (calls : List Call) (then_ : Reply S B → Seen V → Kept C → List Call → Type 0) (tries : List ℕ) → IsTries table.router.routes at.request tries
-      → Walks rel table None at status calls then_ → WalksInOrder tries calls then_
+      → TriesRoutes rel table None at status calls then_ → WalksInOrder tries calls then_
   in_order at status calls then_ tries is walks = in_order_of rel table then_ at.request tries is calls (walks_on rel table then_ at.request None at status calls (record { method = refl; uri = refl; headers = refl }) walks)
 
   pub all_in_order : AreWalksInOrder rel table

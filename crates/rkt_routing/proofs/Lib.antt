@@ -1,5 +1,5 @@
 pub mod Endings
 pub mod InOrder
+pub mod InvokesCatcher
 pub mod Routes
 pub mod Statuses
-pub mod Steps

@@ -12,31 +12,31 @@ use Rattle.rkt_route.specs.declared.route.Route.{Route}
 use Rattle.rkt_router.specs.Callbacks.{Reply}
 use Rattle.rkt_router.specs.Calling.{Polls, Starts}
 use Rattle.rkt_router.specs.CallLaws.{making_begins}
-use Rattle.rkt_router.specs.Calls.{GateFits, Made, Making, OnceOver, Turned}
+use Rattle.rkt_router.specs.Calls.{GateFits, Made, Making, OnceOver, PolledAs}
 use Rattle.rkt_router.specs.Tries.{IsNextTry}
 use Rattle.rkt_router.specs.declared.step.Step.TheVariants as step
 use Rattle.rkt_router.specs.declared.turn.Final.{Final}
 use Rattle.rkt_router.specs.declared.turn.Final.TheVariants as final
-use Rattle.rkt_router.specs.declared.turn.Turn.{Turn}
-use Rattle.rkt_router.specs.declared.turn.Turn.TheVariants as turn
+use Rattle.rkt_router.specs.declared.turn.Polled.{Polled}
+use Rattle.rkt_router.specs.declared.turn.Polled.TheVariants as turn
 use Rattle.rkt_routing.specs.Beginning.{Beginning}
 use Rattle.rkt_routing.specs.Found.{Found}
-use Rattle.rkt_routing.specs.Routed.{Finds, Walks, Goes, mounted, is_retried, turns_of}
+use Rattle.rkt_routing.specs.Routed.{Finds, TriesRoutes, Goes, mounted, is_retried, turns_of}
 use Rattle.rkt_routing.specs.Recorded.{recorded, handler_answer}
 use Rattle.rkt_routing.specs.Relations.{Relations}
-use Rattle.rkt_routing.specs.Stands.{Answered, Follows, Forwards, Replied, RouteTurned, StandsAt, Tried, Trying, WaitsAt}
+use Rattle.rkt_routing.specs.Invariant.{Answered, Follows, Forwards, Replied, RouteTurned, InvariantAt, Tried, Trying, WaitsAt}
 use Rattle.rkt_routing.specs.declared.run.Call.{Call}
 use Rattle.rkt_routing.specs.declared.run.Which.TheVariants as which
 use Rattle.rkt_routing.specs.declared.stage.Live.{Live}
 use Rattle.rkt_routing.specs.declared.stage.Stage.TheVariants as stage
 use Rattle.rkt_routing.specs.Table.{SeenTable}
 use Rattle.rkt_routing.specs.MakingLaws.{pends, some_turns}
-use Rattle.rkt_routing.proofs.Steps.{between_call, between_on, follows_again, follows_error, follows_forward, follows_success, walks_none}
+use Rattle.rkt_routing.proofs.InvokesCatcher.{between_call, between_on, follows_again, follows_error, follows_forward, follows_success, walks_none}
 
 module _ {V B C S H HTask K KTask N : Type 0} (rel : Relations V B C S H HTask K KTask) (first : Beginning V B C) (table : SeenTable H K N) where
   -- no route is left
   pub next_none : (live : Live (Seen V) (Lent C)) (behind : Option ℕ) (body : B) (status : Status) (again : Bool) → IsNextTry table.router.routes live.request behind None
-      → StandsAt rel first table live (stage.Next behind body status again) → Forwards rel first table live body status again
+      → InvariantAt rel first table live (stage.Next behind body status again) → Forwards rel first table live body status again
   next_none live behind body status again none stands =
       between_on rel first table live.ctx.kept live.ctx.kept live.calls _ _ refl (λ rest found done. walks_none rel table behind (record { request = live.request; body = body; kept = live.ctx.kept }) status rest _ none done) stands
 
@@ -45,7 +45,7 @@ module _ {V B C S H HTask K KTask N : Type 0} (rel : Relations V B C S H HTask K
       → live'.ctx ≡ live.ctx → live'.calls ≡ live.calls → live'.request ≡ mounted live.request route position
       → IsNextTry table.router.routes live.request behind (Some position) → slice_get table.router.routes position ≡ Some route
       → Starts rel.handlers route.handler (record { request = live'.request; body = body }) task
-      → StandsAt rel first table live (stage.Next behind body status again) → StandsAt rel first table live' (stage.Trying (record { position = position; task = task; turn = 0; again = again }))
+      → InvariantAt rel first table live (stage.Next behind body status again) → InvariantAt rel first table live' (stage.Trying (record { position = position; task = task; turn = 0; again = again }))
   next_some live live' behind body status again position route task ctx_is calls_is mounted_is next found starts stands = record {
     before = record { request = live.request; body = body; kept = live.ctx.kept };
     status = status;
@@ -61,13 +61,13 @@ module _ {V B C S H HTask K KTask N : Type 0} (rel : Relations V B C S H HTask K
   -- a request is walked once more, or answered by a catcher
   pub walked_again : (live : Live (Seen V) (Lent C)) (body : B) (status : Status) (again : Bool) → is_retried live.request.method again ≡ true
       → Forwards rel first table live body status again
-      → StandsAt rel first table (record live { request = record live.request { method = Get } }) (stage.Next None body (record { code = 404 }) true)
+      → InvariantAt rel first table (record live { request = record live.request { method = Get } }) (stage.Next None body (record { code = 404 }) true)
   walked_again live body status again is forwards =
       between_on rel first table live.ctx.kept live.ctx.kept live.calls _ _ refl
       (λ rest found done. follows_again rel table again (Finds found) body status live.request live.ctx.kept rest is done) forwards
 
   pub caught_forward : (live : Live (Seen V) (Lent C)) (body : B) (status : Status) (again : Bool) → is_retried live.request.method again ≡ false
-      → Forwards rel first table live body status again → StandsAt rel first table live (stage.Catch status)
+      → Forwards rel first table live body status again → InvariantAt rel first table live (stage.Catch status)
   caught_forward live body status again last forwards =
       between_on rel first table live.ctx.kept live.ctx.kept live.calls _ _ refl
       (λ rest found done. follows_forward rel table again (Finds found) body status live.request live.ctx.kept rest last done) forwards
@@ -129,12 +129,12 @@ module _ {V B C S H HTask K KTask N : Type 0} (rel : Relations V B C S H HTask K
       (subst (λ r. Making rel.handlers rel.gates (turns_of table) r.handler (record { request = live.request; body = was.before.body }) was.before.kept task live.ctx.kept n) (sym same) was.making)
 
   -- a turn of its call was made, of which there are so many
-  pub trying_turned : (live : Live (Seen V) (Lent C)) (ctx : Lent C) (position : ℕ) (task task' : HTask) (n : ℕ) (again : Bool) (route : Route H N) (turns : ℕ) (made : Turn (Reply S B))
+  pub trying_turned : (live : Live (Seen V) (Lent C)) (ctx : Lent C) (position : ℕ) (task task' : HTask) (n : ℕ) (again : Bool) (route : Route H N) (turns : ℕ) (made : Polled (Reply S B))
       → turns ≡ turns_of table → slice_get table.router.routes position ≡ Some route → ctx.gate ≡ live.ctx.gate → GateFits rel.gates live.ctx.gate → (made ≡ turn.Pending → n + 1 < turns)
       → (made ≡ turn.Pending → (body : B) → Polls rel.handlers route.handler (record { request = live.request; body = body }) task live.ctx.kept live.ctx.gate step.Pending task' ctx.kept)
       → ((body : B) (before : Kept C) → Making rel.handlers rel.gates turns route.handler (record { request = live.request; body = body }) before task live.ctx.kept n → Grows before ctx.kept)
       → ((body : B) (before : Kept C) → Making rel.handlers rel.gates turns route.handler (record { request = live.request; body = body }) before task live.ctx.kept n
-      → Turned rel.handlers rel.gates turns route.handler (record { request = live.request; body = body }) before made task' ctx.kept (n + 1))
+      → PolledAs rel.handlers rel.gates turns route.handler (record { request = live.request; body = body }) before made task' ctx.kept (n + 1))
       → Trying rel first table live position task n again
       → RouteTurned rel first table (record live { ctx = ctx }) (record { position = position; task = task'; turn = n + 1; again = again }) made
   trying_turned live ctx position task task' n again route turns turn.Pending turns_is found gate_is fits left pending grows gives was =
@@ -164,9 +164,9 @@ module _ {V B C S H HTask K KTask N : Type 0} (rel : Relations V B C S H HTask K
       rw (request_is, ctx_is) (between_call rel first table tried.before.kept live.ctx.kept live.calls live'.calls call _ _ tried.grows.shutdown (ap (λ c. c.word) call_is) calls_is more tried.between)
     where
       more : (rest : List Call) (found : Found V C S)
-          → Goes reply (λ body status. Walks rel table (Some position) (record { request = live.request; body = body; kept = live.ctx.kept }) status rest (Follows rel table again (Finds found)))
+          → Goes reply (λ body status. TriesRoutes rel table (Some position) (record { request = live.request; body = body; kept = live.ctx.kept }) status rest (Follows rel table again (Finds found)))
           (λ outcome. Follows rel table again (Finds found) outcome live.request live.ctx.kept rest)
-          → Walks rel table tried.behind tried.before tried.status (call ∷ rest) (Follows rel table again (Finds found))
+          → TriesRoutes rel table tried.behind tried.before tried.status (call ∷ rest) (Follows rel table again (Finds found))
       more rest found goes = (
         Some position,
         tried.next,
@@ -180,7 +180,7 @@ module _ {V B C S H HTask K KTask N : Type 0} (rel : Relations V B C S H HTask K
                 (goes_once reply _ _ goes tried.made);
             kept_as = call_is;
           },
-          subst (λ q. Goes reply (λ body status. Walks rel table (Some position) (record { request = q; body = body; kept = live.ctx.kept }) status rest (Follows rel table again (Finds found)))
+          subst (λ q. Goes reply (λ body status. TriesRoutes rel table (Some position) (record { request = q; body = body; kept = live.ctx.kept }) status rest (Follows rel table again (Finds found)))
               (λ outcome. Follows rel table again (Finds found) outcome q live.ctx.kept rest)) tried.mounted_is goes,
         ),
       )
@@ -193,17 +193,17 @@ module _ {V B C S H HTask K KTask N : Type 0} (rel : Relations V B C S H HTask K
       (subst (Replied rel first table live position again) is replied)
 
   pub replied_error : (live : Live (Seen V) (Lent C)) (position : ℕ) (again : Bool) (reply : Final (Reply S B)) (status : Status) → reply ≡ final.Done (Error status)
-      → Replied rel first table live position again reply → StandsAt rel first table live (stage.Catch status)
+      → Replied rel first table live position again reply → InvariantAt rel first table live (stage.Catch status)
   replied_error live position again reply status is replied =
       between_on rel first table live.ctx.kept live.ctx.kept live.calls _ _ refl (λ rest found done. follows_error rel table again (Finds found) status live.request live.ctx.kept rest done)
       (subst (Replied rel first table live position again) is replied)
 
   pub replied_failed : (live : Live (Seen V) (Lent C)) (position : ℕ) (again : Bool) (reply : Final (Reply S B)) → reply ≡ final.FailedTurn
-      → Replied rel first table live position again reply → StandsAt rel first table live (stage.Catch (record { code = 500 }))
+      → Replied rel first table live position again reply → InvariantAt rel first table live (stage.Catch (record { code = 500 }))
   replied_failed live position again reply is replied =
       between_on rel first table live.ctx.kept live.ctx.kept live.calls _ _ refl (λ rest found done. follows_error rel table again (Finds found) (record { code = 500 }) live.request live.ctx.kept rest done)
       (subst (Replied rel first table live position again) is replied)
 
   pub replied_forward : (live : Live (Seen V) (Lent C)) (position : ℕ) (again : Bool) (reply : Final (Reply S B)) (body : B) (status : Status) → reply ≡ final.Done (Forward (body, status))
-      → Replied rel first table live position again reply → StandsAt rel first table live (stage.Next (Some position) body status again)
+      → Replied rel first table live position again reply → InvariantAt rel first table live (stage.Next (Some position) body status again)
   replied_forward live position again reply body status is replied = subst (Replied rel first table live position again) is replied

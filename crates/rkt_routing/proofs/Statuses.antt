@@ -10,45 +10,45 @@ use Rattle.rkt_route.specs.declared.catcher.Catcher.{Catcher}
 use Rattle.rkt_route.specs.declared.catcher.Catching.TheVariants.{Rocket, App}
 use Rattle.rkt_router.specs.Calling.{Polls, Starts}
 use Rattle.rkt_router.specs.CallLaws.{making_begins}
-use Rattle.rkt_router.specs.Calls.{GateFits, Made, Making, OnceOver, Turned}
+use Rattle.rkt_router.specs.Calls.{GateFits, Made, Making, OnceOver, PolledAs}
 use Rattle.rkt_router.specs.Catchers.{IsChosen}
 use Rattle.rkt_router.specs.Page.{IsDefaultPage}
 use Rattle.rkt_router.specs.declared.step.Step.TheVariants as step
 use Rattle.rkt_router.specs.declared.turn.Final.{Final}
 use Rattle.rkt_router.specs.declared.turn.Final.TheVariants as final
-use Rattle.rkt_router.specs.declared.turn.Turn.{Turn}
-use Rattle.rkt_router.specs.declared.turn.Turn.TheVariants as turn
+use Rattle.rkt_router.specs.declared.turn.Polled.{Polled}
+use Rattle.rkt_router.specs.declared.turn.Polled.TheVariants as turn
 use Rattle.rkt_routing.specs.Beginning.{Beginning}
-use Rattle.rkt_dressing.specs.Dressing.{settled}
+use Rattle.rkt_dispatch.specs.Finalizing.{settled}
 use Rattle.rkt_routing.specs.Routed.{Catches, CatcherReplies, turns_of}
 use Rattle.rkt_routing.specs.Recorded.{recorded, catcher_answer}
 use Rattle.rkt_routing.specs.Relations.{Relations}
-use Rattle.rkt_routing.specs.Stands.{Answered, Called, CatcherTurned, Catching, Caught, Chosen, Pages, StandsAt, WaitsAt}
+use Rattle.rkt_routing.specs.Invariant.{Answered, Called, CatcherTurned, Catching, Caught, Chosen, Pages, InvariantAt, WaitsAt}
 use Rattle.rkt_routing.specs.declared.run.Call.{Call}
 use Rattle.rkt_routing.specs.declared.run.Which.TheVariants as which
 use Rattle.rkt_routing.specs.declared.stage.Live.{Live}
 use Rattle.rkt_routing.specs.declared.stage.Stage.TheVariants as stage
 use Rattle.rkt_routing.specs.Table.{SeenTable}
 use Rattle.rkt_routing.specs.MakingLaws.{pends, some_turns}
-use Rattle.rkt_routing.proofs.Steps.{between_call, between_on}
+use Rattle.rkt_routing.proofs.InvokesCatcher.{between_call, between_on}
 
 module _ {V B C S H HTask K KTask N : Type 0} (rel : Relations V B C S H HTask K KTask) (first : Beginning V B C) (table : SeenTable H K N) where
   -- no catcher is chosen
   pub catch_none : (live : Live (Seen V) (Lent C)) (ctx : Lent C) (status : Status) → ctx.kept ≡ settled live.ctx.kept → IsChosen table.router.catchers status.code live.request None
-      → StandsAt rel first table live (stage.Catch status) → Pages rel first table (record live { ctx = ctx }) status.code
+      → InvariantAt rel first table live (stage.Catch status) → Pages rel first table (record live { ctx = ctx }) status.code
   catch_none live ctx status kept_is none stands =
       rw kept_is (between_on rel first table live.ctx.kept (settled live.ctx.kept) live.calls _ _ refl (λ rest found done. (None, none, done)) stands)
 
   -- one is chosen
   pub catch_some : (live : Live (Seen V) (Lent C)) (ctx : Lent C) (status : Status) (position : ℕ) → ctx.kept ≡ settled live.ctx.kept → IsChosen table.router.catchers status.code live.request (Some position)
-      → StandsAt rel first table live (stage.Catch status) → Chosen rel first table (record live { ctx = ctx }) ctx.kept status (Some position)
+      → InvariantAt rel first table live (stage.Catch status) → Chosen rel first table (record live { ctx = ctx }) ctx.kept status (Some position)
   catch_some live ctx status position kept_is chosen stands =
       rw kept_is (between_on rel first table live.ctx.kept (settled live.ctx.kept) live.calls _ _ refl (λ rest found done. (Some position, chosen, done)) stands)
 
   -- and its call begins
   pub catching_begins : (live : Live (Seen V) (Lent C)) (status : Status) (position : ℕ) (catcher : Catcher K) (handler : K) (task : KTask)
       → slice_get table.router.catchers position ≡ Some catcher → catcher.handler ≡ App handler → Starts rel.catchers handler (record { status = status; request = live.request }) task
-      → Chosen rel first table live live.ctx.kept status (Some position) → StandsAt rel first table live (stage.Catching (record { status = status; position = position; task = task; turn = 0 }))
+      → Chosen rel first table live live.ctx.kept status (Some position) → InvariantAt rel first table live (stage.Catching (record { status = status; position = position; task = task; turn = 0 }))
   catching_begins live status position catcher handler task found handles starts chosen = record {
     before = live.ctx.kept;
     catcher = catcher;
@@ -129,13 +129,13 @@ module _ {V B C S H HTask K KTask N : Type 0} (rel : Relations V B C S H HTask K
       (subst (λ h. Making rel.catchers rel.gates (turns_of table) h (record { status = status; request = live.request }) was.before task live.ctx.kept n) (sym same) was.making)
 
   -- a turn of its call was made, of which there are so many
-  pub catching_turned : (live : Live (Seen V) (Lent C)) (ctx : Lent C) (status : Status) (position : ℕ) (task task' : KTask) (n : ℕ) (catcher : Catcher K) (handler : K) (turns : ℕ) (made : Turn (Result (ResponseOf S) Status))
+  pub catching_turned : (live : Live (Seen V) (Lent C)) (ctx : Lent C) (status : Status) (position : ℕ) (task task' : KTask) (n : ℕ) (catcher : Catcher K) (handler : K) (turns : ℕ) (made : Polled (Result (ResponseOf S) Status))
       → turns ≡ turns_of table → slice_get table.router.catchers position ≡ Some catcher → catcher.handler ≡ App handler → ctx.gate ≡ live.ctx.gate → GateFits rel.gates live.ctx.gate
       → (made ≡ turn.Pending → n + 1 < turns)
       → (made ≡ turn.Pending → (status : Status) → Polls rel.catchers handler (record { status = status; request = live.request }) task live.ctx.kept live.ctx.gate step.Pending task' ctx.kept)
       → ((status : Status) (before : Kept C) → Making rel.catchers rel.gates turns handler (record { status = status; request = live.request }) before task live.ctx.kept n → Grows before ctx.kept)
       → ((status : Status) (before : Kept C) → Making rel.catchers rel.gates turns handler (record { status = status; request = live.request }) before task live.ctx.kept n
-      → Turned rel.catchers rel.gates turns handler (record { status = status; request = live.request }) before made task' ctx.kept (n + 1))
+      → PolledAs rel.catchers rel.gates turns handler (record { status = status; request = live.request }) before made task' ctx.kept (n + 1))
       → Catching rel first table live status position task n
       → CatcherTurned rel first table (record live { ctx = ctx }) (record { status = status; position = position; task = task'; turn = n + 1 }) made
   catching_turned live ctx status position task task' n catcher handler turns turn.Pending turns_is found handles gate_is fits left pending grows gives was =
@@ -190,5 +190,5 @@ module _ {V B C S H HTask K KTask N : Type 0} (rel : Relations V B C S H HTask K
       same = ap (λ n. record { code = n }) is
 
   pub fails_first : (live : Live (Seen V) (Lent C)) (status : Status) → (status.code == 500) ≡ false → Caught rel first table live status final.FailedTurn
-      → StandsAt rel first table live (stage.Catch (record { code = 500 }))
+      → InvariantAt rel first table live (stage.Catch (record { code = 500 }))
   fails_first live status other caught = between_on rel first table live.ctx.kept live.ctx.kept live.calls _ _ refl (λ rest found done. rw other done) caught

@@ -3,12 +3,12 @@ pub mod Beginning
 pub mod Between
 pub mod BetweenLaws
 pub mod Found
+pub mod Invariant
 pub mod MakingLaws
 pub mod Ranks
 pub mod Recorded
 pub mod Relations
 pub mod Routed
 pub mod RoutedLaws
-pub mod Stands
 pub mod Table
 pub mod WalkOrder

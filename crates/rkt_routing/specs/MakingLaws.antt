@@ -11,13 +11,20 @@ use Rattle.rkt_router.specs.declared.step.Step.TheVariants as step
 pub some_turns : (n : ℕ) → 1 ≤ max n 1
 some_turns n = grind arith
 
-module _ {Self Handed Held Answer Task : Type 0} (C : Calling Self Handed Held Answer Task) (rule : GateRule) (turns : ℕ) (callback : Self) (handed : Handed) where
+module _ {Self Handed Held Answer Task : Type 0} (C : Calling Self Handed Held Answer Task) (rule : GateRule) (turns : ℕ)
+    (callback : Self) (handed : Handed) where
   -- which Gates it was polled under
-  abbrev pub Pends : (before was now : Held) (gate : Gate) (old new : Task) (turn : ℕ) → Making C rule turns callback handed before old was turn → Type 0
-  Pends before was now gate old new turn making = (after : Making C rule turns callback handed before new now (turn + 1)) × (after.gates ≡ making.gates ++ gate ∷ [])
+  abbrev pub Pends : (before was now : Held) (gate : Gate) (old new : Task) (turn : ℕ)
+      → Making C rule turns callback handed before old was turn → Type 0
+  Pends before was now gate old new turn making =
+      (after : Making C rule turns callback handed before new now (turn + 1)) × (after.gates ≡ making.gates ++ gate ∷ [])
 
-  pub pends : (before was now : Held) (gate : Gate) (old new : Task) (turn : ℕ) → turn + 1 < turns → GateFits rule gate → (making : Making C rule turns callback handed before old was turn)
-      → Polls C callback handed old was gate step.Pending new now → Pends before was now gate old new turn making
+  pub pends : (before was now : Held) (gate : Gate) (old new : Task) (turn : ℕ)
+      → turn + 1 < turns
+      → GateFits rule gate
+      → (making : Making C rule turns callback handed before old was turn)
+      → Polls C callback handed old was gate step.Pending new now
+      → Pends before was now gate old new turn making
   pends before was now gate old new turn more fits making polls =
       let polled = polls before making.gates turn making.goes.begun in (
         record {

@@ -24,7 +24,8 @@ again_rank all false = 2 * all + 2
 module _ {H K N : Type 0} (table : SeenTable H K N) where
   -- while a route is called
   abbrev pub trying_rank : ℕ → Bool → ℕ
-  trying_rank position again = 2 * left table.router.routes (Some position) + again_rank (left table.router.routes None) again + 5
+  trying_rank position again =
+      2 * left table.router.routes (Some position) + again_rank (left table.router.routes None) again + 5
 
   -- before the next one is found
   abbrev pub next_rank : Option ℕ → Bool → ℕ
@@ -37,8 +38,8 @@ module _ {H K N : Type 0} (table : SeenTable H K N) where
   rank (stage.Catching call) = catching_rank call.status
 
   -- a move that goes on has fewer moves before it
-  abbrev pub Falls : {B HTask KTask R : Type 0} → ℕ → Moved (Stage B HTask KTask) R → Type 0
-  Falls before (moved.Going stage) = rank stage < before
-  Falls before (moved.Pending stage) = ⊤
-  Falls before (moved.Ended response) = ⊤
-  Falls before moved.Starved = ⊤
+  abbrev pub RankDecreases : {B HTask KTask R : Type 0} → ℕ → Moved (Stage B HTask KTask) R → Type 0
+  RankDecreases before (moved.Going stage) = rank stage < before
+  RankDecreases before (moved.Pending stage) = ⊤
+  RankDecreases before (moved.Ended response) = ⊤
+  RankDecreases before moved.Starved = ⊤

@@ -15,5 +15,9 @@ pub record Relations (V B C S H HTask K KTask : Type 0) : Type 1 where
   -- which Gates a callback may be polled under
   pub gates : GateRule
 
-abbrev pub relations : {V B C S H HTask K KTask : Type 0} → Calling H (Handed V B) (Kept C) (Reply S B) HTask → Calling K (Refused V) (Kept C) (Result (ResponseOf S) Status) KTask → GateRule → Relations V B C S H HTask K KTask
+abbrev pub relations : {V B C S H HTask K KTask : Type 0}
+    → Calling H (Handed V B) (Kept C) (Reply S B) HTask
+    → Calling K (Refused V) (Kept C) (Result (ResponseOf S) Status) KTask
+    → GateRule
+    → Relations V B C S H HTask K KTask
 relations handlers catchers gates = record { handlers = handlers; catchers = catchers; gates = gates }

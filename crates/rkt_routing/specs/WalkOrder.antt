@@ -9,8 +9,8 @@ use Rattle.rkt_router.specs.Callbacks.{Reply, RequestAt}
 use Rattle.rkt_router.specs.Tries.{IsTries}
 use Rattle.rkt_routing.specs.Found.{Found}
 use Rattle.rkt_routing.specs.Relations.{Relations}
-use Rattle.rkt_routing.specs.Routed.{Finds, Walks}
-use Rattle.rkt_routing.specs.Stands.{Follows}
+use Rattle.rkt_routing.specs.Routed.{Finds, TriesRoutes}
+use Rattle.rkt_routing.specs.Invariant.{Follows}
 use Rattle.rkt_routing.specs.Table.{SeenTable}
 use Rattle.rkt_routing.specs.declared.run.Call.{Call}
 use Rattle.rkt_routing.specs.declared.run.Which.TheVariants as which
@@ -48,5 +48,5 @@ abbrev pub AreWalksInOrder : {V B C S H HTask K KTask N : Type 0} → Relations 
 AreWalksInOrder {V = V} {B = B} {C = C} {S = S} rel table =
     (at : RequestAt V B C) (status : Status) (calls : List Call) (again : Bool) (found : Found V C S) (tries : List ℕ)
     → IsTries table.router.routes at.request tries
-    → Walks rel table None at status calls (Follows rel table again (Finds found))
+    → TriesRoutes rel table None at status calls (Follows rel table again (Finds found))
     → WalksInOrder tries calls (Follows rel table again (Finds found))

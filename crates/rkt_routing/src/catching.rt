@@ -1,23 +1,23 @@
 //! How a status is answered: by the catcher that is chosen for it, or by its default page.
 ghost use Rattle.std.specs.Prelude.{◌≡◌, ℕ, Some, None, slice_get};
-ghost use Rattle.rkt_dressing.specs.Dressing.{settled};
+ghost use Rattle.rkt_dispatch.specs.Finalizing.{settled};
 ghost use Rattle.rkt_route.specs.declared.catcher.Catching.TheVariants.{Rocket as ByRocket};
 ghost use Rattle.rkt_route.specs.declared.catcher.Catcher.{Catcher};
 ghost use Rattle.rkt_router.specs.Calls.{GateRule};
-ghost use Rattle.rkt_cancel.specs.Cancel.{Cancellable};
+ghost use Rattle.rkt_source.specs.Cancel.{Cancellable};
 ghost use Rattle.rkt_data.specs.Body.{Body};
 ghost use Rattle.rkt_routing.specs.Beginning.{Beginning};
-ghost use Rattle.rkt_routing.specs.Ranks.{Falls, catch_rank, catching_rank};
+ghost use Rattle.rkt_routing.specs.Ranks.{RankDecreases, catch_rank, catching_rank};
 ghost use Rattle.rkt_routing.specs.Recorded.{catcher_answer};
 ghost use Rattle.rkt_routing.specs.Relations.{relations};
-ghost use Rattle.rkt_routing.specs.Stands.{Called, CatcherTurned, Caught, Chosen, LeadsOn, Moves, Pages};
+ghost use Rattle.rkt_routing.specs.Invariant.{Called, CatcherTurned, Caught, Chosen, LeadsOn, Moves, Pages};
 
 use crate::stage::{CatcherTask, LiveOf, Moved, MovedOf, Stage};
 use crate::{Answer, TableOf, Which, recorded};
 use rkt_http::Status;
 use rkt_message::Response;
 use rkt_request::{Ctx, Types};
-use rkt_router::{CatchHandler, Catching, Final, Handler, Turn, default_handler};
+use rkt_router::{CatchHandler, Catching, Final, Handler, Polled, default_handler};
 use std::alloc::Global;
 
 // The changes so far are pending no more.
@@ -37,7 +37,7 @@ pub(crate) fn begin_catch<T: Types, H: Handler<T> + Drop, K: CatchHandler<T> + D
 ) -> MovedOf<T, H, K>
     ensures gives { LeadsOn H.calling K.calling table.now live.old (Stage.Catch status) live.new result }
     ensures gate { live.new.ctx.gate ≡ live.old.ctx.gate }
-    ensures falls { Falls table.now (catch_rank status) result }
+    ensures falls { RankDecreases table.now (catch_rank status) result }
 {
     forget_changes(&mut live.ctx);
     match table.catch(status, &live.request) {
@@ -64,7 +64,7 @@ fn page<T: Types, H: Handler<T> + Drop, K: CatchHandler<T> + Drop, N: Drop>(
     ensures gives { (rule : GateRule) (first : Beginning T.Value (Body (Cancellable T.Source)) T.Cached)
         → Pages (relations H.calling K.calling rule) first table.now live.now status.code
         → Moves (relations H.calling K.calling rule) first table.now live.now result }
-    ensures ends { (before : ℕ) → Falls table.now before result }
+    ensures ends { (before : ℕ) → RankDecreases table.now before result }
 {
     match default_handler(alloc, status, &live.request) {
         Ok(response) => Moved::Ended(response),
@@ -85,7 +85,7 @@ fn page_of_catcher<T: Types, H: Handler<T> + Drop, K: CatchHandler<T> + Drop, N:
         → Chosen (relations H.calling K.calling rule) first table.now live.old live.old.ctx.kept status (Some position)
         → Moves (relations H.calling K.calling rule) first table.now live.new result }
     ensures gate { live.new.ctx.gate ≡ live.old.ctx.gate }
-    ensures falls { Falls table.now (catch_rank status) result }
+    ensures falls { RankDecreases table.now (catch_rank status) result }
 {
     match default_handler(alloc, status, &live.request) {
         Ok(response) => catch_over(
@@ -106,17 +106,17 @@ pub(crate) fn catch_turned<T: Types, H: Handler<T> + Drop, K: CatchHandler<T> + 
     table: &TableOf<'_, H, K, N>,
     live: &mut LiveOf<'_, T>,
     call: CatcherTask<K::Task>,
-    turn: Turn<Result<Response<T::Stream>, Status>>,
+    turn: Polled<Result<Response<T::Stream>, Status>>,
 ) -> MovedOf<T, H, K>
     ensures gives { (rule : GateRule) (first : Beginning T.Value (Body (Cancellable T.Source)) T.Cached)
         → CatcherTurned (relations H.calling K.calling rule) first table.now live.old call turn
         → Moves (relations H.calling K.calling rule) first table.now live.new result }
     ensures gate { live.new.ctx.gate ≡ live.old.ctx.gate }
-    ensures falls { Falls table.now (catching_rank call.status) result }
+    ensures falls { RankDecreases table.now (catching_rank call.status) result }
 {
     match turn {
-        Turn::Pending => Moved::Pending(Stage::Catching(call)),
-        Turn::Over(reply) => catch_over(alloc, table, live, call.status, call.position, reply),
+        Polled::Pending => Moved::Pending(Stage::Catching(call)),
+        Polled::Over(reply) => catch_over(alloc, table, live, call.status, call.position, reply),
     }
 }
 
@@ -145,7 +145,7 @@ fn catch_over<T: Types, H: Handler<T> + Drop, K: CatchHandler<T> + Drop, N: Drop
         → Called (relations H.calling K.calling rule) first table.now live.old status position reply
         → Moves (relations H.calling K.calling rule) first table.now live.new result }
     ensures gate { live.new.ctx.gate ≡ live.old.ctx.gate }
-    ensures falls { Falls table.now (catching_rank status) result }
+    ensures falls { RankDecreases table.now (catching_rank status) result }
 {
     let call = recorded(&live.ctx, Which::Catcher(position), catcher_says(&reply));
     match live.calls.push(call) {
@@ -165,7 +165,7 @@ fn after_catch<T: Types, H: Handler<T> + Drop, K: CatchHandler<T> + Drop, N: Dro
     ensures gives { (rule : GateRule) (first : Beginning T.Value (Body (Cancellable T.Source)) T.Cached)
         → Caught (relations H.calling K.calling rule) first table.now live.now status reply
         → Moves (relations H.calling K.calling rule) first table.now live.now result }
-    ensures falls { Falls table.now (catching_rank status) result }
+    ensures falls { RankDecreases table.now (catching_rank status) result }
 {
     match reply {
         Final::Done(Ok(response)) => Moved::Ended(response),
@@ -185,7 +185,7 @@ fn after_failure<T: Types, H: Handler<T> + Drop, K: CatchHandler<T> + Drop, N: D
     ensures gives { (rule : GateRule) (first : Beginning T.Value (Body (Cancellable T.Source)) T.Cached)
         → Caught (relations H.calling K.calling rule) first table.now live.now status Final.FailedTurn
         → Moves (relations H.calling K.calling rule) first table.now live.now result }
-    ensures falls { Falls table.now (catching_rank status) result }
+    ensures falls { RankDecreases table.now (catching_rank status) result }
 {
     if status.code == 500 {
         return page(alloc, table, live, Status::InternalServerError);

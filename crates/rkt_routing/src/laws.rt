@@ -7,8 +7,8 @@ use crate::TableOf;
 use rkt_request::Types;
 use rkt_router::{CatchHandler, Handler};
 
-/// A law of routing: the calls that a walk makes are of the first of the routes that its request is tried on, in order, and of all
-/// of them where it forwards.
+/// A law of routing: the calls that a walk makes are of the first of the routes that its request is tried on, in order,
+/// and of all of them where it forwards.
 pub fn walks_are_in_order<T: Types, H: Handler<T>, K: CatchHandler<T>, N>(
     _table: &TableOf<'_, H, K, N>,
 )

@@ -1,11 +1,11 @@
 //! How a request is routed, poll by poll.
 ghost use Rattle.std.specs.Prelude.{◌≡◌};
 ghost use Rattle.rkt_router.specs.Calls.{GateRule, GateFits};
-ghost use Rattle.rkt_cancel.specs.Cancel.{Cancellable};
+ghost use Rattle.rkt_source.specs.Cancel.{Cancellable};
 ghost use Rattle.rkt_data.specs.Body.{Body};
 ghost use Rattle.rkt_routing.specs.Beginning.{Beginning};
 ghost use Rattle.rkt_routing.specs.Relations.{relations};
-ghost use Rattle.rkt_routing.specs.Stands.{PolledGives, StandsAt, begins};
+ghost use Rattle.rkt_routing.specs.Invariant.{PolledGives, InvariantAt, begins};
 
 use crate::catching::{begin_catch, catch_turned};
 use crate::stage::{Live, LiveOf, Moved, Stage, StageOf, Underway, UnderwayOf};
@@ -30,15 +30,23 @@ pub struct RoutingOf<'a, T: Types, H: Handler<T>, K: CatchHandler<T>, N> {
 }
 
 impl<'a, T: Types, H: Handler<T>, K: CatchHandler<T>, N> Model for RoutingOf<'a, T, H, K, N> {
-    ghost use Rattle.rkt_cancel.specs.Cancel.{Cancellable};
+    ghost use Rattle.rkt_source.specs.Cancel.{Cancellable};
     ghost use Rattle.rkt_data.specs.Body.{Body};
-    ghost use Rattle.rkt_routing.specs.Stands.{Holding, IsSound};
+    ghost use Rattle.rkt_routing.specs.Invariant.{Holding, IsSound};
 
     ghost Value = { Holding T.Value (Body (Cancellable T.Source)) T.Cached H H.Task K K.Task N };
 
-    ghost view = { λ r. record { table = record { router = r.router.now; turns = r.turns }; live = r.underway.live; stage = r.underway.stage } };
+    ghost view = { λ r. record {
+      table = record { router = r.router.now; turns = r.turns };
+      live = r.underway.live;
+      stage = r.underway.stage;
+    } };
 
-    ghost invariant = { λ r. IsSound H.calling K.calling (record { table = record { router = r.router.now; turns = r.turns }; live = r.underway.live; stage = r.underway.stage }) };
+    ghost invariant = { λ r. IsSound H.calling K.calling (record {
+      table = record { router = r.router.now; turns = r.turns };
+      live = r.underway.live;
+      stage = r.underway.stage;
+    }) };
 }
 
 /// What routing a request of an application comes to.
@@ -98,7 +106,10 @@ impl<'a, T: Types, H: Handler<T> + Drop, K: CatchHandler<T> + Drop, N: Drop> Rou
     ) -> RoutingOf<'a, T, H, K, N>
         ensures table { result.table ≡ record { router = router.entry.now; turns = turns } }
         ensures stands { (rule : GateRule)
-            → StandsAt (relations H.calling K.calling rule) (record { at = record { request = request.entry; body = body; kept = ctx.kept }; faults = faults.now }) result.table result.live result.stage }
+            → InvariantAt (relations H.calling K.calling rule) (record {
+              at = record { request = request.entry; body = body; kept = ctx.kept };
+              faults = faults.now;
+            }) result.table result.live result.stage }
     {
         let stage = begin::<T, H, K>(faults, body);
         let live = Live {
@@ -117,7 +128,7 @@ impl<'a, T: Types, H: Handler<T> + Drop, K: CatchHandler<T> + Drop, N: Drop> Rou
     /// Goes on under a Gate, until a callback is Pending or there is a response.
     pub fn poll(self, gate: Gate) -> Progress<RoutingOf<'a, T, H, K, N>, Routed<'a, T>>
         ensures { (rule : GateRule) (first : Beginning T.Value (Body (Cancellable T.Source)) T.Cached) → GateFits rule gate
-            → StandsAt (relations H.calling K.calling rule) first self.entry.table self.entry.live self.entry.stage
+            → InvariantAt (relations H.calling K.calling rule) first self.entry.table self.entry.live self.entry.stage
             → PolledGives (relations H.calling K.calling rule) first self.entry.table gate result }
     {
         let RoutingOf {

@@ -42,7 +42,8 @@ impl<'a, H, K, N> TableOf<'a, H, K, N> {
     ) -> Option<usize>
         ensures next { IsNextTry self.now.router.routes request.now behind result }
         ensures within { IfSome result (λ position. position < length self.now.router.routes) }
-        ensures falls { IfSome result (λ position. left self.now.router.routes (Some position) < left self.now.router.routes behind) }
+        ensures falls { IfSome result (λ position.
+            left self.now.router.routes (Some position) < left self.now.router.routes behind) }
     {
         self.router.next_try(request, behind)
     }
@@ -68,7 +69,8 @@ impl<'a, H, K, N> TableOf<'a, H, K, N> {
 
     // The handler of a catcher that has one.
     pub(crate) fn handler(&self, position: usize) -> &K
-        requires there { IsSomeAnd (slice_get self.now.router.catchers position) (λ catcher. (handler : K) × (catcher.handler ≡ App handler)) }
+        requires there { IsSomeAnd (slice_get self.now.router.catchers position) (λ catcher.
+            (handler : K) × (catcher.handler ≡ App handler)) }
         ensures { IsSomeAnd (slice_get self.now.router.catchers position) (λ catcher. catcher.handler ≡ App result.now) }
     {
         match &self.router.catchers()[position].handler {

@@ -2,21 +2,21 @@
 ghost use Rattle.std.specs.Prelude.{◌≡◌, ◌+◌, None};
 ghost use Rattle.rkt_router.specs.Left.{left};
 ghost use Rattle.rkt_router.specs.Calls.{GateRule};
-ghost use Rattle.rkt_cancel.specs.Cancel.{Cancellable};
+ghost use Rattle.rkt_source.specs.Cancel.{Cancellable};
 ghost use Rattle.rkt_data.specs.Body.{Body};
 ghost use Rattle.rkt_routing.specs.Beginning.{Beginning};
 ghost use Rattle.rkt_routing.specs.Routed.{is_retried, mounted};
-ghost use Rattle.rkt_routing.specs.Ranks.{Falls, again_rank, next_rank, trying_rank};
+ghost use Rattle.rkt_routing.specs.Ranks.{RankDecreases, again_rank, next_rank, trying_rank};
 ghost use Rattle.rkt_routing.specs.Recorded.{handler_answer, recorded};
 ghost use Rattle.rkt_routing.specs.Relations.{relations};
-ghost use Rattle.rkt_routing.specs.Stands.{Forwards, LeadsOn, Moves, Replied, RouteTurned, Tried};
+ghost use Rattle.rkt_routing.specs.Invariant.{Forwards, LeadsOn, Moves, Replied, RouteTurned, Tried};
 
 use crate::stage::{LiveOf, Moved, MovedOf, RouteTask, Stage};
 use crate::{Answer, TableOf, Which, recorded};
 use rkt_http::{Method, Outcome, Status};
 use rkt_message::Response;
 use rkt_request::{Body0, Mounted, Request, Types};
-use rkt_router::{CatchHandler, Final, Handler, Route, RouteOutcome, Turn};
+use rkt_router::{CatchHandler, Final, Handler, Polled, Route, RouteOutcome};
 use std::alloc::Global;
 
 // Makes a route the one that a request is tried on.
@@ -40,7 +40,7 @@ pub(crate) fn begin_route<T: Types, H: Handler<T> + Drop, K: CatchHandler<T> + D
 ) -> MovedOf<T, H, K>
     ensures gives { LeadsOn H.calling K.calling table.now live.old (Stage.Next behind body status again) live.new result }
     ensures gate { live.new.ctx.gate ≡ live.old.ctx.gate }
-    ensures falls { Falls table.now (next_rank table.now behind again) result }
+    ensures falls { RankDecreases table.now (next_rank table.now behind again) result }
 {
     match table.next_try(&live.request, behind) {
         None => forwarded(table, live, body, status, again),
@@ -80,7 +80,7 @@ fn forwarded<T: Types, H: Handler<T> + Drop, K: CatchHandler<T> + Drop, N: Drop>
         → Forwards (relations H.calling K.calling rule) first table.now live.old body status again
         → Moves (relations H.calling K.calling rule) first table.now live.new result }
     ensures gate { live.new.ctx.gate ≡ live.old.ctx.gate }
-    ensures falls { Falls table.now (again_rank (left table.now.router.routes None) again + 4) result }
+    ensures falls { RankDecreases table.now (again_rank (left table.now.router.routes None) again + 4) result }
 {
     if is_retried(&live.request, again) {
         live.request.set_method(Method::Get);
@@ -99,17 +99,17 @@ pub(crate) fn route_turned<T: Types, H: Handler<T> + Drop, K: CatchHandler<T> + 
     table: &TableOf<'_, H, K, N>,
     live: &mut LiveOf<'_, T>,
     call: RouteTask<H::Task>,
-    turn: Turn<RouteOutcome<T>>,
+    turn: Polled<RouteOutcome<T>>,
 ) -> MovedOf<T, H, K>
     ensures gives { (rule : GateRule) (first : Beginning T.Value (Body (Cancellable T.Source)) T.Cached)
         → RouteTurned (relations H.calling K.calling rule) first table.now live.old call turn
         → Moves (relations H.calling K.calling rule) first table.now live.new result }
     ensures gate { live.new.ctx.gate ≡ live.old.ctx.gate }
-    ensures falls { Falls table.now (trying_rank table.now call.position call.again) result }
+    ensures falls { RankDecreases table.now (trying_rank table.now call.position call.again) result }
 {
     match turn {
-        Turn::Pending => Moved::Pending(Stage::Trying(call)),
-        Turn::Over(reply) => route_over(table, live, call.position, call.again, reply),
+        Polled::Pending => Moved::Pending(Stage::Trying(call)),
+        Polled::Over(reply) => route_over(table, live, call.position, call.again, reply),
     }
 }
 
@@ -136,7 +136,7 @@ fn route_over<T: Types, H: Handler<T> + Drop, K: CatchHandler<T> + Drop, N: Drop
         → Tried (relations H.calling K.calling rule) first table.now live.old position again reply
         → Moves (relations H.calling K.calling rule) first table.now live.new result }
     ensures gate { live.new.ctx.gate ≡ live.old.ctx.gate }
-    ensures falls { Falls table.now (trying_rank table.now position again) result }
+    ensures falls { RankDecreases table.now (trying_rank table.now position again) result }
 {
     let call = recorded(&live.ctx, Which::Route(position), handler_says(&reply));
     match live.calls.push(call) {
@@ -156,7 +156,7 @@ fn after_route<T: Types, H: Handler<T> + Drop, K: CatchHandler<T> + Drop, N: Dro
     ensures gives { (rule : GateRule) (first : Beginning T.Value (Body (Cancellable T.Source)) T.Cached)
         → Replied (relations H.calling K.calling rule) first table.now live.now position again reply
         → Moves (relations H.calling K.calling rule) first table.now live.now result }
-    ensures falls { Falls table.now (trying_rank table.now position again) result }
+    ensures falls { RankDecreases table.now (trying_rank table.now position again) result }
 {
     match reply {
         Final::Done(Outcome::Success(response)) => Moved::Ended(response),

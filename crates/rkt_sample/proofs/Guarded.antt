@@ -2,10 +2,10 @@
 use Rattle.std.proofs.Common.{◌≡◌, ◌<◌, ◌-◌, ◌++◌, ◌∷◌, ◌⊎◌, ℕ, Bool, true, false, IsTrue, List, [], Option, Some, None, Result, Ok, Err, String, string_bytes, length, ap, arith, length-append, refl, subst}
 use Rattle.std.specs.declared.alloc.Global.{Global}
 use Rattle.rkt_base.specs.declared.poll.Poll.TheVariants.{Ready}
-use Rattle.rkt_cancel.specs.Cancel.{Cancellable}
+use Rattle.rkt_source.specs.Cancel.{Cancellable}
 use Rattle.rkt_data.specs.Body.{IsWhole, opened_tap}
 use Rattle.rkt_data.specs.Gathering.{Completes, reads_end}
-use Rattle.rkt_data.specs.Tap.{ByGate, Tapped}
+use Rattle.rkt_data.specs.CountedSource.{ByGate, Tapped}
 use Rattle.rkt_data.specs.Text.{AnswersText, TextErr}
 use Rattle.rkt_data.specs.declared.capped.Capped.{Capped}
 use Rattle.rkt_data.specs.declared.error.DataError.{DataError}

@@ -2,8 +2,8 @@
 use Rattle.std.specs.Prelude.{◌≡◌, ◌++◌, ◌∷◌, [], ℕ, List, Option, None, Some}
 use Rattle.std.specs.Option.{IfSome}
 use Rattle.std.proofs.Common.{⊎_elim, ap, inl, inr, subst, sym, ◌∙◌}
-use Rattle.rkt_cancel.specs.Cancel.{Cancellable}
-use Rattle.rkt_data.specs.Tap.{Tapped}
+use Rattle.rkt_source.specs.Cancel.{Cancellable}
+use Rattle.rkt_data.specs.CountedSource.{Tapped}
 use Rattle.rkt_request.specs.Lent.{Kept, Lent}
 use Rattle.rkt_request.specs.Seen.{Seen}
 use Rattle.rkt_router.specs.Callbacks.{Handed, Reply}

@@ -3,7 +3,7 @@ use Rattle.std.proofs.Common.{◌≡◌, ◌∷◌, ℕ, [], Option, Some, None,
 use Rattle.std.specs.Option.{option_map_or}
 use Rattle.std.specs.declared.alloc.Global.{Global}
 use Rattle.rkt_base.specs.declared.poll.Poll.TheVariants.{Ready}
-use Rattle.rkt_cancel.specs.Cancel.{Cancellable}
+use Rattle.rkt_source.specs.Cancel.{Cancellable}
 use Rattle.rkt_data.specs.Body.{IsWhole}
 use Rattle.rkt_data.specs.Gathering.{Gathering}
 use Rattle.rkt_data.specs.declared.capped.Capped.{Capped}

@@ -9,11 +9,11 @@ use Rattle.std.specs.Str.{is_utf8}
 use Rattle.std.specs.declared.alloc.Global.{Global}
 use Rattle.rkt_base.specs.declared.poll.Poll.{Poll}
 use Rattle.rkt_base.specs.declared.poll.Poll.TheVariants.{Ready}
-use Rattle.rkt_cancel.specs.Cancel.{Cancellable, ReadsCut, advanced, is_gone, is_open}
+use Rattle.rkt_source.specs.Cancel.{Cancellable, ReadsCut, advanced, is_gone, is_open}
 use Rattle.rkt_data.specs.Body.{IsWhole, opened_tap}
 use Rattle.rkt_data.specs.Gathering.{Completes, cause_of, cut_from}
 use Rattle.rkt_data.specs.Stream.{IsComplete, Opened, whole_of}
-use Rattle.rkt_data.specs.Tap.{ByGate, TapErrs, Tapped, body}
+use Rattle.rkt_data.specs.CountedSource.{ByGate, TapErrs, Tapped, body}
 use Rattle.rkt_data.specs.Text.{TextErr}
 use Rattle.rkt_data.specs.declared.capped.Capped.{Capped}
 use Rattle.rkt_data.specs.declared.error.DataError.{DataError}
@@ -148,7 +148,7 @@ module _ {S : Type 0} (meaning : S → Meaning) (told : IsTold meaning) (limit :
     errs_so error.SourceFault some by_gate errs = inr (refusal source_error.SourceFault by_gate errs.0)
     errs_so error.Gone some by_gate errs = inr (refusal source_error.Gone by_gate errs.0)
     errs_so error.TimedOut some by_gate errs = inr (refusal source_error.TimedOut by_gate errs.0)
-    errs_so (error.NotUtf8 n) some by_gate errs = let bytes = whole_told meaning told b in inl (not_utf8 bytes.0 bytes.1 (errs bytes.0 (opened_told bytes.0 bytes.1)).1)
+    errs_so (error.NotUtf8 n) some by_gate errs = let bytes = whole_told meaning told b in inl (not_utf8 bytes.0 bytes.1 (errs.1 bytes.0 (opened_told bytes.0 bytes.1)).1)
     errs_so error.SinkFault some by_gate errs = absurd errs
     errs_so error.NoMemory some by_gate errs = absurd (some refl)
 

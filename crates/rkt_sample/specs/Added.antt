@@ -16,4 +16,5 @@ with_added (Some cookie) kept = record kept { jar = record kept.jar { log = kept
 
 -- what is new in the log are additions
 abbrev pub AddsOnly : {C : Type 0} → Kept C → Kept C → Type 0
-AddsOnly before after = (more : List Change) × All (λ change. change.removal ≡ false) more × (after.jar.log ≡ before.jar.log ++ more)
+AddsOnly before after =
+    (more : List Change) × All (λ change. change.removal ≡ false) more × (after.jar.log ≡ before.jar.log ++ more)

@@ -3,9 +3,9 @@ use Rattle.std.specs.Prelude.{◌&&◌, ℕ, List, Option, Some, None, IfSome, I
 use Rattle.std.specs.Map.{lookup}
 use Rattle.std.specs.Option.{option_map_or}
 use Rattle.std.specs.Str.{bytes_eq, is_utf8}
-use Rattle.rkt_cancel.specs.Cancel.{Cancellable, cut_meaning}
+use Rattle.rkt_source.specs.Cancel.{Cancellable, cut_meaning}
 use Rattle.rkt_data.specs.Body.{Body}
-use Rattle.rkt_data.specs.Tap.{body}
+use Rattle.rkt_data.specs.CountedSource.{body}
 use Rattle.rkt_data.specs.declared.data_stream.ByteUnit.{ByteUnit}
 use Rattle.rkt_router.specs.Calls.{GateRule}
 use Rattle.rkt_source.specs.Source.{Meaning}

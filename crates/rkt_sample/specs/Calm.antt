@@ -1,9 +1,9 @@
 -- How long the source of a body is not cut off, by the Gates under which its machine is called.
 use Rattle.std.specs.Prelude.{◌≡◌, ◌⊎◌, ◌≤◌, ◌<◌, ◌+◌, ⊤, ℕ, List, [], ◌∷◌, Option, None, Some, true, false}
 use Rattle.std.specs.Option.{IfSome}
-use Rattle.rkt_cancel.specs.Cancel.{advanced, is_open}
-use Rattle.rkt_cancel.specs.declared.stage.Stage.{Stage}
-use Rattle.rkt_cancel.specs.declared.stage.Stage.TheVariants.{Active, Grace, Mercy, Gone}
+use Rattle.rkt_source.specs.Cancel.{advanced, is_open}
+use Rattle.rkt_source.specs.declared.stage.Stage.{Stage}
+use Rattle.rkt_source.specs.declared.stage.Stage.TheVariants.{Active, Grace, Mercy, Gone}
 use Rattle.rkt_router.specs.Calls.{GateRule}
 use Rattle.rkt_source.specs.declared.source.Gate.{Gate}
 

@@ -29,5 +29,7 @@ added_by catcher.BadFailed = Some (mark_of (codes "k"))
 added_by _ = None
 
 abbrev pub catch_calling : {V C R : Type 0} → Calling SampleCatcher (Refused V) (Kept C) (Result (ResponseOf R) Status) Status
-catch_calling = at_once (λ catcher refused task. task ≡ refused.status)
-    (λ catcher refused before answer after. (answer ≡ answer_of catcher refused.status) × (after ≡ with_added (added_by catcher) before))
+catch_calling =
+    at_once (λ catcher refused task. task ≡ refused.status)
+    (λ catcher refused before answer after.
+    (answer ≡ answer_of catcher refused.status) × (after ≡ with_added (added_by catcher) before))

@@ -16,7 +16,8 @@ age_of text =
     if are_digits digits && nat_lt (digits_value 10 digits) 256 then Some (digits_value 10 digits) else None
 
 abbrev pub greeting_of : Option (List ℕ) → Option ℕ → Option (List ℕ)
-greeting_of (Some name) (Some age) = Some (codes "Hello, " ++ (decimal age ++ (codes " year old named " ++ (name ++ codes "!"))))
+greeting_of (Some name) (Some age) =
+    Some (codes "Hello, " ++ (decimal age ++ (codes " year old named " ++ (name ++ codes "!"))))
 greeting_of (Some name) None = None
 greeting_of None age = None
 

@@ -26,16 +26,27 @@ pub record ComesTo {A : Type 0} (given expected : Final A) (before after left : 
   pub leaves : after ≡ left
   pub adds : AddsOnly before after
 
--- a whole call of a route, of a body that was not cut off and under Gates of a calm rule, is done, and replies what its route does;
--- `/stop` may tell any word
+-- a whole call of a route, of a body that was not cut off and under Gates of a calm rule, is done, and replies what its
+-- route does; `/stop` may tell any word
 abbrev pub RoutesReply : Type 0
-RoutesReply = (rule : GateRule) (turns word : ℕ) (route : SampleRoute) (handed : Handed ℕ (SampleBody SourceInMemory)) (before after : Kept ℕ) (reply : Final (Reply SourceInMemory (SampleBody SourceInMemory))) → IsCalm rule → 1 ≤ turns
-    → IsUncutBody source_meaning rule handed.body → Made (route_calling source_meaning word) rule turns route handed before reply after → ComesTo reply (Done (reply_of source_meaning route handed)) before after (left_by word route before)
+RoutesReply =
+    (rule : GateRule) (turns word : ℕ) (route : SampleRoute) (handed : Handed ℕ (SampleBody SourceInMemory))
+    (before after : Kept ℕ) (reply : Final (Reply SourceInMemory (SampleBody SourceInMemory)))
+    → IsCalm rule
+    → 1 ≤ turns
+    → IsUncutBody source_meaning rule handed.body
+    → Made (route_calling source_meaning word) rule turns route handed before reply after
+    → ComesTo reply (Done (reply_of source_meaning route handed)) before after (left_by word route before)
 
 -- a whole call of a catcher is done, and answers what its catcher does
 abbrev pub CatchersAnswer : Type 0
-CatchersAnswer = (rule : GateRule) (turns : ℕ) (catcher : SampleCatcher) (refused : Refused ℕ) (before after : Kept ℕ) (answer : Final (Result (ResponseOf SourceInMemory) Status)) → 1 ≤ turns
-    → Made catching.catch_calling rule turns catcher refused before answer after → ComesTo answer (Done (catching.answer_of catcher refused.status)) before after (with_added (catching.added_by catcher) before)
+CatchersAnswer =
+    (rule : GateRule) (turns : ℕ) (catcher : SampleCatcher) (refused : Refused ℕ) (before after : Kept ℕ)
+    (answer : Final (Result (ResponseOf SourceInMemory) Status))
+    → 1 ≤ turns
+    → Made catching.catch_calling rule turns catcher refused before answer after
+    → ComesTo answer (Done (catching.answer_of catcher refused.status)) before after
+    (with_added (catching.added_by catcher) before)
 
 -- what is read as a small number is the age that the text writes
 abbrev pub ReadsAge : (List ℕ → Result ℕ (String Global) → Type 0) → Type 0

@@ -67,7 +67,8 @@ mounted_route route = route_below (base_of route) (route_at_root route)
 
 abbrev pub all_routes : List SampleRoute
 all_routes =
-    route.Hello ∷ route.Page ∷ route.HeadPage ∷ route.HeadGone ∷ route.PostForm ∷ route.DeleteForm ∷ route.Trial ∷ route.Tried ∷ route.Spoiled ∷ route.Flash ∷ route.Echo ∷ route.Stop ∷ route.Broken ∷ []
+    route.Hello ∷ route.Page ∷ route.HeadPage ∷ route.HeadGone ∷ route.PostForm ∷ route.DeleteForm ∷ route.Trial ∷ route.Tried
+    ∷ route.Spoiled ∷ route.Flash ∷ route.Echo ∷ route.Stop ∷ route.Broken ∷ []
 
 -- the routes, in mounting order
 abbrev pub sample_routes : List (Route SampleRoute (Unit {0}))

@@ -22,18 +22,25 @@ abbrev pub MayBeRefused : {S : Type 0} → (S → Meaning) → SampleRoute → S
 MayBeRefused meaning route body gates = IsTrue (reads_body route) × ¬ ReadsAll meaning body gates
 
 -- a route replies just this, or errs with 400 where a read may be refused
-abbrev pub Replies : {V S R : Type 0} → (S → Meaning) → SampleRoute → Handed V (SampleBody S) → List Gate → Reply R (SampleBody S) → Type 0
-Replies meaning route handed gates reply = (reply ≡ reply_of meaning route handed) ⊎ ((reply ≡ Error bad_request) × MayBeRefused meaning route handed.body gates)
+abbrev pub Replies : {V S R : Type 0} → (S → Meaning) → SampleRoute → Handed V (SampleBody S) → List Gate
+    → Reply R (SampleBody S) → Type 0
+Replies meaning route handed gates reply =
+    (reply ≡ reply_of meaning route handed) ⊎ ((reply ≡ Error bad_request) × MayBeRefused meaning route handed.body gates)
 
 -- and leaves just that, where `/stop` tells this word
-abbrev pub MayReply : {V S C R : Type 0} → (S → Meaning) → ℕ → SampleRoute → Handed V (SampleBody S) → Kept C → List Gate → Reply R (SampleBody S) → Kept C → Type 0
-MayReply meaning word route handed before gates reply after = Replies meaning route handed gates reply × (after ≡ left_by word route before)
+abbrev pub MayReply : {V S C R : Type 0} → (S → Meaning) → ℕ → SampleRoute → Handed V (SampleBody S) → Kept C → List Gate
+    → Reply R (SampleBody S) → Kept C → Type 0
+MayReply meaning word route handed before gates reply after =
+    Replies meaning route handed gates reply × (after ≡ left_by word route before)
 
 -- a call has the body that it was handed, until it is done or there was no memory
 abbrev pub Holds : {S : Type 0} → SampleBody S → Option (SampleBody S) → Type 0
 Holds handed task = IfSome task (λ body. body ≡ handed)
 
-abbrev pub route_calling : {V S C R : Type 0} → (S → Meaning) → ℕ → Calling SampleRoute (Handed V (SampleBody S)) (Kept C) (Reply R (SampleBody S)) (Option (SampleBody S))
+abbrev pub route_calling : {V S C R : Type 0}
+    → (S → Meaning)
+    → ℕ
+    → Calling SampleRoute (Handed V (SampleBody S)) (Kept C) (Reply R (SampleBody S)) (Option (SampleBody S))
 route_calling meaning word = record {
   may = MayReply meaning word;
   begun = λ route handed task before now gates n. Holds handed.body task × (now ≡ before) × (n ≡ 0);

@@ -49,17 +49,22 @@ grows_told (Some word) kept = record {
 }
 
 grows_left : {C : Type 0} (word : ℕ) (route : SampleRoute) (kept : Kept C) → Grows kept (left_by word route kept)
-grows_left word route kept = grows_again kept (with_added (added_by route) kept) (left_by word route kept) (grows_added (added_by route) kept) (grows_told (told_by word route) (with_added (added_by route) kept))
+grows_left word route kept =
+    grows_again kept (with_added (added_by route) kept) (left_by word route kept) (grows_added (added_by route) kept)
+    (grows_told (told_by word route) (with_added (added_by route) kept))
 
-greets_back : {S : Type 0} (R : Type 0) (whole : SampleBody S → Option (List ℕ)) (body : SampleBody S) (text : Option (List ℕ)) → GivesBack {R = R} whole body (greets body text)
+greets_back : {S : Type 0} (R : Type 0) (whole : SampleBody S → Option (List ℕ)) (body : SampleBody S) (text : Option (List ℕ))
+    → GivesBack {R = R} whole body (greets body text)
 greets_back R whole body (Some text) = tt
 greets_back R whole body None = refl
 
-echoes_back : {S : Type 0} (R : Type 0) (whole : SampleBody S → Option (List ℕ)) (body : SampleBody S) (text : Option (List ℕ)) → GivesBack {R = R} {B = SampleBody S} whole body (echoes text)
+echoes_back : {S : Type 0} (R : Type 0) (whole : SampleBody S → Option (List ℕ)) (body : SampleBody S) (text : Option (List ℕ))
+    → GivesBack {R = R} {B = SampleBody S} whole body (echoes text)
 echoes_back R whole body (Some text) = tt
 echoes_back R whole body None = tt
 
-gives_back : {V S : Type 0} (R : Type 0) (meaning : S → Meaning) (route : SampleRoute) (handed : Handed V (SampleBody S)) → GivesBack {R = R} (whole meaning) handed.body (reply_of meaning route handed)
+gives_back : {V S : Type 0} (R : Type 0) (meaning : S → Meaning) (route : SampleRoute) (handed : Handed V (SampleBody S))
+    → GivesBack {R = R} (whole meaning) handed.body (reply_of meaning route handed)
 gives_back R meaning route.Hello handed = greets_back R (whole meaning) handed.body (greeting handed.request)
 gives_back R meaning route.Page handed = tt
 gives_back R meaning route.HeadPage handed = refl
@@ -74,7 +79,8 @@ gives_back R meaning route.Echo handed = echoes_back R (whole meaning) handed.bo
 gives_back R meaning route.Stop handed = tt
 gives_back R meaning route.Broken handed = tt
 
-pub routes_keep : {V S C R : Type 0} (meaning : S → Meaning) (word : ℕ) → KeepsHandler (whole meaning) (route_calling {V = V} {C = C} {R = R} meaning word)
+pub routes_keep : {V S C R : Type 0} (meaning : S → Meaning) (word : ℕ)
+    → KeepsHandler (whole meaning) (route_calling {V = V} {C = C} {R = R} meaning word)
 routes_keep meaning word = record {
   keeps = record {
     done = λ route handed before after gates reply is. rw is.1 (grows_left word route before);
@@ -87,7 +93,10 @@ routes_keep meaning word = record {
 }
 
 -- where no read is refused, a route replies just what it is to
-pub replies_so : {V S R : Type 0} (meaning : S → Meaning) (route : SampleRoute) (handed : Handed V (SampleBody S)) (gates : List Gate) (reply : Reply R (SampleBody S)) → ReadsAll meaning handed.body gates → Replies meaning route handed gates reply
+pub replies_so : {V S R : Type 0} (meaning : S → Meaning) (route : SampleRoute) (handed : Handed V (SampleBody S))
+    (gates : List Gate) (reply : Reply R (SampleBody S))
+    → ReadsAll meaning handed.body gates
+    → Replies meaning route handed gates reply
     → reply ≡ reply_of meaning route handed
 replies_so meaning route handed gates reply reads is = ⊎_elim
     (λ (same : reply ≡ reply_of meaning route handed). same)
@@ -108,4 +117,5 @@ adds_told None before kept adds = adds
 adds_told (Some word) before kept adds = adds
 
 pub adds_only : {C : Type 0} (word : ℕ) (route : SampleRoute) (kept : Kept C) → AddsOnly kept (left_by word route kept)
-adds_only word route kept = adds_told (told_by word route) kept (with_added (added_by route) kept) (adds_added (added_by route) kept)
+adds_only word route kept =
+    adds_told (told_by word route) kept (with_added (added_by route) kept) (adds_added (added_by route) kept)

@@ -80,7 +80,8 @@ fn refuse_marked<T: Types>(
     ctx: &mut Ctx<T>,
 ) -> Step<Result<Response<T::Stream>, Status>>
     ensures { StepsTo result
-        (λ answer. (answer ≡ refusal 418) × (ctx.new ≡ record ctx.old { kept = with_added (Some (mark_of (codes "k"))) ctx.old.kept }))
+        (λ answer.
+        (answer ≡ refusal 418) × (ctx.new ≡ record ctx.old { kept = with_added (Some (mark_of (codes "k"))) ctx.old.kept }))
         (ctx.new ≡ ctx.old) }
 {
     match mark(alloc, "k", ctx) {

@@ -58,7 +58,8 @@ pub(crate) fn echo<T: Types<Source = S>, S: ToldSource>(
     body: Body0<T>,
     ctx: &mut Ctx<T>,
 ) -> Result<RouteOutcome<T>, NoMemory>
-    ensures reply { IfOk result (Replies S.Source.meaning SampleRoute.Echo (record { request = request.now; body = body }) (ctx.old.gate ∷ [])) }
+    ensures reply { IfOk result
+        (Replies S.Source.meaning SampleRoute.Echo (record { request = request.now; body = body }) (ctx.old.gate ∷ [])) }
     ensures kept { ctx.new ≡ ctx.old }
 {
     match read_text(alloc, request, body, ctx.gate())? {

@@ -81,8 +81,8 @@ fn step<T: Types<Source = S, Reason = R>, S: ToldSource, R: StopReason>(
     ctx: &mut Ctx<T>,
 ) -> Step<RouteOutcome<T>>
     ensures { StepsTo result
-        (λ reply. Replies S.Source.meaning route (record { request = request.now; body = body }) (ctx.old.gate ∷ []) reply × (ctx.new ≡ record ctx.old { kept = left_by R.stop_word route ctx.old.kept }))
-        (ctx.new ≡ ctx.old) }
+        (λ reply. Replies S.Source.meaning route (record { request = request.now; body = body }) (ctx.old.gate ∷ []) reply
+        × (ctx.new ≡ record ctx.old { kept = left_by R.stop_word route ctx.old.kept })) (ctx.new ≡ ctx.old) }
 {
     match reply(alloc, route, request, body, ctx) {
         Ok(reply) => Step::Done(reply),
@@ -98,7 +98,8 @@ fn reply<T: Types<Source = S, Reason = R>, S: ToldSource, R: StopReason>(
     body: Body0<T>,
     ctx: &mut Ctx<T>,
 ) -> Result<RouteOutcome<T>, NoMemory>
-    ensures ok { IfOk result (Replies S.Source.meaning route (record { request = request.now; body = body }) (ctx.old.gate ∷ [])) }
+    ensures ok { IfOk result
+        (Replies S.Source.meaning route (record { request = request.now; body = body }) (ctx.old.gate ∷ [])) }
     ensures kept { OnOk result (ctx.new ≡ record ctx.old { kept = left_by R.stop_word route ctx.old.kept }) }
     ensures err { OnErr result (ctx.new ≡ ctx.old) }
 {

@@ -77,4 +77,4 @@ gains_more a b c bytes at n first second =
 -- where memory was wanting, no read was refused
 pub no_memory_reads : {S X : Type 0} (polled : Polled S) (gate : Gate) (answer : Result X StreamError) (s t : S) → IsErrAnd answer (λ e. e ≡ NoMemory) → ReadsOn polled gate s t → ReadsAs polled gate answer s t
 no_memory_reads polled gate (Ok x) s t h r = absurd h
-no_memory_reads polled gate (Err e) s t h r = rw h r
+no_memory_reads polled gate (Err e) s t h r = rw h (inl r)

@@ -29,8 +29,8 @@ pub record MayServe (requests : List ScriptRequest) (n : ℕ) : Type 0 where
 abbrev pub IsCount : List ℕ → ℕ → Type 0
 IsCount script n = (requests : List ScriptRequest) × Offers script requests × MayServe requests n
 
--- The word that `/stop` tells in the exchange of a request, where it was this one in the exchange before. From the first request
--- for `/stop` on it is 2, that of the reason of the second launch; until then it is none, 0.
+-- The word that `/stop` tells in the exchange of a request, where it was this one in the exchange before. From the
+-- first request for `/stop` on it is 2, that of the reason of the second launch; until then it is none, 0.
 pub record FollowsWord (word : ℕ) (request : ScriptRequest) (next : ℕ) : Type 0 where
   pub stop : IsStop request → next ≡ 2
   pub other : ¬ IsStop request → next ≡ word

@@ -49,34 +49,52 @@ ReadsOnce polled gate (Ok n) s t = AnswersRead polled gate (Ok n) s t
 ReadsOnce polled gate (Err error.Fault) s t = AnswersRead polled gate (Err source_error.SourceFault) s t
 ReadsOnce polled gate (Err error.NoMemory) s t = ⊥
 
--- any number of such reads, each of which gave bytes or the end, lead from the first to the second
+-- any number of such reads, each of which gave bytes, lead from the first to the second
 pub data ReadsOn {S : Type 0} (polled : Polled S) (gate : Gate) : S → S → Type 0 where
   none : {s : S} → ReadsOn polled gate s s
-  more : {s t u : S} {n : ℕ} → ReadsOn polled gate s t → AnswersRead polled gate (Ok n) t u → ReadsOn polled gate s u
+  more : {s t u : S} {n : ℕ} → ReadsOn polled gate s t → 0 < n → AnswersRead polled gate (Ok n) t u → ReadsOn polled gate s u
+
+-- behind such reads the last one was answered so
+abbrev pub ReadsBefore : {S : Type 0} → Polled S → Gate → Result ℕ SourceError → S → S → Type 0
+ReadsBefore polled gate answer s t = (r : _) × ReadsOn polled gate s r × AnswersRead polled gate answer r t
+
+-- such reads, and maybe a last one that met the end: nothing was read behind that
+abbrev pub ReadsToEnd : {S : Type 0} → Polled S → Gate → S → S → Type 0
+ReadsToEnd polled gate s t = ReadsOn polled gate s t ⊎ ReadsBefore polled gate (Ok 0) s t
 
 -- such reads, and then one that the source refused
 abbrev pub ReadsUntil : {S : Type 0} → Polled S → Gate → S → S → Type 0
-ReadsUntil polled gate s t = (r : _) × ReadsOn polled gate s r × AnswersRead polled gate (Err source_error.SourceFault) r t
+ReadsUntil polled gate s t = ReadsBefore polled gate (Err source_error.SourceFault) s t
 
--- what an answer tells of the reads: none but the last was refused, and a fault is that one's
+-- what an answer tells of the reads: none but the last was refused or met the end, and a fault is that one's
 abbrev pub ReadsAs : {S X : Type 0} → Polled S → Gate → Result X StreamError → S → S → Type 0
-ReadsAs polled gate (Ok x) s t = ReadsOn polled gate s t
+ReadsAs polled gate (Ok x) s t = ReadsToEnd polled gate s t
 ReadsAs polled gate (Err error.Fault) s t = ReadsUntil polled gate s t
-ReadsAs polled gate (Err error.NoMemory) s t = ReadsOn polled gate s t
+ReadsAs polled gate (Err error.NoMemory) s t = ReadsToEnd polled gate s t
 
 -- any number of writes, each of which was Pending or took some bytes of the front of its piece, lead from the first to the
 -- second; these are the bytes
 pub data WritesOn {K : Type 0} (written : K → List ℕ → Poll (Result ℕ SinkError) → K → Type 0) : K → List ℕ → K → Type 0 where
   none : {k : K} → WritesOn written k [] k
-  waits : {k l m : K} {bytes piece : List ℕ} → WritesOn written k bytes l → written l piece Pending m → WritesOn written k bytes m
-  more : {k l m : K} {bytes piece : List ℕ} {n : ℕ} → WritesOn written k bytes l → 0 < n → written l piece (Ready (Ok n)) m → WritesOn written k (bytes ++ take n piece) m
+  waits : {k l m : K} {bytes piece : List ℕ}
+      → WritesOn written k bytes l
+      → written l piece Pending m
+      → WritesOn written k bytes m
+  more : {k l m : K} {bytes piece : List ℕ} {n : ℕ}
+      → WritesOn written k bytes l
+      → 0 < n
+      → written l piece (Ready (Ok n)) m
+      → WritesOn written k (bytes ++ take n piece) m
 
 -- such writes of a front of the bytes, and then the sink refused what was left
-abbrev pub WritesUntil : {K : Type 0} → (K → List ℕ → Poll (Result ℕ SinkError) → K → Type 0) → SinkError → K → List ℕ → K → Type 0
-WritesUntil written e k bytes l = (n : ℕ) × (m : _) × (n < length bytes) × WritesOn written k (take n bytes) m × RefusesPiece written e m (drop n bytes) l
+abbrev pub WritesUntil : {K : Type 0} → (K → List ℕ → Poll (Result ℕ SinkError) → K → Type 0) → SinkError → K → List ℕ → K
+    → Type 0
+WritesUntil written e k bytes l =
+    (n : ℕ) × (m : _) × (n < length bytes) × WritesOn written k (take n bytes) m × RefusesPiece written e m (drop n bytes) l
 
 -- what an answer tells of the writes of these bytes
-abbrev pub WritesAs : {K X : Type 0} → (K → List ℕ → Poll (Result ℕ SinkError) → K → Type 0) → Result X StreamError → K → List ℕ → K → Type 0
+abbrev pub WritesAs : {K X : Type 0} → (K → List ℕ → Poll (Result ℕ SinkError) → K → Type 0) → Result X StreamError → K → List ℕ
+    → K → Type 0
 WritesAs written (Ok x) k bytes l = WritesOn written k bytes l
 WritesAs written (Err error.Fault) k bytes l = WritesUntil written sink_error.SinkFault k bytes l
 WritesAs written (Err error.NoMemory) k bytes l = WritesUntil written sink_error.NoMemory k bytes l

@@ -23,7 +23,8 @@ with_setting table word = insert_entry bytes_eq table (before_first is_equals wo
 abbrev pub Settings : List (List ℕ) → Table → Table → Type 0
 Settings [] before after = after ≡ before
 Settings (flag ∷ []) before after = ⊥
-Settings (flag ∷ word ∷ words) before after = (flag ≡ codes "--config") × IsTrue (is_setting word) × Settings words (with_setting before word) after
+Settings (flag ∷ word ∷ words) before after =
+    (flag ≡ codes "--config") × IsTrue (is_setting word) × Settings words (with_setting before word) after
 
 -- the word `serve`, and settings that give this table
 abbrev pub Commands : List (List ℕ) → Table → Type 0

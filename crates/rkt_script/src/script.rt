@@ -196,7 +196,8 @@ fn read_header(
     content: &[u8],
 ) -> Result<(), Want<BadContent>>
     ensures read { OnOk result (Adds requests.old.items content.now requests.new.items) }
-    ensures refused { IfRefused result (λ _. 0 < length requests.old.items → (name value : List ℕ) → ¬ IsHeader content.now name value) }
+    ensures refused { IfRefused result (λ _.
+        0 < length requests.old.items → (name value : List ℕ) → ¬ IsHeader content.now name value) }
 {
     let Some((name, value)) = read_field(content) else {
         return Err(Want::Refused(BadContent));

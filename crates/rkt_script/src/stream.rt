@@ -81,7 +81,8 @@ pub fn read_all<R: Wait, S: Source>(
 ) -> Result<Vec<u8>, StreamError>
     requires { (S.meaning source.old).warned ≡ false }
     ensures polled { ReadsAs S.polled GATE result source.old source.new }
-    ensures bytes { IfOk result (λ v. ForSome (S.meaning source.old).whole (λ whole. v.items ≡ take most (drop (S.meaning source.old).taken whole))) }
+    ensures bytes { IfOk result (λ v.
+        ForSome (S.meaning source.old).whole (λ whole. v.items ≡ take most (drop (S.meaning source.old).taken whole))) }
     ensures taken { OnOk result (IsReadTo most (S.meaning source.old) (S.meaning source.new)) }
     ensures bound { (S.meaning source.new).taken ≤ (S.meaning source.old).taken + most }
     ensures unwarned { (S.meaning source.new).warned ≡ false }

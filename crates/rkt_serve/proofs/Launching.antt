@@ -3,12 +3,11 @@ use Rattle.std.proofs.Common.{inl, inr, ◌≡◌, ◌<◌, ◌⊎◌, ◌∙◌
 use Rattle.std.specs.Prelude.{IfOk, IfSome}
 use Rattle.std.specs.List.{list_any}
 use Rattle.std.specs.Option.{ForSome}
-use Rattle.rkt_lifecycle.specs.Tables.{SeenTables}
+use Rattle.rkt_exchange.specs.Tables.{SeenTables}
 use Rattle.rkt_life.specs.Rocket.{SeenRocket}
 use Rattle.rkt_link.specs.Asked.{Asked}
 use Rattle.rkt_link.specs.Clock.{ClockMeaning, TellsOn}
 use Rattle.rkt_link.specs.Listener.{ListenerMeaning, Settled}
-use Rattle.rkt_orbit.specs.Calls.{CallingAtShutdown}
 use Rattle.rkt_turn.specs.HandsBack.{HandsBack}
 use Rattle.rkt_turn.specs.Shutdown.{Handle}
 use Rattle.rkt_board.specs.Board.{SoundAs}
@@ -24,17 +23,17 @@ use Rattle.rkt_serve.specs.Kept.{GivesBack, IfUnlit, IsLit}
 use Rattle.rkt_serve.specs.declared.error.ErrorKindOf.{ErrorKindOf}
 use Rattle.rkt_serve.specs.declared.error.ErrorKindOf.TheVariants.{Ignition, Shutdown, NoMemory}
 use Rattle.rkt_serve.specs.Left.{IsLeft}
-use Rattle.rkt_worker.specs.Serving.{Serving}
+use Rattle.rkt_worker.specs.Serving.{Launching}
 use Rattle.rkt_worker.specs.Waiting.{MayAbandon}
 use Rattle.rkt_serve.specs.declared.error.LaunchedOf.{LaunchedOf}
 
-module _ {V S C R F FTask GTask STask H HTask K KTask L N X Q : Type 0} (allowed : ℕ → Type 0) (shuts : CallingAtShutdown H K N V F STask) (served : Serving V S C R F FTask GTask H HTask K KTask L) (listeners : X → ListenerMeaning) (tables : SeenTables F H K N V)
+module _ {V S C R F FTask GTask STask H HTask K KTask N L X Q : Type 0} (launch : Launching V S C R F FTask GTask STask H HTask K KTask N L) (listeners : X → ListenerMeaning) (tables : SeenTables F H K N V)
     (table : List (List ℕ × List ℕ)) (closed : ClosedOf X Q Handle (HistoryOf C R L)) where
   abbrev IsMade : LaunchedOf (SeenRocket F H K N V) X Q (HistoryOf C R L) → Type 0
   IsMade launched = IsLeft tables table closed launched
 
-  pub left_legal : (launched : LaunchedOf (SeenRocket F H K N V) X Q (HistoryOf C R L)) → IsMade launched → IsLegal allowed shuts served tables (listeners closed.listener).given closed.history.events
-      → IsLegal allowed shuts served launched.rocket.tables (listeners launched.listener).given launched.history.events
+  pub left_legal : (launched : LaunchedOf (SeenRocket F H K N V) X Q (HistoryOf C R L)) → IsMade launched → IsLegal launch tables (listeners closed.listener).given closed.history.events
+      → IsLegal launch launched.rocket.tables (listeners launched.listener).given launched.history.events
   left_legal launched is legal = rw (is.tables_are, is.listener, is.history) legal
 
 -- the same, of a board whose handle had not come back
@@ -107,11 +106,11 @@ pub back_to : (first lent left closed after : Handle) → lent ≡ first → Han
 back_to first lent left closed after same lifted one two = subst (λ (h : Handle). HandsBack h after) same (hands_back_more lent left after lifted (hands_back_more left closed after one two))
 
 -- a listener that never fails has not, so that an exchange was abandoned
-pub left_abandoned : {V S C R F FTask GTask STask H HTask K KTask L N X Q : Type 0} (allowed : ℕ → Type 0) (shuts : CallingAtShutdown H K N V F STask) (served : Serving V S C R F FTask GTask H HTask K KTask L) (tables : SeenTables F H K N V)
+pub left_abandoned : {V S C R F FTask GTask STask H HTask K KTask N L X Q : Type 0} (launch : Launching V S C R F FTask GTask STask H HTask K KTask N L) (tables : SeenTables F H K N V)
     (table : List (List ℕ × List ℕ)) (closed : ClosedOf X Q Handle (HistoryOf C R L)) (launched : LaunchedOf (SeenRocket F H K N V) X Q (HistoryOf C R L)) → IsLeft tables table closed launched → closed.faulted ≡ false
-    → AllCaused allowed shuts served tables closed.history.events → AllTimed served.window closed.history.events → (closed.faulted ≡ true) ⊎ (list_any is_abandoned closed.history.events ≡ true) → MayAbandon allowed served launched.rocket.tables
-left_abandoned allowed shuts served tables table closed launched is sound caused timed (inl failed) = absurd (cc (failed, sound))
-left_abandoned allowed shuts served tables table closed launched is sound caused timed (inr abandoned) = rw is.tables_are (may_abandon allowed shuts served tables closed.history.events caused timed abandoned)
+    → AllCaused launch tables closed.history.events → AllTimed launch.serving.window closed.history.events → (closed.faulted ≡ true) ⊎ (list_any is_abandoned closed.history.events ≡ true) → MayAbandon launch launched.rocket.tables
+left_abandoned launch tables table closed launched is sound caused timed (inl failed) = absurd (cc (failed, sound))
+left_abandoned launch tables table closed launched is sound caused timed (inr abandoned) = rw is.tables_are (may_abandon launch tables closed.history.events caused timed abandoned)
 
 -- what was lent is of the wire that the handle is of
 pub same_wire : (back : Option Handle) (lent handle closed : Handle) → IfSome back (HandsBack lent) → HandsBack handle closed → lent.wire ≡ handle.wire → IfSome back (λ other. other.wire ≡ closed.wire)

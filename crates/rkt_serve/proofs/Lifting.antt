@@ -5,14 +5,14 @@ use Rattle.rkt_board.specs.declared.closing.ClosedOf.{ClosedOf}
 use Rattle.rkt_board.specs.declared.history.EventOf.{EventOf}
 use Rattle.rkt_board.specs.declared.history.HistoryOf.{HistoryOf}
 use Rattle.rkt_life.specs.Rocket.{SeenRocket}
-use Rattle.rkt_lifecycle.specs.Tables.{SeenTables}
-use Rattle.rkt_orbit.specs.Calls.{CallingAtLiftoff}
-use Rattle.rkt_orbit.specs.Lifts.{Lifts}
-use Rattle.rkt_orbit.specs.declared.called.Called.{Called}
+use Rattle.rkt_exchange.specs.Tables.{SeenTables}
+use Rattle.rkt_fairing.specs.Calls.{CallingAtLiftoff}
+use Rattle.rkt_fairing.specs.Lifts.{Lifts}
+use Rattle.rkt_fairing.specs.declared.called.Called.{Called}
 use Rattle.rkt_turn.specs.HandsBackLaws.{hands_back_more}
 use Rattle.rkt_serve.specs.Left.{IsLeft}
 use Rattle.rkt_serve.specs.Lifted.{LiftsOff, IsLifted}
-use Rattle.rkt_lifecycle.specs.View.{view_of}
+use Rattle.rkt_exchange.specs.View.{view_of}
 use Rattle.rkt_serve.specs.declared.error.LaunchedOf.{LaunchedOf}
 use Rattle.rkt_turn.specs.HandsBack.{HandsBack}
 use Rattle.rkt_turn.specs.Shutdown.{Handle}

@@ -92,7 +92,8 @@ impl<A: App, L: Listener, C: Clock> Model for Error<A, L, C> {
     ghost use Rattle.rkt_serve.specs.declared.error.LaunchedOf.{LaunchedOf};
     ghost use Rattle.rkt_board.specs.declared.history.HistoryOf.{HistoryOf};
 
-    ghost Value = { ErrorKindOf (LaunchedOf (SeenRocket A.Fairing A.Handler A.Catch A.Sentinel A.Value) L C (HistoryOf A.Cached A.Stream L.Link)) L C };
+    ghost Value = { ErrorKindOf
+        (LaunchedOf (SeenRocket A.Fairing A.Handler A.Catch A.Sentinel A.Value) L C (HistoryOf A.Cached A.Stream L.Link)) L C };
 
     ghost view = { λ e. e.kind };
 }

@@ -6,10 +6,11 @@ mod launch;
 
 pub use error::{Error, ErrorKind, ErrorKindOf, Launched, LaunchedOf};
 pub use launch::Launch;
+pub use rkt_base::Boxed;
 pub use rkt_board::{End, Entry, EntryOf, Event, EventOf, Failure, History, HistoryOf};
+pub use rkt_fairing::Called;
 pub use rkt_link::{
-    Accepted, Boxed, Clock, Handed, Link, Links, ListClock, ListListener, Listener, MemoryLink,
-    SendError, SystemClock,
+    Accepted, CancellableListener, Clock, Delivery, Link, Links, ListClock, ListListener, Listener,
+    MemoryLink, SendError, SystemClock,
 };
-pub use rkt_orbit::Called;
 pub use rkt_worker::{Gates, send};

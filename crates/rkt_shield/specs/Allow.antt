@@ -35,7 +35,8 @@ NamesHost (Origin uri) = HasHost uri
 abbrev pub quoted_origin : List ℕ → Option (List ℕ) → Option ℕ → List ℕ
 quoted_origin scheme None port = codes "\"" ++ scheme ++ codes "\""
 quoted_origin scheme (Some host) None = codes "\"" ++ scheme ++ codes "://" ++ host ++ codes "\""
-quoted_origin scheme (Some host) (Some port) = codes "\"" ++ scheme ++ codes "://" ++ host ++ codes ":" ++ decimal port ++ codes "\""
+quoted_origin scheme (Some host) (Some port) =
+    codes "\"" ++ scheme ++ codes "://" ++ host ++ codes ":" ++ decimal port ++ codes "\""
 
 -- the origin that the text of an absolute URI says
 abbrev pub origin_text : List ℕ → List ℕ
@@ -48,5 +49,8 @@ allow_text (Origin uri) = origin_text uri
 
 -- what is written for an origin is the scheme, the host and the port of the absolute URI that its text spells
 abbrev pub PrintsWhatItSpells : Type 0
-PrintsWhatItSpells = (text : List ℕ) (uri : AbsoluteUri) → SpellsAbsolute text uri
-    → origin_text text ≡ quoted_origin uri.scheme (option_map (λ (site : Site). site.host.domain) uri.site) (option_and_then (λ (site : Site). site.host.port) uri.site)
+PrintsWhatItSpells =
+    (text : List ℕ) (uri : AbsoluteUri)
+    → SpellsAbsolute text uri
+    → origin_text text ≡ quoted_origin uri.scheme (option_map (λ (site : Site). site.host.domain) uri.site)
+    (option_and_then (λ (site : Site). site.host.port) uri.site)

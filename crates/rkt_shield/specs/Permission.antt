@@ -31,5 +31,7 @@ permission_text rules = join_by rule_text (codes ", ") rules
 
 -- of the feature that something was said of last, that is said, and of each other what was said before
 abbrev pub SaysWhatWasSaid : (Feature → Feature → Bool) → Type 0
-SaysWhatWasSaid same = (rules : List Rule) (feature other : Feature) (list : Option (List Allow))
-    → allowed_by (same other) (insert_entry same rules feature list) ≡ (if same other feature then list else allowed_by (same other) rules)
+SaysWhatWasSaid same =
+    (rules : List Rule) (feature other : Feature) (list : Option (List Allow))
+    → allowed_by (same other) (insert_entry same rules feature list)
+    ≡ (if same other feature then list else allowed_by (same other) rules)

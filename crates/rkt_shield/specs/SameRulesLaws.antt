@@ -59,31 +59,46 @@ module _ (same : Feature → Feature → Bool) (laws : IsEquivalence same) where
   abbrev Found : List Rule → Feature → Option (List Allow) → Type 0
   Found c k list = (k' : Feature) × (same k k' ≡ true) × (says same c (k', list) ≡ true)
 
-  found : (c b : List Rule) (k : Feature) (list : Option (List Allow)) → says_all same c b ≡ true → lookup (same k) b ≡ Some list → Found c k list
+  found : (c b : List Rule) (k : Feature) (list : Option (List Allow))
+      → says_all same c b ≡ true
+      → lookup (same k) b ≡ Some list
+      → Found c k list
   found c [] k list all is = absurd (cc is)
   found c (rule ∷ rules) k list all is =
-      by_test (same k rule.0) refl is (λ rest. found c rules k list (second (says same c rule) (says_all same c rules) all) rest)
+      by_test (same k rule.0) refl is (λ rest.
+      found c rules k list (second (says same c rule) (says_all same c rules) all) rest)
     where
-      by_test : (t : Bool) → same k rule.0 ≡ t → cond t (Some rule.1) (lookup (same k) rules) ≡ Some list → (lookup (same k) rules ≡ Some list → Found c k list) → Found c k list
+      by_test : (t : Bool)
+          → same k rule.0 ≡ t
+          → cond t (Some rule.1) (lookup (same k) rules) ≡ Some list
+          → (lookup (same k) rules ≡ Some list → Found c k list)
+          → Found c k list
       by_test true e is rest =
           let P : Option (List Allow) → Type 0 = λ said. says same c (rule.0, said) ≡ true in
           (rule.0, e, subst P (cc is) (first (says same c rule) (says_all same c rules) all))
       by_test false e is rest = rest is
 
   -- what is the same as something that is said is said
-  handed : (said : Option (Option (List Allow))) (a b : Option (List Allow)) → said_same said a ≡ true → same_list a b ≡ true → said_same said b ≡ true
+  handed : (said : Option (Option (List Allow))) (a b : Option (List Allow))
+      → said_same said a ≡ true
+      → same_list a b ≡ true
+      → said_same said b ≡ true
   handed None a b p q = p
   handed (Some said) a b p q = (partial_equiv_from_equiv same_list_equiv).trans said a b p q
 
   one_says : (c b : List Rule) (rule : Rule) → says same b rule ≡ true → says_all same c b ≡ true → says same c rule ≡ true
   one_says c b rule p all = by_said (lookup (same rule.0) b) refl p
     where
-      by_said : (said : Option (Option (List Allow))) → lookup (same rule.0) b ≡ said → said_same said rule.1 ≡ true → says same c rule ≡ true
+      by_said : (said : Option (Option (List Allow)))
+          → lookup (same rule.0) b ≡ said
+          → said_same said rule.1 ≡ true
+          → says same c rule ≡ true
       by_said None e p = absurd (cc p)
       by_said (Some list) e p =
           let there = found c b rule.0 list all e in
           let alike : same there.0 ≡ same rule.0 = λ i other. sym (laws.congr rule.0 there.0 other there.1) i in
-          let now : said_same (lookup (same rule.0) c) list ≡ true = subst (λ (test : Feature → Bool). said_same (lookup test c) list ≡ true) alike there.2 in
+          let now : said_same (lookup (same rule.0) c) list ≡ true = subst (λ (test : Feature → Bool).
+          said_same (lookup test c) list ≡ true) alike there.2 in
           handed (lookup (same rule.0) c) list rule.1 now p
 
   all_say : (c b a : List Rule) → says_all same b a ≡ true → says_all same c b ≡ true → says_all same c a ≡ true

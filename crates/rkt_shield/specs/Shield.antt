@@ -22,7 +22,8 @@ has_name name field = str_eq_ignore_ascii_case field.name name
 
 -- the headers whose names come before that of the new one, the new one, and those whose names come behind it
 abbrev pub enabled : List Field → Field → List Field
-enabled fields new = filter (λ field. comes_before field.name new.name) fields ++ new ∷ filter (λ field. comes_before new.name field.name) fields
+enabled fields new =
+    filter (λ field. comes_before field.name new.name) fields ++ new ∷ filter (λ field. comes_before new.name field.name) fields
 
 -- the headers of other names
 abbrev pub disabled : List Field → List ℕ → List Field

@@ -1,8 +1,8 @@
-ghost use Rattle.std.specs.Prelude.{◌≡◌, ◌↔◌, IfOk, IsTrue};
+ghost use Rattle.std.specs.Prelude.{◌≡◌, ◌↔◌, IsTrue};
 ghost use Rattle.rkt_shield.specs.Allow.{HasHost, NamesHost, is_any};
 ghost use Rattle.rkt_shield.specs.SameRules.{is_this, is_origin};
 
-use rkt_base::NoMemory;
+use rkt_base::{NoMemory, TryClone};
 use rkt_http::Absolute;
 use std::alloc::Global;
 use thiserror::Error;
@@ -34,18 +34,17 @@ fn has_host(uri: &Absolute) -> bool
     }
 }
 
-impl Allow {
-    /// The same, with a URI in a text of its own.
-    pub(crate) fn try_clone(&self, alloc: Global) -> Result<Allow, NoMemory>
-        ensures { IfOk result (λ copy. copy ≡ self.now) }
-    {
+impl TryClone for Allow {
+    fn try_clone(&self, alloc: Global) -> Result<Allow, NoMemory> {
         match self {
             Allow::Any => Ok(Allow::Any),
             Allow::This => Ok(Allow::This),
             Allow::Origin(uri) => Ok(Allow::Origin(uri.try_clone(alloc)?)),
         }
     }
+}
 
+impl Allow {
     pub(crate) fn is_any(&self) -> bool
         ensures { result ≡ is_any self.now }
     {

@@ -5,7 +5,7 @@ ghost use Rattle.rkt_shield.specs.Allow.{is_any, kept, NamesHost};
 ghost use Rattle.rkt_shield.specs.declared.allow.Allow.TheVariants.{Any};
 
 use crate::allow::{Allow, OriginWithoutHost};
-use rkt_base::{NoMemory, Want};
+use rkt_base::{NoMemory, Want, copy_all};
 use std::alloc::Global;
 use std::marker::Model;
 
@@ -22,16 +22,6 @@ impl Model for AllowList {
     ghost Value = { List Allow };
 
     ghost view = { λ l. l.items.items };
-}
-
-fn copied(alloc: Global, allow: &[Allow]) -> Result<Vec<Allow>, NoMemory>
-    ensures { IfOk result (λ copies. copies.items ≡ allow.now) }
-{
-    let mut copies = Vec::with_capacity(alloc, allow.len())?;
-    for one in allow {
-        copies.push(one.try_clone(alloc)?)?;
-    }
-    Ok(copies)
 }
 
 fn any_alone(alloc: Global) -> Result<Vec<Allow>, NoMemory>
@@ -93,6 +83,6 @@ pub(crate) fn kept_list(
     if !name_hosts(allow) {
         return Err(Want::Refused(OriginWithoutHost));
     }
-    let items = copied(alloc, allow)?;
+    let items = copy_all(alloc, allow)?;
     Ok(AllowList { items })
 }

@@ -1,3 +1,4 @@
+pub mod Cancels
 pub mod MemoryLemmas
 pub mod Sinks
 pub mod Sources

@@ -29,10 +29,20 @@ pub record SinkInMemory : Type 0 where
   pub faults : ℕ
 
 abbrev pub source_meaning : SourceInMemory → Meaning
-source_meaning s = record { whole = Some s.bytes; taken = s.at; faults = s.faults; never_faults = nat_eq (length s.fails) 0; warned = false; shut = false; pended = 0; pendings = 0 }
+source_meaning s = record {
+  whole = Some s.bytes;
+  taken = s.at;
+  faults = s.faults;
+  never_faults = nat_eq (length s.fails) 0;
+  warned = false;
+  shut = false;
+  pended = 0;
+  pendings = 0;
+}
 
 abbrev pub sink_meaning : SinkInMemory → SinkMeaning
-sink_meaning s = record { held = Some s.bytes; faults = s.faults; never_faults = nat_eq (length s.fails) 0; pended = 0; pendings = 0 }
+sink_meaning s =
+    record { held = Some s.bytes; faults = s.faults; never_faults = nat_eq (length s.fails) 0; pended = 0; pendings = 0 }
 
 -- the next count of a u64, which stays at its end
 abbrev pub counted : ℕ → ℕ
@@ -47,10 +57,13 @@ abbrev pub next_bytes : SourceInMemory → ℕ → List ℕ
 next_bytes s room = take (min s.chunk room) (drop s.at s.bytes)
 
 abbrev pub ReadsUnless : Bool → SourceInMemory → SourceInMemory → List ℕ → List ℕ → Result ℕ SourceError → Type 0
-ReadsUnless true s t old new answer = (t ≡ record s { calls = counted s.calls; faults = counted s.faults }) × (new ≡ old) × (answer ≡ Err SourceFault)
+ReadsUnless true s t old new answer =
+    (t ≡ record s { calls = counted s.calls; faults = counted s.faults }) × (new ≡ old) × (answer ≡ Err SourceFault)
 ReadsUnless false s t old new answer =
     let next = next_bytes s (length old) in
-    (t ≡ record s { at = s.at + length next; calls = counted s.calls }) × (new ≡ next ++ drop (length next) old) × (answer ≡ Ok (length next))
+    (t ≡ record s { at = s.at + length next; calls = counted s.calls })
+    × (new ≡ next ++ drop (length next) old)
+    × (answer ≡ Ok (length next))
 
 -- a read into a buffer that held `old` and holds `new`: the next bytes, or a fault where the call's number is listed
 abbrev pub ReadsNext : SourceInMemory → SourceInMemory → List ℕ → List ℕ → Result ℕ SourceError → Type 0
@@ -60,14 +73,16 @@ abbrev pub CountsUnless : Bool → SourceInMemory → ℕ → Poll (Result ℕ S
 CountsUnless true s room answer t =
     (t ≡ record s { calls = counted s.calls; faults = counted s.faults }) × (answer ≡ Ready (Err SourceFault))
 CountsUnless false s room answer t =
-    (t ≡ record s { at = s.at + length (next_bytes s room); calls = counted s.calls }) × (answer ≡ Ready (Ok (length (next_bytes s room))))
+    (t ≡ record s { at = s.at + length (next_bytes s room); calls = counted s.calls })
+    × (answer ≡ Ready (Ok (length (next_bytes s room))))
 
 -- a read with this much room: how many bytes it gives, which are the next ones, or a fault where the call's number is listed
 abbrev pub ReadsCounted : SourceInMemory → ℕ → Poll (Result ℕ SourceError) → SourceInMemory → Type 0
 ReadsCounted s room answer t = CountsUnless (is_listed s.fails s.calls) s room answer t
 
 abbrev pub WritesUnless : Bool → SinkInMemory → SinkInMemory → List ℕ → Result ℕ SinkError → Type 0
-WritesUnless true s t piece answer = (t ≡ record s { calls = counted s.calls; faults = counted s.faults }) × (answer ≡ Err SinkFault)
+WritesUnless true s t piece answer =
+    (t ≡ record s { calls = counted s.calls; faults = counted s.faults }) × (answer ≡ Err SinkFault)
 WritesUnless false s t piece (Ok n) = (t ≡ record s { bytes = s.bytes ++ piece; calls = counted s.calls }) × (n ≡ length piece)
 WritesUnless false s t piece (Err e) = (t ≡ record s { calls = counted s.calls }) × (e ≡ NoMemory)
 

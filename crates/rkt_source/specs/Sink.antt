@@ -51,18 +51,25 @@ Writes m n piece (Ready (Err e)) = (n.held ≡ m.held) × SinkErrs e m n
 -- the bytes
 pub data Feeds {K : Type 0} (written : K → List ℕ → Poll (Result ℕ SinkError) → K → Type 0) : K → List ℕ → K → Type 0 where
   none : {k : K} → Feeds written k [] k
-  more : {k l m : K} {bytes piece : List ℕ} {n : ℕ} → Feeds written k bytes l → 0 < n → written l piece (Ready (Ok n)) m → Feeds written k (bytes ++ take n piece) m
+  more : {k l m : K} {bytes piece : List ℕ} {n : ℕ}
+      → Feeds written k bytes l
+      → 0 < n
+      → written l piece (Ready (Ok n)) m
+      → Feeds written k (bytes ++ take n piece) m
 
 -- how several writes have ended: each took some bytes, or the last was refused or Pending
 abbrev pub FeedEnding : Type 0
 FeedEnding = Poll (Result (Unit {0}) SinkError)
 
 -- a write of this piece was refused: with this error, or it took nothing, which is a fault
-abbrev pub RefusesPiece : {K : Type 0} → (K → List ℕ → Poll (Result ℕ SinkError) → K → Type 0) → SinkError → K → List ℕ → K → Type 0
+abbrev pub RefusesPiece : {K : Type 0} → (K → List ℕ → Poll (Result ℕ SinkError) → K → Type 0) → SinkError → K → List ℕ → K
+    → Type 0
 RefusesPiece written e k piece l = written k piece (Ready (Err e)) l ⊎ ((e ≡ SinkFault) × written k piece (Ready (Ok 0)) l)
 
 -- writes by which the sink took these bytes have ended so: none but the last was refused or Pending
 abbrev pub FeedsTo : {K : Type 0} → (K → List ℕ → Poll (Result ℕ SinkError) → K → Type 0) → FeedEnding → K → List ℕ → K → Type 0
-FeedsTo written Pending k bytes l = (m : _) × (piece : List ℕ) × (0 < length piece) × Feeds written k bytes m × written m piece Pending l
+FeedsTo written Pending k bytes l =
+    (m : _) × (piece : List ℕ) × (0 < length piece) × Feeds written k bytes m × written m piece Pending l
 FeedsTo written (Ready (Ok x)) k bytes l = Feeds written k bytes l
-FeedsTo written (Ready (Err e)) k bytes l = (m : _) × (piece : List ℕ) × (0 < length piece) × Feeds written k bytes m × RefusesPiece written e m piece l
+FeedsTo written (Ready (Err e)) k bytes l =
+    (m : _) × (piece : List ℕ) × (0 < length piece) × Feeds written k bytes m × RefusesPiece written e m piece l

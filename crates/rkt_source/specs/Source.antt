@@ -80,5 +80,6 @@ Gives whole at n buf = (take n buf ≡ take n (drop at whole)) × (n ≡ 0 → a
 -- what a read answers, into a buffer that held `old` and holds `new`
 abbrev pub Answers : Meaning → Meaning → List ℕ → List ℕ → Poll (Result ℕ SourceError) → Type 0
 Answers m n old new Pending = (n.taken ≡ m.taken) × Waits m n
-Answers m n old new (Ready (Ok k)) = (k ≤ length old) × (n.taken ≡ m.taken + k) × (0 < length old → ForSome m.whole (λ w. Gives w m.taken k new))
+Answers m n old new (Ready (Ok k)) =
+    (k ≤ length old) × (n.taken ≡ m.taken + k) × (0 < length old → ForSome m.whole (λ w. Gives w m.taken k new))
 Answers m n old new (Ready (Err e)) = (n.taken ≡ m.taken) × Errs e m n

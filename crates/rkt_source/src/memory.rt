@@ -25,7 +25,14 @@ impl Model for MemorySource {
 
     ghost Value = { SourceInMemory };
 
-    ghost view = { λ s. record { bytes = s.bytes.items; at = s.at; chunk = s.chunk; fails = s.fails.items; calls = s.calls; faults = s.faults } };
+    ghost view = { λ s. record {
+      bytes = s.bytes.items;
+      at = s.at;
+      chunk = s.chunk;
+      fails = s.fails.items;
+      calls = s.calls;
+      faults = s.faults;
+    } };
 
     ghost invariant = { λ s. (s.at ≤ vec_len s.bytes) × (1 ≤ s.chunk) };
 }
@@ -36,7 +43,8 @@ impl MemorySource {
     /// Gives at most `chunk` bytes per read, 0 counting as 1; the reads into a buffer that is not empty are numbered
     /// from 0, and those whose numbers stand in `fails` are refused.
     pub fn new(bytes: Vec<u8>, chunk: usize, fails: Vec<u64>) -> MemorySource
-        ensures { result ≡ record { bytes = bytes.items; at = 0; chunk = max chunk 1; fails = fails.items; calls = 0; faults = 0 } }
+        ensures { result
+            ≡ record { bytes = bytes.items; at = 0; chunk = max chunk 1; fails = fails.items; calls = 0; faults = 0 } }
     {
         MemorySource {
             bytes,

@@ -59,7 +59,9 @@ pub trait Source: Shut {
     ghost shut_is_warned: { (s : Self) → IsTrue (meaning s).shut → IsTrue (meaning s).warned };
 
     /// A shutdown changes nothing but how many polls were Pending.
-    ghost shutdown_keeps: { (s t : Self) (answer : Poll (Unit {0})) → Self.shuts s answer t → Shuts (meaning s) answer (meaning t) };
+    ghost shutdown_keeps: { (s t : Self) (answer : Poll (Unit {0}))
+        → Self.shuts s answer t
+        → Shuts (meaning s) answer (meaning t) };
 
     /// No more of its polls were Pending than its bound says.
     ghost waits_within: { (s : Self) → (meaning s).pended ≤ (meaning s).pendings };

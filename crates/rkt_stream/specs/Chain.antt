@@ -54,6 +54,11 @@ abbrev pub SamePlace : {T U : Type 0} → Chained T U → Chained T U → Type 0
 SamePlace a b = (b.skipped ≡ a.skipped) × (b.over ≡ a.over)
 
 -- the first is shut down, and then the second
-abbrev pub ShutsChained : {T U : Type 0} → (T → Poll (Unit {0}) → T → Type 0) → (U → Poll (Unit {0}) → U → Type 0) → Chained T U → Poll (Unit {0}) → Chained T U → Type 0
-ShutsChained first second a Pending b = SamePlace a b × (((b.second ≡ a.second) × first a.first Pending b.first) ⊎ (first a.first (Ready tt) b.first × second a.second Pending b.second))
-ShutsChained first second a (Ready answer) b = SamePlace a b × first a.first (Ready tt) b.first × second a.second (Ready tt) b.second
+abbrev pub ShutsChained : {T U : Type 0} → (T → Poll (Unit {0}) → T → Type 0) → (U → Poll (Unit {0}) → U → Type 0) → Chained T U
+    → Poll (Unit {0}) → Chained T U → Type 0
+ShutsChained first second a Pending b =
+    SamePlace a b
+    × (((b.second ≡ a.second) × first a.first Pending b.first)
+    ⊎ (first a.first (Ready tt) b.first × second a.second Pending b.second))
+ShutsChained first second a (Ready answer) b =
+    SamePlace a b × first a.first (Ready tt) b.first × second a.second (Ready tt) b.second

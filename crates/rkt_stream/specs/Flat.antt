@@ -89,11 +89,15 @@ module _ {S I : Type 0} (flow : S → Flow I) (meaning : I → Meaning) where
   module _ (may_give : S → I → Type 0) where
     -- each source is given fresh, and where the stream tells none, none is Pending more often than the stream
     abbrev pub GivesFresh : S → Type 0
-    GivesFresh s = (x : I) → may_give s x → IsFresh (meaning x) × ((flow s).rest ≡ None → (meaning x).pendings ≤ (flow s).pendings)
+    GivesFresh s =
+        (x : I) → may_give s x → IsFresh (meaning x) × ((flow s).rest ≡ None → (meaning x).pendings ≤ (flow s).pendings)
 
     -- all bytes are those given and those left; a source that was warned was so in a read of this one
     pub record IsFlat (f : Flat S I) : Type 0 where
-      pub bytes : ForSome (told_left meaning (flow f.begun).rest) (λ w. (given : List ℕ) × (rest : List ℕ) × (bytes_left f.running ≡ Some rest) × (w ≡ given ++ rest) × (length given ≡ f.taken))
+      pub bytes : ForSome (told_left meaning (flow f.begun).rest) (λ w. (given : List ℕ) × (rest : List ℕ)
+          × (bytes_left f.running ≡ Some rest)
+          × (w ≡ given ++ rest)
+          × (length given ≡ f.taken))
       pub waits : waits_left f.running ≤ stream_waits f.begun
       pub fresh : GivesFresh f.running.stream
       pub warned : IsWarned meaning f.running.item → IsTrue f.warned
@@ -112,11 +116,16 @@ module _ {S I : Type 0} (flow : S → Flow I) (meaning : I → Meaning) where
   -- what a read answers, into a buffer that held `old` and holds `new`
   abbrev pub Advances : Running S I → Running S I → List ℕ → List ℕ → Poll (Result ℕ SourceError) → Type 0
   Advances a b old new Pending = ForSome (bytes_left a) (λ r. bytes_left b ≡ Some r) × (waits_left b < waits_left a)
-  Advances a b old new (Ready (Ok k)) = (k ≤ length old) × ForSome (bytes_left a) (λ r. (take k new ≡ take k r) × (k ≤ length r) × (bytes_left b ≡ Some (drop k r)) × (k ≡ 0 → r ≡ []))
+  Advances a b old new (Ready (Ok k)) =
+      (k ≤ length old)
+      × ForSome (bytes_left a) (λ r.
+      (take k new ≡ take k r) × (k ≤ length r) × (bytes_left b ≡ Some (drop k r)) × (k ≡ 0 → r ≡ []))
   Advances a b old new (Ready (Err e)) = ForSome (bytes_left a) (λ r. bytes_left b ≡ Some r)
 
--- the source that is read now is the one before or one that the stream gave, read once under this Gate with this room and answer
-abbrev pub ReadsItem : {S I : Type 0} → Polled I → (S → I → Type 0) → Gate → ℕ → Poll (Result ℕ SourceError) → Running S I → Option I
+-- the source that is read now is the one before or one that the stream gave, read once under this Gate with this room
+-- and answer
+abbrev pub ReadsItem : {S I : Type 0} → Polled I → (S → I → Type 0) → Gate → ℕ → Poll (Result ℕ SourceError) → Running S I
+    → Option I
     → Type 0
 ReadsItem polled may_give gate room answer a item =
     ForSome item (λ y. (x : _) × ((a.item ≡ Some x) ⊎ may_give a.stream x) × polled x gate room answer y)
@@ -145,7 +154,8 @@ module _ {S I : Type 0} (asked : S → Gate → Poll (Option I) → S → Type 0
 
   -- the last step: the source that is read answers so, and is not at its end, or without one the stream
   abbrev pub LastOf : S → Option I → Poll (Result ℕ SourceError) → Running S I → Type 0
-  LastOf s (Some x) answer b = (y : I) × (b ≡ record { stream = s; item = Some y }) × polled x gate room answer y × (answer ≢ Ready (Ok 0))
+  LastOf s (Some x) answer b =
+      (y : I) × (b ≡ record { stream = s; item = Some y }) × polled x gate room answer y × (answer ≢ Ready (Ok 0))
   LastOf s None answer b = (t : S) × (b ≡ record { stream = t; item = None }) × StreamSays s answer t
 
   -- the sources are read one after another, each but the last to its end
@@ -154,9 +164,9 @@ module _ {S I : Type 0} (asked : S → Gate → Poll (Option I) → S → Type 0
 
 -- one read under this Gate, which the stream is shown too: an error is that of the source that is read; a fault is counted, and
 -- that a source is shut is kept, only where that source refused
-pub record ReadsFlat {S I : Type 0} (meaning : I → Meaning) (asked : S → Gate → Poll (Option I) → S → Type 0) (polled : Polled I)
-    (may_give : S → I → Type 0) (a : Flat S I) (gate : Gate) (room : ℕ) (answer : Poll (Result ℕ SourceError)) (b : Flat S I)
-    : Type 0 where
+pub record ReadsFlat {S I : Type 0} (meaning : I → Meaning) (asked : S → Gate → Poll (Option I) → S → Type 0)
+    (polled : Polled I) (may_give : S → I → Type 0) (a : Flat S I) (gate : Gate) (room : ℕ)
+    (answer : Poll (Result ℕ SourceError)) (b : Flat S I) : Type 0 where
   pub in_turn : ReadsInTurn asked polled gate room a.running answer b.running
   pub item : ReadsItem polled may_give gate room answer a.running b.running.item
   pub refuses : IfReadyErr answer (Refuses meaning polled gate room b.running.item)
@@ -165,6 +175,8 @@ pub record ReadsFlat {S I : Type 0} (meaning : I → Meaning) (asked : S → Gat
       ⊎ (Refuses meaning polled gate room b.running.item Gone ⊎ Refuses meaning polled gate room b.running.item TimedOut)
 
 -- the source that is read is shut down, where there is one
-abbrev pub ShutsItem : {S I : Type 0} → (I → Poll (Unit {0}) → I → Type 0) → Option I → Flat S I → Poll (Unit {0}) → Flat S I → Type 0
+abbrev pub ShutsItem : {S I : Type 0} → (I → Poll (Unit {0}) → I → Type 0) → Option I → Flat S I → Poll (Unit {0}) → Flat S I
+    → Type 0
 ShutsItem shuts None a answer b = (b ≡ a) × (answer ≡ Ready tt)
-ShutsItem shuts (Some x) a answer b = (y : _) × shuts x answer y × (b ≡ record a { running = record { stream = a.running.stream; item = Some y } })
+ShutsItem shuts (Some x) a answer b =
+    (y : _) × shuts x answer y × (b ≡ record a { running = record { stream = a.running.stream; item = Some y } })

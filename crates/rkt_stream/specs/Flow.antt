@@ -46,7 +46,8 @@ pub data Passes {T X : Type 0} (polled : T → Gate → Poll (Option X) → T �
       → Passes polled is_passed gate t v
 
 -- behind such items the stream has answered so
-abbrev pub AsksOn : {T X : Type 0} → (T → Gate → Poll (Option X) → T → Type 0) → (X → Type 0) → Gate → T → Poll (Option X) → T → Type 0
+abbrev pub AsksOn : {T X : Type 0} → (T → Gate → Poll (Option X) → T → Type 0) → (X → Type 0) → Gate → T → Poll (Option X) → T
+    → Type 0
 AsksOn polled is_passed gate t answer v = (u : _) × Passes polled is_passed gate t u × polled u gate answer v
 
 -- items of two lists in turn, the first list's first; it ends where the one whose turn it is has none
@@ -61,9 +62,11 @@ Asks a a' b b' Pending = Flows a Pending a' × Flows b Pending b'
 Asks a a' b b' (Ready item) = ((b' ≡ b) × Flows a (Ready item) a') ⊎ (Flows a Pending a' × Flows b (Ready item) b')
 
 -- the one was asked under this Gate, and the other where the one is Pending
-abbrev pub AsksBoth : {A B X : Type 0} → (A → Gate → Poll (Option X) → A → Type 0) → (B → Gate → Poll (Option X) → B → Type 0) → Gate → A → B → Poll (Option X) → A → B → Type 0
+abbrev pub AsksBoth : {A B X : Type 0} → (A → Gate → Poll (Option X) → A → Type 0) → (B → Gate → Poll (Option X) → B → Type 0)
+    → Gate → A → B → Poll (Option X) → A → B → Type 0
 AsksBoth one other gate a b Pending a' b' = one a gate Pending a' × other b gate Pending b'
-AsksBoth one other gate a b (Ready item) a' b' = ((b' ≡ b) × one a gate (Ready item) a') ⊎ (one a gate Pending a' × other b gate (Ready item) b')
+AsksBoth one other gate a b (Ready item) a' b' =
+    ((b' ≡ b) × one a gate (Ready item) a') ⊎ (one a gate Pending a' × other b gate (Ready item) b')
 
 -- what the two of them may give: an item is one that either might give
 abbrev pub AsksOf : {X : Type 0} → (X → Type 0) → (X → Type 0) → (X → Type 0) → (X → Type 0) → Poll (Option X) → Type 0
@@ -76,7 +79,8 @@ pub record Joined (A B : Type 0) : Type 0 where
   pub turn : Bool
   pub ended : Bool
 
-module _ {A B X : Type 0} (first : A → Gate → Poll (Option X) → A → Type 0) (second : B → Gate → Poll (Option X) → B → Type 0) where
+module _ {A B X : Type 0} (first : A → Gate → Poll (Option X) → A → Type 0)
+    (second : B → Gate → Poll (Option X) → B → Type 0) where
   abbrev pub AsksAt : Bool → Joined A B → Gate → Poll (Option X) → Joined A B → Type 0
   AsksAt true j gate answer k = (k.turn ≡ false) × AsksBoth first second gate j.first j.second answer k.first k.second
   AsksAt false j gate answer k = (k.turn ≡ true) × AsksBoth second first gate j.second j.first answer k.second k.first
@@ -96,7 +100,13 @@ joined_rest true false (Some xs) (Some ys) = Some (alternate xs ys)
 
 -- the items of the stream that is asked first and of the other, in turn
 abbrev pub joined_flow : {X : Type 0} → Bool → Flow X → Flow X → Flow X
-joined_flow ended a b = record { rest = joined_rest (nat_eq (a.pendings + b.pendings) 0) ended a.rest b.rest; left = a.left + b.left; ended = ended; pended = a.pended + b.pended; pendings = a.pendings + b.pendings }
+joined_flow ended a b = record {
+  rest = joined_rest (nat_eq (a.pendings + b.pendings) 0) ended a.rest b.rest;
+  left = a.left + b.left;
+  ended = ended;
+  pended = a.pended + b.pended;
+  pendings = a.pendings + b.pendings;
+}
 
 abbrev pub join_flow : {X : Type 0} → Bool → Bool → Flow X → Flow X → Flow X
 join_flow true ended a b = joined_flow ended a b
@@ -107,4 +117,10 @@ pub record OneLeft (X : Type 0) : Type 0 where
   pub ended : Bool
 
 abbrev pub one_flow : {X : Type 0} → OneLeft X → Flow X
-one_flow o = record { rest = Some (option_to_list o.value); left = length (option_to_list o.value); ended = o.ended; pended = 0; pendings = 0 }
+one_flow o = record {
+  rest = Some (option_to_list o.value);
+  left = length (option_to_list o.value);
+  ended = o.ended;
+  pended = 0;
+  pendings = 0;
+}

@@ -38,7 +38,16 @@ pendings_of flow (Some t) = (flow t).pendings
 
 -- it never fails, and no trip changes it; only the stream may be Pending
 abbrev pub joining_meaning : {T : Type 0} → (T → Flow (Vec ℕ Global)) → Joining T → Meaning
-joining_meaning flow j = record { whole = joined_of flow j.begun; taken = j.taken; faults = 0; never_faults = true; warned = false; shut = false; pended = pended_of flow j.stream; pendings = pendings_of flow j.stream }
+joining_meaning flow j = record {
+  whole = joined_of flow j.begun;
+  taken = j.taken;
+  faults = 0;
+  never_faults = true;
+  warned = false;
+  shut = false;
+  pended = pended_of flow j.stream;
+  pendings = pendings_of flow j.stream;
+}
 
 -- all bytes are those given, those of the piece, and those of the items to come
 pub record Parts (whole : List ℕ) (taken : ℕ) (piece : List ℕ) (ahead : Option (List ℕ)) : Type 0 where
@@ -55,11 +64,15 @@ IsJoining flow begun stream piece taken = ForSome (joined_of flow begun) (λ w. 
 abbrev pub NextBytes : Flow (Vec ℕ Global) → Flow (Vec ℕ Global) → Poll (Option (Vec ℕ Global)) → Type 0
 NextBytes m n Pending = (n.pendings ≡ m.pendings) × (joined n ≡ joined m) × (m.pended < n.pended) × (n.pended ≤ m.pendings)
 NextBytes m n (Ready None) = Waited m n × (joined n ≡ joined m) × ForSome (joined m) (λ w. w ≡ [])
-NextBytes m n (Ready (Some v)) = Waited m n × (0 < length v.items) × ForSome (joined m) (λ w. (to_come : List ℕ) × (w ≡ v.items ++ to_come) × (joined n ≡ Some to_come))
+NextBytes m n (Ready (Some v)) =
+    Waited m n
+    × (0 < length v.items)
+    × ForSome (joined m) (λ w. (to_come : List ℕ) × (w ≡ v.items ++ to_come) × (joined n ≡ Some to_come))
 
 -- the last item has bytes left, or all bytes were given; else the stream was Pending
 abbrev pub Fills : {T : Type 0} → (T → Flow (Vec ℕ Global)) → Joining T → Joining T → Poll (Unit {0}) → Type 0
-Fills flow a b Pending = (pended_of flow a.stream < pended_of flow b.stream) × (pended_of flow b.stream ≤ pendings_of flow a.stream)
+Fills flow a b Pending =
+    (pended_of flow a.stream < pended_of flow b.stream) × (pended_of flow b.stream ≤ pendings_of flow a.stream)
 Fills flow a b (Ready r) = (length b.piece ≡ 0 → ForSome (joined_of flow b.begun) (λ w. b.taken ≡ length w))
 
 -- an item without bytes
@@ -77,8 +90,11 @@ module _ {T : Type 0} (polled : T → Gate → Poll (Option (Vec ℕ Global)) �
   abbrev pub FillsUp : Bool → Option T → Joining T → Poll (Unit {0}) → Joining T → Type 0
   FillsUp false stream a filled b = (b ≡ a) × (filled ≡ Ready tt)
   FillsUp true None a filled b = (b ≡ a) × (filled ≡ Ready tt)
-  FillsUp true (Some t) a filled b = (answer : Poll (Option (Vec ℕ Global))) × (u : T)
-      × AsksOn polled IsEmpty gate t answer u × (b ≡ record a { stream = Some u; piece = b.piece }) × FillsWith answer b.piece filled
+  FillsUp true (Some t) a filled b =
+      (answer : Poll (Option (Vec ℕ Global))) × (u : T)
+      × AsksOn polled IsEmpty gate t answer u
+      × (b ≡ record a { stream = Some u; piece = b.piece })
+      × FillsWith answer b.piece filled
 
 -- the next bytes of the piece are given, as many as there is room for
 abbrev pub GivesPiece : {T : Type 0} → ℕ → Joining T → Poll (Unit {0}) → Poll (Result ℕ SourceError) → Joining T → Type 0

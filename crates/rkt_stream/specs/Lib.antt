@@ -6,4 +6,3 @@ pub mod FlatLaws
 pub mod Flow
 pub mod Joining
 pub mod JoiningLaws
-pub mod Tally

@@ -20,7 +20,8 @@ impl<T: Source, U: Source> Model for Chain<T, U> {
 
     ghost Value = { Chained T U };
 
-    ghost view = { λ c. record { first = c.first; second = c.second; skipped = (U.meaning c.begun.value).taken; over = c.over } };
+    ghost view = { λ c.
+        record { first = c.first; second = c.second; skipped = (U.meaning c.begun.value).taken; over = c.over } };
 
     ghost invariant = { λ c. InTurn c.over (U.meaning c.begun.value).taken (T.meaning c.first) (U.meaning c.second) };
 }
@@ -89,9 +90,12 @@ impl<T: Source, U: Source> Source for Chain<T, U> {
         }
     }
 
-    ghost shut_is_warned = { λ c. chained_shut_is_warned c.over c.skipped (T.meaning c.first) (U.meaning c.second) (T.shut_is_warned c.first) (U.shut_is_warned c.second) };
+    ghost shut_is_warned = { λ c. chained_shut_is_warned c.over c.skipped (T.meaning c.first) (U.meaning c.second)
+        (T.shut_is_warned c.first) (U.shut_is_warned c.second) };
 
-    ghost shutdown_keeps = { λ c d answer h. chained_shuts T.meaning U.meaning T.shuts U.shuts T.shutdown_keeps U.shutdown_keeps T.waits_within U.waits_within c d answer h };
+    ghost shutdown_keeps = { λ c d answer h. chained_shuts T.meaning U.meaning T.shuts U.shuts T.shutdown_keeps U.shutdown_keeps
+        T.waits_within U.waits_within c d answer h };
 
-    ghost waits_within = { λ c. chained_waits_within (T.meaning c.first) (U.meaning c.second) (T.waits_within c.first) (U.waits_within c.second) };
+    ghost waits_within = { λ c.
+        chained_waits_within (T.meaning c.first) (U.meaning c.second) (T.waits_within c.first) (U.waits_within c.second) };
 }

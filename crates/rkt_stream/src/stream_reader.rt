@@ -88,7 +88,8 @@ impl<T: Stream<Item = Vec<u8>>> StreamReader<T> {
         ensures same { SameJoining T.flow self.old self.new }
         ensures given { self.new ≡ record self.old { piece = drop result self.old.piece; taken = self.old.taken + result } }
         ensures count { result ≡ min (length buf.old) (length self.old.piece) }
-        ensures bytes { ForSome (joined_of T.flow self.old.begun) (λ w. take result buf.new ≡ take result (drop self.old.taken w)) }
+        ensures bytes { ForSome (joined_of T.flow self.old.begun) (λ w.
+            take result buf.new ≡ take result (drop self.old.taken w)) }
     {
         let count = self.piece.give(buf);
         self.taken.add(count);

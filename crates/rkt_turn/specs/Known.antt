@@ -33,7 +33,20 @@ module _ {E : Type 0} where
 module _ {N E : Type 0} where
   -- the first pass, before the state is there
   abbrev pub newcomer : N → Known N E
-  newcomer name = record { name = Some name; number = 0; next = 1; turn = false; opened = false; spent = false; base = []; seen = []; other = []; mine = []; out = []; back = [] }
+  newcomer name = record {
+    name = Some name;
+    number = 0;
+    next = 1;
+    turn = false;
+    opened = false;
+    spent = false;
+    base = [];
+    seen = [];
+    other = [];
+    mine = [];
+    out = [];
+    back = [];
+  }
 
   -- in a turn, where this list was found
   abbrev pub entered : Known N E → List E → Known N E
@@ -57,7 +70,20 @@ module _ {N E : Type 0} where
 
   -- the pass that gets the number, which has seen as much
   abbrev pub another : Known N E → Known N E
-  another v = record { name = v.name; number = v.next; next = 0; turn = false; opened = v.opened; spent = false; base = []; seen = v.seen; other = []; mine = []; out = []; back = [] }
+  another v = record {
+    name = v.name;
+    number = v.next;
+    next = 0;
+    turn = false;
+    opened = v.opened;
+    spent = false;
+    base = [];
+    seen = v.seen;
+    other = [];
+    mine = [];
+    out = [];
+    back = [];
+  }
 
   -- the first pass, after it gave so many numbers away
   abbrev pub drawn : ℕ → Known N E → Known N E
@@ -101,7 +127,20 @@ module _ {N E : Type 0} where
 
   -- a pass that was joined to the first
   abbrev pub gone : Known N E
-  gone = record { name = None; number = 0; next = 0; turn = false; opened = false; spent = true; base = []; seen = []; other = []; mine = []; out = []; back = [] }
+  gone = record {
+    name = None;
+    number = 0;
+    next = 0;
+    turn = false;
+    opened = false;
+    spent = true;
+    base = [];
+    seen = [];
+    other = [];
+    mine = [];
+    out = [];
+    back = [];
+  }
 
   -- the first pass and those that came back to it, each with what it entered
   abbrev pub all_passes : Known N E → List (Returned E)

@@ -13,9 +13,15 @@ module _ {S N E : Type 0} where
   -- a pass has its number and the next one at hand, and holds the emptied slot in a turn
   abbrev pub Tied : Seat (Option S) (Known N E) → ℕ → ℕ → Type 0
   Tied seat own next =
-      ((view seat).number ≡ own) × ((view seat).next ≡ next) × (own ≤ last_number) × (next ≤ last_number) × ((view seat).spent ≡ false) × (seat.me.1 ≡ (if (view seat).turn then (0, None) ∷ [] else []))
+      ((view seat).number ≡ own)
+      × ((view seat).next ≡ next)
+      × (own ≤ last_number)
+      × (next ≤ last_number)
+      × ((view seat).spent ≡ false)
+      × (seat.me.1 ≡ (if (view seat).turn then (0, None) ∷ [] else []))
 
-module _ {S N E : Type 0} (name_of : S → N) (entries : S → List E) (legal : N → List E → Type 0) (kept : S → Type 0) (number : E → ℕ) (name : N) where
+module _ {S N E : Type 0} (name_of : S → N) (entries : S → List E) (legal : N → List E → Type 0) (kept : S → Type 0)
+    (number : E → ℕ) (name : N) where
   -- what the slot at home holds: once opened, a state that stands for the name and the list
   abbrev pub Shows : Bool → List E → Option S → Type 0
   Shows true list (Some x) = (name_of x ≡ name) × (entries x ≡ list) × legal name list × kept x
@@ -26,9 +32,17 @@ module _ {S N E : Type 0} (name_of : S → N) (entries : S → List E) (legal : 
   -- where the state is: at home with the word 0, or out with the pass that has the turn, whose number plus 1 is the word
   abbrev pub Placed : State (Option S) (Known N E) → Bool → List E → maybe.Option ℕ → Type 0
   Placed s opened list none = (slice_index s.words 0 ≡ 0) × ((y : Option S) × (s.homes ≡ some y ∷ []) × Shows opened list y)
-  Placed s opened list (some j) = (v : Known N E) × (get_elem? s.views j ≡ some v) × (v.spent ≡ false) × (v.turn ≡ true) × (slice_index s.words 0 ≡ v.number + 1) × (s.homes ≡ none ∷ []) × (v.base ≡ list)
+  Placed s opened list (some j) =
+      (v : Known N E)
+      × (get_elem? s.views j ≡ some v)
+      × (v.spent ≡ false)
+      × (v.turn ≡ true)
+      × (slice_index s.words 0 ≡ v.number + 1)
+      × (s.homes ≡ none ∷ [])
+      × (v.base ≡ list)
 
-  -- what a pass knows fits the list: it stands for the name, the list begins with what it has seen, and has of its entries just those of `mine`
+  -- what a pass knows fits the list: it stands for the name, the list begins with what it has seen, and has of its
+  -- entries just those of `mine`
   pub record Fits (opened : Bool) (list : List E) (v : Known N E) : Type 0 where
     pub named : v.name ≡ Some name
     pub open_too : v.opened ≡ opened

@@ -42,11 +42,13 @@ module _ (allowed : ℕ → Type 0) where
 
   -- a notification: the handle has seen the word that stands afterwards
   abbrev pub TripsBy : {S : Type 0} → ℕ → Me S Glance → ℕ → Me S Glance → Type 0
-  TripsBy new me n after = (after ≡ (record { seen = standing n new; twin = 0; looked = me.0.looked }, me.1)) × IsWord n × SeenBy n me.0
+  TripsBy new me n after =
+      (after ≡ (record { seen = standing n new; twin = 0; looked = me.0.looked }, me.1)) × IsWord n × SeenBy n me.0
 
 -- a comparison: both handles had seen the word or none, and the one that is left has seen the greater
 abbrev pub SettlesAt : {S : Type 0} → Me S Glance → ℕ → Me S Glance → Type 0
-SettlesAt me n after = (after ≡ (record { seen = max me.0.seen me.0.twin; twin = 0; looked = me.0.looked }, me.1)) × SeenBy n me.0
+SettlesAt me n after =
+    (after ≡ (record { seen = max me.0.seen me.0.twin; twin = 0; looked = me.0.looked }, me.1)) × SeenBy n me.0
 
 -- a handle that took another in, until it compares
 abbrev pub twinned : Glance → Glance → Glance

@@ -35,7 +35,10 @@ impl<S, N, E> PassOf<S, N, E> {
         number: u64,
         next: u64,
     ) -> PassOf<S, N, E>
-        requires numbers { ((view seat).number ≡ number) × ((view seat).next ≡ next) × (number ≤ last_number) × (next ≤ last_number) }
+        requires numbers { ((view seat).number ≡ number)
+            × ((view seat).next ≡ next)
+            × (number ≤ last_number)
+            × (next ≤ last_number) }
         requires seat { ((view seat).spent ≡ false) × ((view seat).turn ≡ false) × (seat.me.1 ≡ []) }
         ensures { result.seat ≡ seat }
     {
@@ -43,7 +46,9 @@ impl<S, N, E> PassOf<S, N, E> {
     }
 
     pub(crate) fn into_seat(self) -> Seat<Option<S>, Known<N, E>>
-        ensures { (result ≡ self.seat) × ((view result).spent ≡ false) × (result.me.1 ≡ (if (view result).turn then (0, None) ∷ [] else [])) }
+        ensures { (result ≡ self.seat)
+            × ((view result).spent ≡ false)
+            × (result.me.1 ≡ (if (view result).turn then (0, None) ∷ [] else [])) }
     {
         let Self {
             seat,

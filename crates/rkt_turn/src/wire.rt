@@ -118,8 +118,9 @@ impl<R: Reason> Shutdown<R> {
         }
     }
 
-    /// Trips the wire, if nobody has. Afterwards this handle has seen the word that stands. A reason that has no word changes
-    /// nothing, and where the handle has then seen none, the reason had none.
+    /// Trips the wire, if nobody has. Afterwards this handle has seen a word, where the reason has one: a word that
+    /// stood before, or this one. A reason that has no word changes nothing, and where the handle has then seen none,
+    /// the reason had none.
     pub fn notify(&mut self, reason: R)
         ensures wire { self.new.wire ≡ self.old.wire }
         ensures again { 0 < self.old.seen → self.new ≡ self.old }

@@ -1,4 +1,5 @@
--- Absolute URIs (RFC 3986, 3.1, 3.2 and 4.3), as this project takes them: a scheme, and then an authority with maybe an origin behind it, or a path.
+-- Absolute URIs (RFC 3986, 3.1, 3.2 and 4.3), as this project takes them: a scheme, and then an authority with maybe an
+-- origin behind it, or a path.
 use Rattle.std.specs.Prelude.{ℕ, ◌≡◌, ◌⊎◌, List, [], ◌∷◌, ◌++◌, Bool, true, ◌==◌, ◌||◌, nat_eq, codes, drop, Option, Some, None, IfSome, unwrap_or, if◌then◌else◌}
 use Rattle.std.specs.List.{list_any, before_first, starts_with}
 use Rattle.std.specs.Option.{option_map, option_and_then}
@@ -73,7 +74,8 @@ pub record SpellsSite (text : List ℕ) (site : Site) : Type 0 where
 -- behind the colon of a scheme: a path, or two slashes, a site, and what is behind it
 abbrev pub SpellsHierarchy : List ℕ → Option Site → List ℕ → Type 0
 SpellsHierarchy text None rest = IsLonePath rest × (text ≡ rest)
-SpellsHierarchy text (Some site) rest = (site_text : List ℕ) × SpellsSite site_text site × MaybeOrigin rest × (text ≡ slash ∷ slash ∷ (site_text ++ rest))
+SpellsHierarchy text (Some site) rest =
+    (site_text : List ℕ) × SpellsSite site_text site × MaybeOrigin rest × (text ≡ slash ∷ slash ∷ (site_text ++ rest))
 
 -- a letter, and more bytes of a scheme
 abbrev pub IsScheme : List ℕ → Type 0

@@ -27,7 +27,9 @@ head_same a b xs ys e = cc
 tail_same : (a b : ℕ) (xs ys : List ℕ) → a ∷ xs ≡ b ∷ ys → xs ≡ ys
 tail_same a b xs ys e = cc
 
-from_start : (b : ℕ) (rest : List ℕ) (t : Bool) → is_ascii_alphabetic b ≡ t → AbsoluteForm (b ∷ rest) ↔ next_of (if t then Some Scheme else None) rest
+from_start : (b : ℕ) (rest : List ℕ) (t : Bool)
+    → is_ascii_alphabetic b ≡ t
+    → AbsoluteForm (b ∷ rest) ↔ next_of (if t then Some Scheme else None) rest
 from_start b rest true is = (λ h. h.1, λ r. (is, r))
 from_start b rest false is = (λ h. false≢true (sym is ∙ h.0), λ n. absurd n)
 
@@ -41,7 +43,8 @@ from_scheme b rest true u is p = (
   λ r. inl (equal b 58 is, r),
 )
 from_scheme b rest false true is p = (λ h. elim h [ inl c ↦ absurd (differ b 58 is c.0) | inr n ↦ n.1 ], λ r. inr (p, r))
-from_scheme b rest false false is p = (λ h. elim h [ inl c ↦ differ b 58 is c.0 | inr n ↦ false≢true (sym p ∙ n.0) ], λ n. absurd n)
+from_scheme b rest false false is p =
+    (λ h. elim h [ inl c ↦ differ b 58 is c.0 | inr n ↦ false≢true (sym p ∙ n.0) ], λ n. absurd n)
 
 slash_in_path : is_path_byte Request 47 ≡ true
 slash_in_path = refl
@@ -50,7 +53,10 @@ from_hierarchy : (b : ℕ) (rest : List ℕ) (t u : Bool) → (b == 47) ≡ t �
     → IsHierarchy (b ∷ rest) ↔ next_of (if t then Some Slash else (if u then Some Path else None)) rest
 from_hierarchy b rest true u is p = (
   λ h. elim h [ inl l ↦ inl l.1 | inr o ↦ inr (o.0.1, λ f. o.1 (f.0, slashes b rest f.0 (equal b 47 is) f.1)) ],
-  λ h. elim h [ inl l ↦ inl (equal b 47 is, l) | inr o ↦ inr ((ap (is_path_byte Request) (equal b 47 is) ∙ slash_in_path, o.0), λ f. o.1 (f.0, tail_same _ _ _ _ f.1)) ],
+  λ h. elim h [
+    | inl l ↦ inl (equal b 47 is, l)
+    | inr o ↦ inr ((ap (is_path_byte Request) (equal b 47 is) ∙ slash_in_path, o.0), λ f. o.1 (f.0, tail_same _ _ _ _ f.1))
+  ],
 )
   where
     slashes : (b : ℕ) (rest more : List ℕ) → b ≡ 47 → rest ≡ 47 ∷ more → b ∷ rest ≡ 47 ∷ 47 ∷ more
@@ -59,7 +65,8 @@ from_hierarchy b rest false true is p = (
   λ h. elim h [ inl l ↦ absurd (differ b 47 is l.0) | inr o ↦ o.0.1 ],
   λ r. inr ((p, r), λ f. differ b 47 is (head_same _ _ _ _ f.1)),
 )
-from_hierarchy b rest false false is p = (λ h. elim h [ inl l ↦ differ b 47 is l.0 | inr o ↦ false≢true (sym p ∙ o.0.0) ], λ n. absurd n)
+from_hierarchy b rest false false is p =
+    (λ h. elim h [ inl l ↦ differ b 47 is l.0 | inr o ↦ false≢true (sym p ∙ o.0.0) ], λ n. absurd n)
 
 from_slash : (b : ℕ) (rest : List ℕ) (t u : Bool) → (b == 47) ≡ t → is_path_byte Request b ≡ u
     → rest_of Slash (b ∷ rest) ↔ next_of (if t then Some (Front MaybeEmpty) else (if u then Some Path else None)) rest
@@ -71,15 +78,19 @@ from_slash b rest false true is p = (
   λ h. elim h [ inl l ↦ absurd (differ b 47 is l.0) | inr o ↦ o.0.1 ],
   λ r. inr ((p, r), λ f. differ b 47 is (head_same _ _ _ _ f.1)),
 )
-from_slash b rest false false is p = (λ h. elim h [ inl l ↦ differ b 47 is l.0 | inr o ↦ false≢true (sym p ∙ o.0.0) ], λ n. absurd n)
+from_slash b rest false false is p =
+    (λ h. elim h [ inl l ↦ differ b 47 is l.0 | inr o ↦ false≢true (sym p ∙ o.0.0) ], λ n. absurd n)
 
 from_path : (b : ℕ) (rest : List ℕ) (u : Bool) → is_path_byte Request b ≡ u
     → OnlyOf (is_path_byte Request) (b ∷ rest) ↔ next_of (if u then Some Path else None) rest
 from_path b rest true p = (λ h. h.1, λ r. (p, r))
 from_path b rest false p = (λ h. false≢true (sym p ∙ h.0), λ n. absurd n)
 
-from_tail : (b : ℕ) (rest : List ℕ) (t u : Bool) → (b == 47) ≡ t → (b == 63) ≡ u
-    → MaybeOrigin (b ∷ rest) ↔ next_of (if t then Some (Origin (InPath Request)) else (if u then Some (Origin (InQuery Request)) else None)) rest
+from_tail : (b : ℕ) (rest : List ℕ) (t u : Bool)
+    → (b == 47) ≡ t
+    → (b == 63) ≡ u
+    → MaybeOrigin (b ∷ rest)
+    ↔ next_of (if t then Some (Origin (InPath Request)) else (if u then Some (Origin (InQuery Request)) else None)) rest
 from_tail b rest true u is p = (behind, λ r. inr (inl ((origin_law.from_start Request b rest true is).0 r)))
   where
     behind : MaybeOrigin (b ∷ rest) → origin.rest_of (InPath Request) rest
@@ -100,7 +111,11 @@ from_tail b rest false false is p = (behind, λ n. absurd n)
     behind (inr (inr q)) = differ b 63 p q.0
 
 -- a slash or a question mark begins what is behind a host
-begins_tail : (b : ℕ) (rest : List ℕ) (t u : Bool) → (b == 47) ≡ t → (b == 63) ≡ u → MaybeOrigin (b ∷ rest) → (b ≡ 47) ⊎ (b ≡ 63)
+begins_tail : (b : ℕ) (rest : List ℕ) (t u : Bool)
+    → (b == 47) ≡ t
+    → (b == 63) ≡ u
+    → MaybeOrigin (b ∷ rest)
+    → (b ≡ 47) ⊎ (b ≡ 63)
 begins_tail b rest true u is p m = inl (equal b 47 is)
 begins_tail b rest false true is p m = inr (equal b 63 p)
 begins_tail b rest false false is p m = absurd ((from_tail b rest false false is p).0 m)
@@ -143,7 +158,9 @@ no_at_in_user : is_user_byte 64 ≡ false
 no_at_in_user = refl
 
 -- a place that goes on at this byte is none at which the host ends
-stays_in_host : (place : HostPlace) (b : ℕ) (rest : List ℕ) (next : HostPlace) → host.place_after place b ≡ Some next → ¬ MaybeOrigin (b ∷ rest)
+stays_in_host : (place : HostPlace) (b : ℕ) (rest : List ℕ) (next : HostPlace)
+    → host.place_after place b ≡ Some next
+    → ¬ MaybeOrigin (b ∷ rest)
 stays_in_host place b rest next is m =
     elim (begins_tail b rest (b == 47) (b == 63) refl refl m) [
       | inl e ↦ no_next (sym is ∙ ap (host.place_after place) e ∙ no_slash_in_host place)
@@ -162,10 +179,13 @@ stays_in_user b rest is m =
 
 -- what a place of a host says at a byte
 abbrev Steps : HostPlace → Bool → Option HostPlace → ℕ → List ℕ → Type 0
-Steps place ends next b rest = rest_with MaybeOrigin place (b ∷ rest) ↔ (((ends ≡ true) × MaybeOrigin (b ∷ rest)) ⊎ next_with MaybeOrigin next rest)
+Steps place ends next b rest =
+    rest_with MaybeOrigin place (b ∷ rest) ↔ (((ends ≡ true) × MaybeOrigin (b ∷ rest)) ⊎ next_with MaybeOrigin next rest)
 
-from_host : (place : HostPlace) (b : ℕ) (rest : List ℕ) (next : Option HostPlace) (ends : Bool) → host.place_after place b ≡ next
-    → Steps place ends next b rest → rest_with MaybeOrigin place (b ∷ rest) ↔ next_of (host_after next ends b) rest
+from_host : (place : HostPlace) (b : ℕ) (rest : List ℕ) (next : Option HostPlace) (ends : Bool)
+    → host.place_after place b ≡ next
+    → Steps place ends next b rest
+    → rest_with MaybeOrigin place (b ∷ rest) ↔ next_of (host_after next ends b) rest
 from_host place b rest (Some next) ends is s = (
   λ h. elim (s.0 h) [ inl m ↦ absurd (stays_in_host place b rest next is m.1) | inr n ↦ n ],
   λ n. s.1 (inr n),
@@ -183,15 +203,19 @@ from_user b rest true u is p = (
   λ r. inl (equal b 64 is, r),
 )
 from_user b rest false true is p = (λ h. elim h [ inl a ↦ absurd (differ b 64 is a.0) | inr n ↦ n.1 ], λ r. inr (p, r))
-from_user b rest false false is p = (λ h. elim h [ inl a ↦ differ b 64 is a.0 | inr n ↦ false≢true (sym p ∙ n.0) ], λ n. absurd n)
+from_user b rest false false is p =
+    (λ h. elim h [ inl a ↦ differ b 64 is a.0 | inr n ↦ false≢true (sym p ∙ n.0) ], λ n. absurd n)
 
 -- a byte of a user part goes on in it
 user_on : (b : ℕ) (rest : List ℕ) → is_user_byte b ≡ true → UserRest (b ∷ rest) → UserRest rest
 user_on b rest p (inl a) = absurd (clash is_user_byte b 64 a.0 no_at_in_user p)
 user_on b rest p (inr n) = n.1
 
-front_goes : (place : HostPlace) (b : ℕ) (rest : List ℕ) (next : HostPlace) (ends u : Bool) → host.place_after place b ≡ Some next → is_user_byte b ≡ u
-    → Steps place ends (Some next) b rest → rest_of (Front place) (b ∷ rest) ↔ next_of (if u then Some (Front next) else Some (Host next)) rest
+front_goes : (place : HostPlace) (b : ℕ) (rest : List ℕ) (next : HostPlace) (ends u : Bool)
+    → host.place_after place b ≡ Some next
+    → is_user_byte b ≡ u
+    → Steps place ends (Some next) b rest
+    → rest_of (Front place) (b ∷ rest) ↔ next_of (if u then Some (Front next) else Some (Host next)) rest
 front_goes place b rest next ends true is p s = (
   λ h. elim h [ inl a ↦ inl ((from_host place b rest (Some next) ends is s).0 a) | inr m ↦ inr (user_on b rest p m) ],
   λ h. elim h [ inl n ↦ inl (s.1 (inr n)) | inr n ↦ inr (inr (p, n)) ],
@@ -208,9 +232,13 @@ front_goes place b rest next ends false is p s = (
     no_user (inl a) = no_next (sym is ∙ ap (host.place_after place) a.0 ∙ no_at_in_host place)
     no_user (inr n) = false≢true (sym p ∙ n.0)
 
-front_stops : (place : HostPlace) (b : ℕ) (rest : List ℕ) (ends t u : Bool) → host.place_after place b ≡ None → (b == 64) ≡ t → is_user_byte b ≡ u
+front_stops : (place : HostPlace) (b : ℕ) (rest : List ℕ) (ends t u : Bool)
+    → host.place_after place b ≡ None
+    → (b == 64) ≡ t
+    → is_user_byte b ≡ u
     → Steps place ends None b rest
-    → rest_of (Front place) (b ∷ rest) ↔ next_of (if u then Some User else (if t then Some (Host MaybeEmpty) else (if ends then tail_after b else None))) rest
+    → rest_of (Front place) (b ∷ rest)
+    ↔ next_of (if u then Some User else (if t then Some (Host MaybeEmpty) else (if ends then tail_after b else None))) rest
 front_stops place b rest ends t true is at p s = (
   λ h. elim h [ inl a ↦ absurd (no_host (s.0 a)) | inr m ↦ user_on b rest p m ],
   λ n. inr (inr (p, n)),
@@ -236,12 +264,16 @@ front_stops place b rest ends false false is at p s = let rests = from_host plac
   λ n. inl (rests.1 n),
 )
 
-from_front : (place : HostPlace) (b : ℕ) (rest : List ℕ) (next : Option HostPlace) (ends : Bool) → host.place_after place b ≡ next
-    → Steps place ends next b rest → rest_of (Front place) (b ∷ rest) ↔ next_of (front_after next ends b) rest
+from_front : (place : HostPlace) (b : ℕ) (rest : List ℕ) (next : Option HostPlace) (ends : Bool)
+    → host.place_after place b ≡ next
+    → Steps place ends next b rest
+    → rest_of (Front place) (b ∷ rest) ↔ next_of (front_after next ends b) rest
 from_front place b rest (Some next) ends is s = front_goes place b rest next ends (is_user_byte b) is refl s
 from_front place b rest None ends is s = front_stops place b rest ends (b == 64) (is_user_byte b) is refl refl s
 
-from_origin : (A : Type 0) (rest : List ℕ) (next : Option OriginPlace) → MatchOption next (¬ A) (λ place. origin.rest_of place rest ↔ A) → A ↔ next_of (option_map Origin next) rest
+from_origin : (A : Type 0) (rest : List ℕ) (next : Option OriginPlace)
+    → MatchOption next (¬ A) (λ place. origin.rest_of place rest ↔ A)
+    → A ↔ next_of (option_map Origin next) rest
 from_origin A rest None none = (none, λ n. absurd n)
 from_origin A rest (Some next) e = (e.1, e.0)
 
@@ -251,9 +283,11 @@ steps Scheme b rest = from_scheme b rest (b == 58) (is_scheme_byte b) refl refl
 steps Hierarchy b rest = from_hierarchy b rest (b == 47) (is_path_byte Request b) refl refl
 steps Slash b rest = from_slash b rest (b == 47) (is_path_byte Request b) refl refl
 steps Path b rest = from_path b rest (is_path_byte Request b) refl
-steps (Front place) b rest = from_front place b rest (host.place_after place b) (host.may_end place) refl (goes_with MaybeOrigin place b rest)
+steps (Front place) b rest =
+    from_front place b rest (host.place_after place b) (host.may_end place) refl (goes_with MaybeOrigin place b rest)
 steps User b rest = from_user b rest (b == 64) (is_user_byte b) refl refl
-steps (Host place) b rest = from_host place b rest (host.place_after place b) (host.may_end place) refl (goes_with MaybeOrigin place b rest)
+steps (Host place) b rest =
+    from_host place b rest (host.place_after place b) (host.may_end place) refl (goes_with MaybeOrigin place b rest)
 steps (Origin place) b rest = from_origin _ rest (origin.place_after place b) (origin_law.goes_on place b rest)
 
 pub goes_on : (place : AbsolutePlace) (b : ℕ) (rest : List ℕ)
@@ -274,7 +308,9 @@ ends Scheme = (λ e. absurd (false≢true e), λ h. absurd h)
 ends Hierarchy = (λ _. inr (tt, no_front 47 (47 ∷ [])), λ _. refl)
 ends Slash = (λ _. inr (tt, no_front 47 []), λ _. refl)
 ends Path = (λ _. tt, λ _. refl)
-ends (Front place) = let here = ends_with MaybeOrigin (inl refl) place in (λ e. inl (here.0 e), λ h. elim h [ inl r ↦ here.1 r | inr n ↦ absurd n ])
+ends (Front place) =
+    let here = ends_with MaybeOrigin (inl refl) place in
+    (λ e. inl (here.0 e), λ h. elim h [ inl r ↦ here.1 r | inr n ↦ absurd n ])
 ends User = (λ e. absurd (false≢true e), λ h. absurd h)
 ends (Host place) = ends_with MaybeOrigin (inl refl) place
 ends (Origin place) = origin_law.ends place

@@ -20,7 +20,10 @@ use Rattle.rkt_uri.specs.declared.absolute_place.AbsolutePlace.TheVariants.{Star
 
 -- behind a host and its port
 abbrev pub tail_after : ℕ → Option AbsolutePlace
-tail_after b = if b == slash then Some (Origin (InPath Request)) else (if b == question_mark then Some (Origin (InQuery Request)) else None)
+tail_after b =
+    if b == slash
+    then Some (Origin (InPath Request))
+    else (if b == question_mark then Some (Origin (InQuery Request)) else None)
 
 -- in a host, which goes on at this place, or else may end
 abbrev pub host_after : Option HostPlace → Bool → ℕ → Option AbsolutePlace
@@ -30,7 +33,10 @@ host_after None ends b = if ends then tail_after b else None
 -- in what may be a host as well as a user part
 abbrev pub front_after : Option HostPlace → Bool → ℕ → Option AbsolutePlace
 front_after (Some next) ends b = if is_user_byte b then Some (Front next) else Some (Host next)
-front_after None ends b = if is_user_byte b then Some User else (if b == at_sign then Some (Host MaybeEmpty) else (if ends then tail_after b else None))
+front_after None ends b =
+    if is_user_byte b
+    then Some User
+    else (if b == at_sign then Some (Host MaybeEmpty) else (if ends then tail_after b else None))
 
 abbrev pub place_after : AbsolutePlace → ℕ → Option AbsolutePlace
 place_after Start b = if is_ascii_alphabetic b then Some Scheme else None

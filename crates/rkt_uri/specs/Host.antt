@@ -73,7 +73,8 @@ pub record Authority : Type 0 where
 
 -- an address between its brackets
 abbrev pub IsAddress : List ℕ → Type 0
-IsAddress domain = (inside : List ℕ) × OnlyOf is_address_byte inside × (domain ≡ opening_bracket ∷ (inside ++ closing_bracket ∷ []))
+IsAddress domain =
+    (inside : List ℕ) × OnlyOf is_address_byte inside × (domain ≡ opening_bracket ∷ (inside ++ closing_bracket ∷ []))
 
 -- a name, which may be empty, or an address
 abbrev pub IsDomain : List ℕ → Type 0
@@ -82,7 +83,8 @@ IsDomain domain = OnlyOf is_name_byte domain ⊎ IsAddress domain
 -- the text of a port: a colon and one digit at least of its number, or nothing where there is none
 abbrev pub SpellsPort : List ℕ → Option ℕ → Type 0
 SpellsPort text None = text ≡ []
-SpellsPort text (Some port) = (digit : ℕ) × (digits : List ℕ) × (port_on 0 (digit ∷ digits) ≡ Some port) × (text ≡ colon ∷ digit ∷ digits)
+SpellsPort text (Some port) =
+    (digit : ℕ) × (digits : List ℕ) × (port_on 0 (digit ∷ digits) ≡ Some port) × (text ≡ colon ∷ digit ∷ digits)
 
 -- the text spells this domain, and this port behind it
 pub record SpellsAuthority (text : List ℕ) (host : Authority) : Type 0 where
@@ -106,7 +108,8 @@ SpellsOneHost = (text : List ℕ) (a b : Authority) → SpellsHost text a → Sp
 
 -- an address goes as far as its closing bracket, and a name as far as the first colon
 abbrev pub domain_in : List ℕ → List ℕ
-domain_in text = if has_byte is_close text then before_first is_close text ++ closing_bracket ∷ [] else before_first is_colon text
+domain_in text =
+    if has_byte is_close text then before_first is_close text ++ closing_bracket ∷ [] else before_first is_colon text
 
 -- the port is behind the address or the name
 abbrev pub port_behind : List ℕ → Option ℕ

@@ -27,17 +27,26 @@ from_start Rest b rest true u is p = (
   λ r. inr (equal b 91 is, r),
 )
 from_start Rest b rest false true is p = (λ h. elim h [ inl n ↦ n.1 | inr a ↦ absurd (differ b 91 is a.0) ], λ r. inl (p, r))
-from_start Rest b rest false false is p = (λ h. elim h [ inl n ↦ false≢true (sym p ∙ n.0) | inr a ↦ differ b 91 is a.0 ], λ n. absurd n)
+from_start Rest b rest false false is p =
+    (λ h. elim h [ inl n ↦ false≢true (sym p ∙ n.0) | inr a ↦ differ b 91 is a.0 ], λ n. absurd n)
 
 from_closed : (Rest : List ℕ → Type 0) (b : ℕ) (rest : List ℕ) (t : Bool) → (b == 58) ≡ t
     → MaybePort Rest (b ∷ rest) ↔ (Rest (b ∷ rest) ⊎ next_with Rest (if t then Some Colon else None) rest)
-from_closed Rest b rest true is = (λ h. elim h [ inl r ↦ inl r | inr p ↦ inr p.1 ], λ h. elim h [ inl r ↦ inl r | inr d ↦ inr (equal b 58 is, d) ])
-from_closed Rest b rest false is = (λ h. elim h [ inl r ↦ inl r | inr p ↦ absurd (differ b 58 is p.0) ], λ h. elim h [ inl r ↦ inl r | inr n ↦ absurd n ])
+from_closed Rest b rest true is =
+    (λ h. elim h [ inl r ↦ inl r | inr p ↦ inr p.1 ], λ h. elim h [ inl r ↦ inl r | inr d ↦ inr (equal b 58 is, d) ])
+from_closed Rest b rest false is =
+    (λ h. elim h [ inl r ↦ inl r | inr p ↦ absurd (differ b 58 is p.0) ], λ h. elim h [ inl r ↦ inl r | inr n ↦ absurd n ])
 
-from_name : (Rest : List ℕ → Type 0) (b : ℕ) (rest : List ℕ) (t u : Bool) → (b == 58) ≡ t → is_name_byte b ≡ u
-    → Many is_name_byte (MaybePort Rest) (b ∷ rest) ↔ (Rest (b ∷ rest) ⊎ next_with Rest (if t then Some Colon else (if u then Some Name else None)) rest)
+from_name : (Rest : List ℕ → Type 0) (b : ℕ) (rest : List ℕ) (t u : Bool)
+    → (b == 58) ≡ t
+    → is_name_byte b ≡ u
+    → Many is_name_byte (MaybePort Rest) (b ∷ rest)
+    ↔ (Rest (b ∷ rest) ⊎ next_with Rest (if t then Some Colon else (if u then Some Name else None)) rest)
 from_name Rest b rest true u is p = (
-  λ h. elim h [ inl m ↦ (from_closed Rest b rest true is).0 m | inr n ↦ absurd (clash is_name_byte b 58 (equal b 58 is) no_colon_in_name n.0) ],
+  λ h. elim h [
+    | inl m ↦ (from_closed Rest b rest true is).0 m
+    | inr n ↦ absurd (clash is_name_byte b 58 (equal b 58 is) no_colon_in_name n.0)
+  ],
   λ h. inl ((from_closed Rest b rest true is).1 h),
 )
 from_name Rest b rest false true is p = (
@@ -58,7 +67,10 @@ from_name Rest b rest false false is p = (
     in_middle (inr c) = absurd (differ b 58 is c.0)
 
 -- a name does not go on with a bracket
-bracket_apart : (Rest : List ℕ → Type 0) (b : ℕ) (rest : List ℕ) → b ≡ 91 → Many is_name_byte (MaybePort Rest) (b ∷ rest) → Rest (b ∷ rest)
+bracket_apart : (Rest : List ℕ → Type 0) (b : ℕ) (rest : List ℕ)
+    → b ≡ 91
+    → Many is_name_byte (MaybePort Rest) (b ∷ rest)
+    → Rest (b ∷ rest)
 bracket_apart Rest b rest is (inl (inl r)) = r
 bracket_apart Rest b rest is (inl (inr c)) = absurd (omega (arith, c.0))
 bracket_apart Rest b rest is (inr n) = absurd (clash is_name_byte b 91 is no_bracket_in_name n.0)
@@ -75,14 +87,18 @@ from_maybe_empty Rest b rest false next is name = (
   λ h. inl (name.1 h),
 )
 
-from_address : (Rest : List ℕ → Type 0) (b : ℕ) (rest : List ℕ) (t u : Bool) → (b == 93) ≡ t → is_address_byte b ≡ u
-    → Address (MaybePort Rest) (b ∷ rest) ↔ next_with Rest (if t then Some Closed else (if u then Some InAddress else None)) rest
+from_address : (Rest : List ℕ → Type 0) (b : ℕ) (rest : List ℕ) (t u : Bool)
+    → (b == 93) ≡ t
+    → is_address_byte b ≡ u
+    → Address (MaybePort Rest) (b ∷ rest)
+    ↔ next_with Rest (if t then Some Closed else (if u then Some InAddress else None)) rest
 from_address Rest b rest true u is p = (
   λ h. elim h [ inl m ↦ m.1 | inr n ↦ absurd (clash is_address_byte b 93 (equal b 93 is) no_close_in_address n.0) ],
   λ r. inl (equal b 93 is, r),
 )
 from_address Rest b rest false true is p = (λ h. elim h [ inl m ↦ absurd (differ b 93 is m.0) | inr n ↦ n.1 ], λ r. inr (p, r))
-from_address Rest b rest false false is p = (λ h. elim h [ inl m ↦ differ b 93 is m.0 | inr n ↦ false≢true (sym p ∙ n.0) ], λ n. absurd n)
+from_address Rest b rest false false is p =
+    (λ h. elim h [ inl m ↦ differ b 93 is m.0 | inr n ↦ false≢true (sym p ∙ n.0) ], λ n. absurd n)
 
 from_colon : (Rest : List ℕ → Type 0) (b : ℕ) (rest : List ℕ) (t : Bool) → is_port_digit 0 b ≡ t
     → Digits Rest (b ∷ rest) ↔ next_with Rest (if t then Some (Port (with_digit 0 b)) else None) rest
@@ -91,8 +107,12 @@ from_colon Rest b rest false is = (λ h. false≢true (sym is ∙ h.0), λ n. ab
 
 from_port : (Rest : List ℕ → Type 0) (n b : ℕ) (rest : List ℕ) (t : Bool) → is_port_digit n b ≡ t
     → MoreDigits n Rest (b ∷ rest) ↔ (Rest (b ∷ rest) ⊎ next_with Rest (if t then Some (Port (with_digit n b)) else None) rest)
-from_port Rest n b rest true is = (λ h. elim h [ inl r ↦ inl r | inr m ↦ inr m.1 ], λ h. elim h [ inl r ↦ inl r | inr m ↦ inr (is, m) ])
-from_port Rest n b rest false is = (λ h. elim h [ inl r ↦ inl r | inr m ↦ absurd (false≢true (sym is ∙ m.0)) ], λ h. elim h [ inl r ↦ inl r | inr m ↦ absurd m ])
+from_port Rest n b rest true is =
+    (λ h. elim h [ inl r ↦ inl r | inr m ↦ inr m.1 ], λ h. elim h [ inl r ↦ inl r | inr m ↦ inr (is, m) ])
+from_port Rest n b rest false is = (
+  λ h. elim h [ inl r ↦ inl r | inr m ↦ absurd (false≢true (sym is ∙ m.0)) ],
+  λ h. elim h [ inl r ↦ inl r | inr m ↦ absurd m ],
+)
 
 -- at a place that may end, what is behind may begin
 ending : {A R N : Type 0} → (A ↔ (R ⊎ N)) → A ↔ (((true ≡ true) × R) ⊎ N)
@@ -104,7 +124,8 @@ going e = (λ a. inr (e.0 a), λ s. elim s [ inl r ↦ absurd (false≢true r.0)
 pub goes_with : (Rest : List ℕ → Type 0) (place : HostPlace) (b : ℕ) (rest : List ℕ)
     → rest_with Rest place (b ∷ rest) ↔ (((may_end place ≡ true) × Rest (b ∷ rest)) ⊎ next_with Rest (place_after place b) rest)
 goes_with Rest Start b rest = going (from_start Rest b rest (b == 91) (is_name_byte b) refl refl)
-goes_with Rest MaybeEmpty b rest = ending (from_maybe_empty Rest b rest (b == 91) _ refl (from_name Rest b rest (b == 58) (is_name_byte b) refl refl))
+goes_with Rest MaybeEmpty b rest =
+    ending (from_maybe_empty Rest b rest (b == 91) _ refl (from_name Rest b rest (b == 58) (is_name_byte b) refl refl))
 goes_with Rest Name b rest = ending (from_name Rest b rest (b == 58) (is_name_byte b) refl refl)
 goes_with Rest InAddress b rest = going (from_address Rest b rest (b == 93) (is_address_byte b) refl refl)
 goes_with Rest Closed b rest = ending (from_closed Rest b rest (b == 58) refl)
@@ -118,7 +139,8 @@ pub goes_on : (place : HostPlace) (b : ℕ) (rest : List ℕ)
     → MatchOption (place_after place b) (¬ rest_of place (b ∷ rest)) (λ next. rest_of next rest ↔ rest_of place (b ∷ rest))
 goes_on place b rest = by_next (place_after place b) (goes_with End place b rest)
   where
-    by_next : (next : Option HostPlace) → rest_of place (b ∷ rest) ↔ (((may_end place ≡ true) × End (b ∷ rest)) ⊎ next_with End next rest)
+    by_next : (next : Option HostPlace)
+        → rest_of place (b ∷ rest) ↔ (((may_end place ≡ true) × End (b ∷ rest)) ⊎ next_with End next rest)
         → MatchOption next (¬ rest_of place (b ∷ rest)) (λ place'. rest_of place' rest ↔ rest_of place (b ∷ rest))
     by_next None e = λ r. elim (e.0 r) [ inl n ↦ not_end b rest n.1 | inr n ↦ n ]
     by_next (Some next) e = (λ n. e.1 (inr n), λ r. elim (e.0 r) [ inl n ↦ absurd (not_end b rest n.1) | inr n ↦ n ])

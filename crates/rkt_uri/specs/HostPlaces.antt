@@ -15,7 +15,10 @@ in_port n b = if is_port_digit n b then Some (Port (with_digit n b)) else None
 
 abbrev pub place_after : HostPlace → ℕ → Option HostPlace
 place_after Start b = if b == opening_bracket then Some InAddress else (if is_name_byte b then Some Name else None)
-place_after MaybeEmpty b = if b == opening_bracket then Some InAddress else (if b == colon then Some Colon else (if is_name_byte b then Some Name else None))
+place_after MaybeEmpty b =
+    if b == opening_bracket
+    then Some InAddress
+    else (if b == colon then Some Colon else (if is_name_byte b then Some Name else None))
 place_after Name b = if b == colon then Some Colon else (if is_name_byte b then Some Name else None)
 place_after InAddress b = if b == closing_bracket then Some Closed else (if is_address_byte b then Some InAddress else None)
 place_after Closed b = if b == colon then Some Colon else None

@@ -112,7 +112,10 @@ led separator (piece ∷ pieces) = (separator ∷ piece) ++ led separator pieces
 
 -- the normal form of a path and a query: no empty segment, no empty piece in the query, and no empty query
 abbrev pub normal_form : List ℕ → List ℕ → Target
-normal_form path query = record { path = slash ∷ join_with_byte slash (pieces slash path); query = joined_unless_none ampersand (pieces ampersand query) }
+normal_form path query = record {
+  path = slash ∷ join_with_byte slash (pieces slash path);
+  query = joined_unless_none ampersand (pieces ampersand query);
+}
 
 abbrev pub normalized : Target → Target
 normalized target = normal_form target.path (unwrap_or target.query [])

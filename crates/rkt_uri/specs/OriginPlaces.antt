@@ -8,7 +8,8 @@ use Rattle.rkt_uri.specs.declared.origin_place.OriginPlace.TheVariants.{Start, I
 
 abbrev pub place_after : OriginPlace → ℕ → Option OriginPlace
 place_after (Start profile) b = if b == slash then Some (InPath profile) else None
-place_after (InPath profile) b = if b == question_mark then Some (InQuery profile) else (if is_path_byte profile b then Some (InPath profile) else None)
+place_after (InPath profile) b =
+    if b == question_mark then Some (InQuery profile) else (if is_path_byte profile b then Some (InPath profile) else None)
 place_after (InQuery profile) b = if is_query_byte profile b then Some (InQuery profile) else None
 
 abbrev pub may_end : OriginPlace → Bool

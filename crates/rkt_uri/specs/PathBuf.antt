@@ -68,7 +68,9 @@ ups_of (segment ∷ segments) =
 abbrev pub names_left : List (List ℕ) → List (List ℕ)
 names_left [] = []
 names_left (segment ∷ segments) =
-    if is_here segment || is_up segment || nat_lt 0 (ups_of segments) then names_left segments else segment ∷ names_left segments
+    if is_here segment || is_up segment || nat_lt 0 (ups_of segments)
+    then names_left segments
+    else segment ∷ names_left segments
 
 -- the fault, or else the path
 abbrev pub unless : Option PathError → List ℕ → Result (List ℕ) PathError

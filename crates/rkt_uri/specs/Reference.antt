@@ -5,7 +5,8 @@ use Rattle.rkt_grammar.specs.Grammar.{OnlyOf}
 
 -- the bytes 33 to 126 without the double quotation mark and the angle brackets
 abbrev pub is_reference_byte : ℕ → Bool
-is_reference_byte b = nat_le 33 b && nat_le b 126 && not (b == quotation_mark) && not (b == less_than_sign) && not (b == greater_than_sign)
+is_reference_byte b =
+    nat_le 33 b && nat_le b 126 && not (b == quotation_mark) && not (b == less_than_sign) && not (b == greater_than_sign)
 
 -- the text is a reference, maybe an empty one
 abbrev pub IsReference : List ℕ → Type 0

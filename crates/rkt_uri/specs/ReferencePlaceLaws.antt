@@ -13,8 +13,11 @@ pub goes_on : (place : ReferencePlace) (b : ℕ) (rest : List ℕ)
     → MatchOption (place_after place b) (¬ rest_of place (b ∷ rest)) (λ next. rest_of next rest ↔ rest_of place (b ∷ rest))
 goes_on place b rest = by_test (is_reference_byte b) (stays place is_reference_byte b rest (is_reference_byte b) refl)
   where
-    by_test : (t : Bool) → MatchOption (if t then Some place else None) (¬ IsReference (b ∷ rest)) (λ next. IsReference rest ↔ IsReference (b ∷ rest))
-        → MatchOption (if t then Some place else None) (¬ IsReference (b ∷ rest)) (λ next. rest_of next rest ↔ IsReference (b ∷ rest))
+    by_test : (t : Bool)
+        → MatchOption (if t then Some place else None) (¬ IsReference (b ∷ rest)) (λ next.
+        IsReference rest ↔ IsReference (b ∷ rest))
+        → MatchOption (if t then Some place else None) (¬ IsReference (b ∷ rest)) (λ next.
+        rest_of next rest ↔ IsReference (b ∷ rest))
     by_test t h = h
 
 pub leads_on : (place : ReferencePlace) → Begins (rest_of place) []

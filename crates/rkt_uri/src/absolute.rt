@@ -106,13 +106,17 @@ impl Absolute {
 
     /// The name, or the address with its brackets, if there is an authority. It may be empty.
     pub fn host(&self) -> Option<&str>
-        ensures { (uri : AbsoluteUri) → SpellsAbsolute self.now uri → option_copied result ≡ option_map (λ (site : Site). site.host.domain) uri.site }
+        ensures { (uri : AbsoluteUri)
+            → SpellsAbsolute self.now uri
+            → option_copied result ≡ option_map (λ (site : Site). site.host.domain) uri.site }
     {
         host_of_text(self.text.as_str())
     }
 
     pub fn port(&self) -> Option<u16>
-        ensures { (uri : AbsoluteUri) → SpellsAbsolute self.now uri → result ≡ option_and_then (λ (site : Site). site.host.port) uri.site }
+        ensures { (uri : AbsoluteUri)
+            → SpellsAbsolute self.now uri
+            → result ≡ option_and_then (λ (site : Site). site.host.port) uri.site }
     {
         port_of_text(self.text.as_str())
     }

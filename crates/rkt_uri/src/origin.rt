@@ -9,8 +9,8 @@ use crate::origin_iter::{QueryFields, RawSegments};
 use crate::origin_place::{OriginPlace, Profile};
 use crate::segments::Segments;
 use percent_encoding::percent_decode;
-use rkt_base::{NoMemory, Seq, Text, Want};
-use rkt_grammar::{before_first, behind_first, copy_pairs, copy_texts, cut, first_fault};
+use rkt_base::{NoMemory, Seq, Text, Want, copy_all};
+use rkt_grammar::{before_first, behind_first, cut, first_fault};
 use std::alloc::Global;
 use std::marker::Model;
 use thiserror::Error;
@@ -233,8 +233,8 @@ impl Origin {
     {
         Ok(Origin {
             text: self.text.try_clone(alloc)?,
-            segments: Seq::from_vec(copy_texts(alloc, self.segments.as_slice())?),
-            fields: copy_pairs(alloc, self.fields.as_slice())?,
+            segments: Seq::from_vec(copy_all(alloc, self.segments.as_slice())?),
+            fields: copy_all(alloc, self.fields.as_slice())?,
         })
     }
 

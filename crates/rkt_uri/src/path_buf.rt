@@ -106,7 +106,8 @@ fn first_fault(dots: bool, segments: &[Text]) -> Option<PathError>
 
 /// Goes on by one more segment.
 fn take<'a>(kept: &mut Vec<&'a str>, segment: &'a str) -> Result<(), NoMemory>
-    ensures { OnOk result (map (λ name. name.now) kept.new.items ≡ with_segment (map (λ name. name.now) kept.old.items) segment.now) }
+    ensures { OnOk result
+        (map (λ name. name.now) kept.new.items ≡ with_segment (map (λ name. name.now) kept.old.items) segment.now) }
 {
     if is_here(segment) {
         return Ok(());

@@ -4,24 +4,24 @@ use Rattle.std.specs.Prelude.{length}
 use Rattle.std.proofs.lemmas.List.{length_push}
 use Rattle.rkt_base.specs.declared.poll.Poll.{Poll}
 use Rattle.rkt_base.specs.declared.poll.Poll.TheVariants.{Pending}
-use Rattle.rkt_cancel.specs.Cancel.{Cancellable}
+use Rattle.rkt_source.specs.Cancel.{Cancellable}
 use Rattle.rkt_data.specs.Body.{Body}
-use Rattle.rkt_data.specs.Tap.{Tapped, TapWaits}
+use Rattle.rkt_data.specs.CountedSource.{Tapped, TapWaits}
 use Rattle.rkt_router.specs.Callbacks.{RequestAt}
-use Rattle.rkt_lifecycle.specs.Answers.{Answers, Outgoing, Pends as AnswerPends}
-use Rattle.rkt_lifecycle.specs.Asks.{Asks, Pends as AskPends}
-use Rattle.rkt_lifecycle.specs.Peeks.{cuts, waits_of}
-use Rattle.rkt_lifecycle.specs.Relations.{Relations, callbacks}
-use Rattle.rkt_lifecycle.specs.Stands.{ExchangeGives, SeenPhase, WaitsIn}
-use Rattle.rkt_lifecycle.specs.Tables.{SeenTables, table_of}
-use Rattle.rkt_lifecycle.specs.declared.calls.FairingTask.{FairingTask}
-use Rattle.rkt_lifecycle.specs.declared.phase.Phase.TheVariants as phase
+use Rattle.rkt_exchange.specs.Answers.{Answers, Outgoing, Pends as AnswerPends}
+use Rattle.rkt_exchange.specs.Asks.{Asks, Pends as AskPends}
+use Rattle.rkt_exchange.specs.Peeks.{cuts, waits_of}
+use Rattle.rkt_exchange.specs.Relations.{Relations, callbacks}
+use Rattle.rkt_exchange.specs.Invariant.{ExchangeGives, SeenPhase, WaitsIn}
+use Rattle.rkt_exchange.specs.Tables.{SeenTables, table_of}
+use Rattle.rkt_exchange.specs.declared.calls.FairingTask.{FairingTask}
+use Rattle.rkt_exchange.specs.declared.phase.Phase.TheVariants as phase
 use Rattle.rkt_request.specs.Lent.{Lent}
 use Rattle.rkt_request.specs.Seen.{Seen}
 use Rattle.rkt_router.specs.Calling.{Calling}
 use Rattle.rkt_router.specs.Calls.{GateRule, Making}
 use Rattle.rkt_routing.specs.Beginning.{Beginning}
-use Rattle.rkt_routing.specs.Stands.{EndsWith, WaitsAt}
+use Rattle.rkt_routing.specs.Invariant.{EndsWith, WaitsAt}
 use Rattle.rkt_routing.specs.declared.stage.Live.{Live}
 use Rattle.rkt_routing.specs.declared.stage.Stage.{Stage}
 use Rattle.rkt_routing.specs.declared.stage.Stage.TheVariants as stage
@@ -64,10 +64,10 @@ module _ {V S C R F FTask GTask H HTask K KTask N : Type 0} (rel : Relations V (
   module _ (shuts : S → Poll (Unit {0}) → S → Type 0) (polled : Polled S) (first : Beginning V (Body (Cancellable S)) C) where
     phase_waits : (gate : Gate) (now : SeenPhase V (Body (Cancellable S)) C R F FTask GTask H HTask K KTask N) → WaitsIn rel first tables (waits_of sources shuts polled) gate now → MayBePending rel sources tables
     phase_waits gate (phase.Peeking peeking) waits = tap_waits waits.0.tap peeking.body.tap waits.2.stops
-    phase_waits gate (phase.Asking asks) waits = asks_wait waits.0 gate asks asks.next waits.1
+    phase_waits gate (phase.Preprocessing asks) waits = asks_wait waits.0 gate asks asks.next waits.1
     phase_waits gate (phase.Routing routing calls head) waits = stage_waits (record { at = waits.1; faults = [] }) routing.live routing.stage waits.2
     phase_waits gate (phase.Refusing routing) waits = stage_waits first routing.live routing.stage waits.1
-    phase_waits gate (phase.Answering answers calls head moment) waits = answers_wait waits.0 gate answers answers.next waits.1
+    phase_waits gate (phase.Finalizing answers calls head moment) waits = answers_wait waits.0 gate answers answers.next waits.1
 
     -- what an exchange waited for that was Pending
     pub may_wait : (gate : Gate) (now : Option (SeenPhase V (Body (Cancellable S)) C R F FTask GTask H HTask K KTask N)) → ExchangeGives rel first tables (waits_of sources shuts polled) gate now Pending → MayBePending rel sources tables

@@ -2,15 +2,16 @@
 use Rattle.std.proofs.Common.{◌≡◌, ◌<◌, ◌≤◌, ◌∙◌, ◌++◌, inl, inr, ℕ, Bool, true, false, List, [], ◌∷◌, Option, Some, None, refl, ap, sym, subst, arith}
 use Rattle.std.proofs.lemmas.Grind.{common_steps}
 use Rattle.std.proofs.lemmas.Bool.Decides.{nat_tests}
-use Rattle.std.specs.Prelude.{IfNone, IfSome, IsNone, IsSomeAnd}
+use Rattle.std.specs.Prelude.{IfNone, IfSome, IsNone, IsSome, IsSomeAnd}
 use Rattle.std.specs.List.{list_any, All}
 use Rattle.std.proofs.lemmas.List.Elements.{All-weaker}
+use Rattle.rkt_board.proofs.Core.{found_trip}
 use Rattle.rkt_board.proofs.Pushes.{any_push, map_push}
-use Rattle.rkt_board.specs.Events.{admits_until, is_trip}
-use Rattle.rkt_board.specs.Marks.{events}
-use Rattle.rkt_board.specs.Turns.{mark, ClosesAs, DownsAs, ShowsTrip, TripsAs}
-use Rattle.rkt_board.specs.declared.mark.MarkOf.{MarkOf}
-use Rattle.rkt_orbit.specs.declared.called.Called.{Called}
+use Rattle.rkt_board.specs.Events.{admits_until, is_trip, trip_of}
+use Rattle.rkt_board.specs.Records.{events}
+use Rattle.rkt_board.specs.Turns.{logged, ClosesAs, DownsAs, ShowsTrip, TripsAs}
+use Rattle.rkt_board.specs.declared.log_record.RecordOf.{RecordOf}
+use Rattle.rkt_fairing.specs.declared.called.Called.{Called}
 use Rattle.rkt_worker.proofs.Meanwhile.{with_trip}
 use Rattle.rkt_routing.specs.Backs.{Sees}
 use Rattle.rkt_routing.specs.declared.run.Call.{Call}
@@ -63,32 +64,40 @@ unseen_back (Some b) given unseen = unseen.1
 
 module _ {C R L : Type 0} where
   -- a Trip stays a Trip
-  pub trip_stays : (by : ℕ) (old new : List (MarkOf C R L)) → TripsAs by old new → list_any is_trip (events old) ≡ true → list_any is_trip (events new) ≡ true
+  pub trip_stays : (by : ℕ) (old new : List (RecordOf C R L)) → TripsAs by old new → list_any is_trip (events old) ≡ true → list_any is_trip (events new) ≡ true
   trip_stays by old new (inl same) there = subst (λ ms. list_any is_trip (events ms) ≡ true) (sym same) there
   trip_stays by old new (inr (word, moment, is)) there =
       ap (list_any is_trip) (with_trip by word moment old new is) ∙ (any_push is_trip (events old) (Trip word moment) ∙ grind (arith, common_steps, there))
 
+  -- one that is found is there
+  pub trip_there : (es : List (EventOf C R L)) → IsSome (trip_of es) → list_any is_trip es ≡ true
+  trip_there es some = by_trip (trip_of es) refl some
+    where
+      by_trip : (t : Option (ℕ × ℕ)) → trip_of es ≡ t → IsSome t → list_any is_trip es ≡ true
+      by_trip None there some = absurd (cc some)
+      by_trip (Some t) there some = found_trip es t there
+
   -- what follows that is no Trip changes nothing of that
-  pub trips_same : (old new : List (MarkOf C R L)) (m : MarkOf C R L) → is_trip m.event ≡ false → new ≡ old ++ m ∷ [] → list_any is_trip (events new) ≡ list_any is_trip (events old)
+  pub trips_same : (old new : List (RecordOf C R L)) (m : RecordOf C R L) → is_trip m.event ≡ false → new ≡ old ++ m ∷ [] → list_any is_trip (events new) ≡ list_any is_trip (events old)
   trips_same old new m other is =
       let now : events new ≡ events old ++ m.event ∷ [] = ap events is ∙ map_push (λ x. x.event) old m in
       ap (list_any is_trip) now ∙ (any_push is_trip (events old) m.event ∙ grind (arith, common_steps, other))
 
-  pub trip_entered : (old new : List (MarkOf C R L)) (by word moment : ℕ) → new ≡ old ++ mark by (Trip word moment) ∷ [] → list_any is_trip (events new) ≡ true
+  pub trip_entered : (old new : List (RecordOf C R L)) (by word moment : ℕ) → new ≡ old ++ logged by (Trip word moment) ∷ [] → list_any is_trip (events new) ≡ true
   trip_entered old new by word moment is = ap (list_any is_trip) (with_trip by word moment old new is) ∙ (any_push is_trip (events old) (Trip word moment) ∙ grind (arith, common_steps))
 
   -- where no handle comes back, there is a Trip: the board has the handle, or the exchange was left alone
-  pub left_tripped : (back given : Option Handle) (mid last : List (MarkOf C R L)) → IsNone back → IfNone back (IfSome given (λ h. ShowsTrip (Some h.seen) (events last))) → (IsNone given → list_any is_trip (events mid) ≡ true) → TripsAs 0 mid last
+  pub left_tripped : (back given : Option Handle) (mid last : List (RecordOf C R L)) → IsNone back → IfNone back (IfSome given (λ h. ShowsTrip (Some h.seen) (events last))) → (IsNone given → list_any is_trip (events mid) ≡ true) → TripsAs 0 mid last
       → list_any is_trip (events last) ≡ true
   left_tripped (Some b) given mid last none trip left adds = absurd (cc none)
   left_tripped None None mid last none trip left adds = trip_stays 0 mid last adds (left refl)
   left_tripped None (Some h) mid last none trip left adds = trip.0
 
   -- a Down or a Close is no Trip
-  pub down_same : (by : ℕ) (calls : List Called) (old new : List (MarkOf C R L)) (result : Bool) → DownsAs by calls old new result → list_any is_trip (events new) ≡ list_any is_trip (events old)
-  down_same by calls old new true adds = trips_same old new (mark by (Down calls)) refl adds
+  pub down_same : (by : ℕ) (calls : List Called) (old new : List (RecordOf C R L)) (result : Bool) → DownsAs by calls old new result → list_any is_trip (events new) ≡ list_any is_trip (events old)
+  down_same by calls old new true adds = trips_same old new (logged by (Down calls)) refl adds
   down_same by calls old new false adds = ap (λ ms. list_any is_trip (events ms)) adds
 
-  pub close_same : (by : ℕ) (old new : List (MarkOf C R L)) (result : Bool) → ClosesAs by old new result → list_any is_trip (events new) ≡ list_any is_trip (events old)
-  close_same by old new true adds = trips_same old new (mark by (Close adds.0)) refl adds.1
+  pub close_same : (by : ℕ) (old new : List (RecordOf C R L)) (result : Bool) → ClosesAs by old new result → list_any is_trip (events new) ≡ list_any is_trip (events old)
+  close_same by old new true adds = trips_same old new (logged by (Close adds.0)) refl adds.1
   close_same by old new false adds = ap (λ ms. list_any is_trip (events ms)) adds

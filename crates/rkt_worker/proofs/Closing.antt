@@ -3,17 +3,16 @@ use Rattle.std.proofs.Common.{◌≡◌, ◌<◌, ◌++◌, ◌∙◌, ℕ, List
 use Rattle.std.proofs.lemmas.Grind.{common_steps}
 use Rattle.std.proofs.lemmas.List.Folds.{list_any-append}
 use Rattle.std.specs.List.{AllByRecursion, list_any}
-use Rattle.rkt_lifecycle.specs.Tables.{SeenTables}
+use Rattle.rkt_exchange.specs.Tables.{SeenTables}
 use Rattle.rkt_link.specs.Asked.{Asked}
-use Rattle.rkt_orbit.specs.Calls.{CallingAtShutdown}
 use Rattle.rkt_board.proofs.Core.{found_trip}
-use Rattle.rkt_board.specs.Closed.{AllAdmitted, HasEntry as Entered}
+use Rattle.rkt_board.specs.Closed.{AllAdmitted, HasCausedEntry as Entered}
 use Rattle.rkt_board.specs.Events.{is_trip, admitted, trip_of, Ordered, IsClosed, EachEndsOnce}
 use Rattle.rkt_board.specs.declared.history.EventOf.{EventOf}
 use Rattle.rkt_worker.specs.Causes.{AllCaused, CauseAt}
 use Rattle.rkt_worker.specs.Gates.{word_in}
 use Rattle.rkt_worker.specs.Headline.{AllTimed, HasEntry, IsCallers, IsLegal}
-use Rattle.rkt_worker.specs.Serving.{Serving}
+use Rattle.rkt_worker.specs.Serving.{Launching}
 
 module _ {C R L : Type 0} where
   -- a Trip that has a word is there, and in all that begins so
@@ -27,8 +26,8 @@ module _ {C R L : Type 0} where
   any_front : (es more : List (EventOf C R L)) → list_any is_trip es ≡ true → list_any is_trip (es ++ more) ≡ true
   any_front es more there = grind (arith, common_steps, list_any-append is_trip es more, there)
 
-module _ {V S C R F FTask GTask STask H HTask K KTask L N : Type 0} (allowed : ℕ → Type 0) (shuts : CallingAtShutdown H K N V F STask) (served : Serving V S C R F FTask GTask H HTask K KTask L) (tables : SeenTables F H K N V) where
-  pub entry_of : (given : Option (List Asked)) (es : List (EventOf C R L)) (k : ℕ) → Entered served.links (CauseAt allowed shuts served tables) given es k → HasEntry served tables given es k
+module _ {V S C R F FTask GTask STask H HTask K KTask N L : Type 0} (launch : Launching V S C R F FTask GTask STask H HTask K KTask N L) (tables : SeenTables F H K N V) where
+  pub entry_of : (given : Option (List Asked)) (es : List (EventOf C R L)) (k : ℕ) → Entered launch.serving.links (CauseAt launch tables) given es k → HasEntry launch.serving tables given es k
   entry_of given es k entered = record {
     entry = entered.entry;
     found = entered.found;
@@ -39,9 +38,9 @@ module _ {V S C R F FTask GTask STask H HTask K KTask L N : Type 0} (allowed : �
   }
 
   -- what is known of a closed board is what is legal
-  pub legal_of : (given : Option (List Asked)) (es seen : List (EventOf C R L)) → Ordered es → IsClosed es → AllCaused allowed shuts served tables es → EachEndsOnce es
-      → ((k : ℕ) → k < admitted es → Entered served.links (CauseAt allowed shuts served tables) given es k) → AllAdmitted given es → AllTimed served.window es → AllByRecursion IsCallers seen → es ≡ seen
-      → IsLegal allowed shuts served tables given es
+  pub legal_of : (given : Option (List Asked)) (es seen : List (EventOf C R L)) → Ordered es → IsClosed es → AllCaused launch tables es → EachEndsOnce es
+      → ((k : ℕ) → k < admitted es → Entered launch.serving.links (CauseAt launch tables) given es k) → AllAdmitted given es → AllTimed launch.serving.window es → AllByRecursion IsCallers seen → es ≡ seen
+      → IsLegal launch tables given es
   legal_of given es seen ordered closed caused once entries all_admitted timed callers is = record {
     ordered = ordered;
     closed = closed;

@@ -1,20 +1,22 @@
 -- What is known of an End whose link was cut off, and of one that was not.
 use Rattle.std.proofs.Common.{◌≡◌, ◌≤◌, ◌++◌, inl, inr, ℕ, List, [], ◌∷◌, Option, None, Some, IsSome, true, refl, ap, sym, subst, ◌∙◌, append-nil, append_assoc, arith, rules}
 use Rattle.std.specs.List.{AllByRecursion, list_any}
-use Rattle.rkt_cancel.specs.declared.stage.Stage.{Stage}
+use Rattle.rkt_source.specs.declared.stage.Stage.{Stage}
 use Rattle.rkt_link.specs.Clock.{ClockMeaning, IsAmid, IsWithin}
+use Rattle.rkt_link.specs.Link.{LinkMeaning}
+use Rattle.rkt_link.specs.Listener.{ListenerMeaning}
 use Rattle.rkt_source.specs.declared.source.Gate.{Gate}
-use Rattle.rkt_lifecycle.specs.Tables.{SeenTables}
-use Rattle.rkt_board.specs.Board.{IsCutWithin}
+use Rattle.rkt_exchange.specs.Tables.{SeenTables}
+use Rattle.rkt_board.specs.Board.{BoardAs, IsCutWithin}
 use Rattle.rkt_board.specs.Events.{is_trip, latest, trip_of, word_of, Ordered}
-use Rattle.rkt_board.specs.Marks.{events}
-use Rattle.rkt_board.specs.Turns.{mark, ShowsTrip, TripsAs}
+use Rattle.rkt_board.specs.Records.{events}
+use Rattle.rkt_board.specs.Turns.{logged, ShowsTrip, TripsAs}
 use Rattle.rkt_board.specs.declared.history.End.{End as Ending}
 use Rattle.rkt_board.specs.declared.history.End.TheVariants.{Answered, Lost, Cut, Failed, Abandoned, Starved}
 use Rattle.rkt_board.specs.declared.history.EntryOf.{EntryOf}
 use Rattle.rkt_board.specs.declared.history.EventOf.{EventOf}
 use Rattle.rkt_board.specs.declared.history.EventOf.TheVariants.{Lift, Trip, Admit, End, Down, Close}
-use Rattle.rkt_board.specs.declared.mark.MarkOf.{MarkOf}
+use Rattle.rkt_board.specs.declared.log_record.RecordOf.{RecordOf}
 use Rattle.rkt_message.specs.Reading.{ReadsOn}
 use Rattle.rkt_message.specs.declared.content.Content.{Content}
 use Rattle.rkt_source.specs.Source.{Meaning}
@@ -23,7 +25,7 @@ use Rattle.rkt_board.proofs.Core.{none_found}
 use Rattle.rkt_worker.proofs.Meanwhile.{trips_then, with_trip}
 use Rattle.rkt_worker.specs.Causes.{CausedAs, IsDueBehind, Ran}
 use Rattle.rkt_worker.specs.Gates.{IsCutBy, IsCutOff, IsGateOf, Watched, WatchedOn, word_in}
-use Rattle.rkt_worker.specs.Looking.{AddsTrips, IsCallersTrip}
+use Rattle.rkt_worker.specs.Looking.{AddsTrips, IsCallersTrip, LooksOn, MayLook}
 use Rattle.rkt_worker.specs.LookingLaws.{trip_stays}
 use Rattle.rkt_worker.specs.Serving.{Serving}
 use Rattle.rkt_worker.specs.Waiting.{IsLate}
@@ -118,28 +120,28 @@ module _ {V S C R F FTask GTask H HTask K KTask L N : Type 0} (served : Serving 
   caused_wider Lost caused = (ran_wider Lost caused.0, caused.1)
   caused_wider (Cut saw cut) caused = (ran_wider (Cut saw cut) caused.0, record { tripped = wider caused.1.tripped; saw_there = caused.1.saw_there; cut_there = caused.1.cut_there; grace = caused.1.grace })
   caused_wider (Failed failure) caused = ran_wider (Failed failure) caused
-  caused_wider Abandoned caused = (wider caused.0, caused.1, caused.2, caused.3)
+  caused_wider Abandoned caused = (wider caused.0, caused.1, caused.2)
   caused_wider Starved (inl unsent) = inl unsent
   caused_wider Starved (inr ran) = inr (ran_wider Starved ran)
 
 module _ {C R L : Type 0} where
   -- where a Trip is entered at most, the first one stays the first
-  pub trips_stay : (by : ℕ) (old new : List (MarkOf C R L)) → TripsAs by old new → (trip : ℕ × ℕ) → trip_of (events old) ≡ Some trip → trip_of (events new) ≡ Some trip
-  trips_stay by old new (inl same) trip found = ap (λ (ms : List (MarkOf C R L)). trip_of (events ms)) same ∙ found
+  pub trips_stay : (by : ℕ) (old new : List (RecordOf C R L)) → TripsAs by old new → (trip : ℕ × ℕ) → trip_of (events old) ≡ Some trip → trip_of (events new) ≡ Some trip
+  trips_stay by old new (inl same) trip found = ap (λ (ms : List (RecordOf C R L)). trip_of (events ms)) same ∙ found
   trips_stay by old new (inr (word, moment, is)) trip found = ap trip_of (with_trip by word moment old new is) ∙ trip_stays (events old) (Trip word moment ∷ []) trip found
 
   -- what a Trip at most adds are Trips, and the other way round where the events are in order
-  pub trips_added : (old new : List (MarkOf C R L)) → TripsAs 0 old new → AddsTrips old new
+  pub trips_added : (old new : List (RecordOf C R L)) → TripsAs 0 old new → AddsTrips old new
   trips_added old new (inl same) = ([], same ∙ sym (append-nil old), tt)
-  trips_added old new (inr (word, moment, is)) = (mark 0 (Trip word moment) ∷ [], is, ((word, moment, refl), tt))
+  trips_added old new (inr (word, moment, is)) = (logged 0 (Trip word moment) ∷ [], is, ((word, moment, refl), tt))
 
-  trips_more : (old more new : List (MarkOf C R L)) → new ≡ old ++ more → AllByRecursion IsCallersTrip more → Ordered (events new) → TripsAs 0 old new
+  trips_more : (old more new : List (RecordOf C R L)) → new ≡ old ++ more → AllByRecursion IsCallersTrip more → Ordered (events new) → TripsAs 0 old new
   trips_more old [] new is all ordered = inl (is ∙ append-nil old)
   trips_more old (m ∷ more) new is all ordered =
-      let one : TripsAs 0 old (old ++ m ∷ []) = inr (all.0.0, all.0.1, ap (λ (x : MarkOf C R L). old ++ x ∷ []) all.0.2) in
+      let one : TripsAs 0 old (old ++ m ∷ []) = inr (all.0.0, all.0.1, ap (λ (x : RecordOf C R L). old ++ x ∷ []) all.0.2) in
       trips_then 0 old (old ++ m ∷ []) new ordered one (trips_more (old ++ m ∷ []) more new (is ∙ sym (append_assoc old (m ∷ []) more)) all.1 ordered)
 
-  pub adds_trip : (old new : List (MarkOf C R L)) → AddsTrips old new → Ordered (events new) → TripsAs 0 old new
+  pub adds_trip : (old new : List (RecordOf C R L)) → AddsTrips old new → Ordered (events new) → TripsAs 0 old new
   adds_trip old new adds ordered = trips_more old adds.0 new adds.1 adds.2 ordered
 
   -- where there is a Trip, it is found, and its moment is not after the latest
@@ -166,7 +168,7 @@ module _ {C R L : Type 0} where
   word_seen es (Some word) shows some = subst IsSome (sym (word_found es word shows)) refl
 
   -- and a Trip that was there is still
-  pub word_still : (by : ℕ) (old new : List (MarkOf C R L)) → TripsAs by old new → IsSome (word_in (trip_of (events old))) → IsSome (word_in (trip_of (events new)))
+  pub word_still : (by : ℕ) (old new : List (RecordOf C R L)) → TripsAs by old new → IsSome (word_in (trip_of (events old))) → IsSome (word_in (trip_of (events new)))
   word_still by old new trips some = by_trip (trip_of (events old)) refl some
     where
       by_trip : (t : Option (ℕ × ℕ)) → trip_of (events old) ≡ t → IsSome (word_in t) → IsSome (word_in (trip_of (events new)))
@@ -174,14 +176,20 @@ module _ {C R L : Type 0} where
       by_trip (Some t) there some = subst IsSome (sym (ap word_in (trips_stay by old new trips t there))) (some_word t)
 
   -- what a look at a board tells makes a Gate
-  pub gate_shown : (watched : Watched) (gate : Gate) (es : List (EventOf C R L)) → watched.trip ≡ trip_of es → watched.last ≡ gate.moment → IsWithin watched.window gate.moment → gate.grace ≡ watched.grace → latest es ≤ gate.moment
+  pub gate_shown : (watched : Watched) (gate : Gate) (es : List (EventOf C R L)) → watched.trip ≡ trip_of es → watched.last ≡ gate.moment → IsWithin watched.window gate.moment → gate.grace ≡ watched.grace → gate.mercy ≡ watched.mercy → latest es ≤ gate.moment
       → ShowsTrip gate.tripped es → IsGateOf watched gate
-  gate_shown watched gate es trip last within grace late shown = record {
+  gate_shown watched gate es trip last within grace mercy late shown = record {
     last = last;
     within = within;
     grace = grace;
+    mercy = mercy;
     trip = λ word is.
         let shows : ShowsTrip (Some word) es = subst (λ (t : Option ℕ). ShowsTrip t es) is shown in
         let found = tripped_by es gate.moment shows.0 late in
         ((found.0, trip ∙ found.1, found.2), ap word_in trip ∙ word_found es word shows);
   }
+
+module _ {A C R K P L Q : Type 0} {links : K → LinkMeaning} {listeners : L → ListenerMeaning} {clocks : Q → ClockMeaning} {cause : P → Option (ℕ × ℕ) → List (EventOf C R K) → EventOf C R K → Type 0} where
+  -- a look at a board enters a Trip at most
+  pub looked_adds : (old new : BoardAs A C R K P L Q) → LooksOn clocks old new → MayLook links listeners clocks cause new → TripsAs 0 old.log.records.items new.log.records.items
+  looked_adds old new looks may = adds_trip old.log.records.items new.log.records.items looks.adds may.keeps.legal.ordered

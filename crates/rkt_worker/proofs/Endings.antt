@@ -1,26 +1,19 @@
 -- What is known of an exchange with a link that has ended.
-use Rattle.std.proofs.Common.{◌≡◌, ◌≤◌, ℕ, Bool, true, false, None, Some, Option, Result, arith, refl, sym, subst}
+use Rattle.std.proofs.Common.{◌≡◌, ◌≤◌, ◌∙◌, ℕ, Bool, true, false, None, Some, Option, arith, refl, sym, subst}
 use Rattle.std.specs.Prelude.{IfSome, IsNone, IsSome, MatchOption}
 use Rattle.std.specs.List.{All}
 use Rattle.rkt_base.specs.declared.poll.Poll.TheVariants.{Pending}
-use Rattle.rkt_cancel.specs.Cancel.{Cancellable}
+use Rattle.rkt_source.specs.Cancel.{Cancellable}
 use Rattle.rkt_data.specs.Body.{Body}
-use Rattle.rkt_fairing.specs.Callbacks.{ResponseAt}
-use Rattle.rkt_http.specs.declared.status.Status.{Status}
-use Rattle.rkt_lifecycle.specs.Beginning.{beginning}
-use Rattle.rkt_lifecycle.specs.Ended.{IfFinished, handle_of}
-use Rattle.rkt_lifecycle.specs.Relations.{Relations}
-use Rattle.rkt_lifecycle.specs.Stands.{EndsSo, ExchangeGives, SeenExchange, SeenPhase, StandsFor}
-use Rattle.rkt_lifecycle.specs.Tables.{SeenTables}
-use Rattle.rkt_lifecycle.specs.declared.ended.EndedOf.{EndedOf}
-use Rattle.rkt_lifecycle.specs.declared.ended.EndedOf.TheVariants.{Finished, Starved}
-use Rattle.rkt_message.specs.Response.{ResponseOf}
+use Rattle.rkt_exchange.specs.Beginning.{beginning}
+use Rattle.rkt_exchange.specs.Ended.{IfFinished, handle_of}
+use Rattle.rkt_exchange.specs.Relations.{Relations}
+use Rattle.rkt_exchange.specs.Invariant.{EndsSo, ExchangeGives, SeenExchange, SeenPhase, InvariantFor}
+use Rattle.rkt_exchange.specs.Tables.{SeenTables}
+use Rattle.rkt_exchange.specs.declared.ended.EndedOf.{EndedOf}
+use Rattle.rkt_exchange.specs.declared.ended.EndedOf.TheVariants.{Finished, Starved}
 use Rattle.rkt_request.specs.Incoming.{IsIncoming}
-use Rattle.rkt_request.specs.Lent.{Kept}
-use Rattle.rkt_request.specs.Seen.{Seen}
 use Rattle.rkt_request.specs.declared.head.Head.{Head}
-use Rattle.rkt_router.specs.Callbacks.{Handed, Refused, Reply, RequestAt}
-use Rattle.rkt_router.specs.Calling.{Calling}
 use Rattle.rkt_router.specs.Calls.{GateFits, GateRule, InWindow}
 use Rattle.rkt_routing.specs.Backs.{Sees}
 use Rattle.rkt_routing.specs.Beginning.{Beginning}
@@ -31,10 +24,11 @@ use Rattle.rkt_turn.specs.Shutdown.{Handle}
 use Rattle.rkt_link.specs.Asked.{Asked, GivesBody, IsUntouched}
 use Rattle.rkt_board.specs.Turns.{gate_with}
 use Rattle.rkt_worker.specs.Begun.{AllFit, IsBegun}
-use Rattle.rkt_link.proofs.Telling.{told_within}
-use Rattle.rkt_link.specs.Clock.{ClockMeaning, IsAmid, IsWithin, TellsOn}
+use Rattle.rkt_worker.specs.Gates.{IsGateOf, Watched, WatchedOn, told, word_in}
+use Rattle.rkt_worker.proofs.Cutting.{word_shown, word_stays}
+use Rattle.rkt_link.specs.Clock.{ClockMeaning, IsAmid, IsWithin}
 use Rattle.rkt_worker.specs.Lifecycle.{Lifecycle, body_from}
-use Rattle.rkt_worker.specs.Serving.{callbacks_with, gates_with}
+use Rattle.rkt_worker.specs.Serving.{gates_with}
 
 in_window : (window : Option (ℕ × ℕ)) (moment : ℕ) → IsWithin window moment → InWindow window moment
 in_window None moment within = tt
@@ -67,16 +61,25 @@ pub fit_before : (rule : GateRule) (grace mercy : ℕ) (old now new : ClockMeani
 fit_before rule grace mercy old now new before after rises still fit moment tripped amid shown =
     fit moment tripped (record { from = amid.from; to = omega (arith, amid.to, rises); within = amid.within }) (λ some. still (shown some))
 
--- the Gate of a moment that was told last, with what was seen by then, fits them
-pub fit_gate : (rule : GateRule) (grace mercy : ℕ) (first old new : ClockMeaning) (seen : Option ℕ) (gate : Gate) → AllFit rule grace mercy first new seen → gate ≡ gate_with gate.moment gate.tripped grace mercy → (IsSome gate.tripped → IsSome seen)
-    → TellsOn first old → IsAmid old new gate.moment → GateFits rule gate
-fit_gate rule grace mercy first old new seen gate fit is shown told amid =
-    let since : IsAmid first new gate.moment = record { from = omega (arith, told.rises, amid.from); to = amid.to; within = told_within first old gate.moment told amid.within } in
-    subst (λ (x : Gate). GateFits rule x) (sym is) (fit gate.moment gate.tripped since shown)
+-- so where more was watched meanwhile
+pub fit_so_far : (rule : GateRule) (grace mercy : ℕ) (first old new : Watched) → WatchedOn old new → AllFit rule grace mercy (told first) (told new) (word_in new.trip) → AllFit rule grace mercy (told first) (told old) (word_in old.trip)
+fit_so_far rule grace mercy first old new on fit = fit_before rule grace mercy (told first) (told old) (told new) (word_in old.trip) (word_in new.trip) on.rises (word_stays old new on) fit
+
+-- the Gate that was given last fits them
+pub fit_gate : (rule : GateRule) (grace mercy : ℕ) (first new : Watched) (gate : Gate) → AllFit rule grace mercy (told first) (told new) (word_in new.trip) → WatchedOn first new → IsGateOf new gate → new.grace ≡ grace → new.mercy ≡ mercy → GateFits rule gate
+fit_gate rule grace mercy first new gate fit on is same_grace same_mercy =
+    let now : first.last ≤ gate.moment = subst (λ (n : ℕ). first.last ≤ n) is.last on.rises in
+    let since : IsAmid (told first) (told new) gate.moment = record {
+      from = now;
+      to = omega (arith, is.last);
+      within = subst (λ (w : Option (ℕ × ℕ)). IsWithin w gate.moment) on.window is.within;
+    } in
+    subst (λ (n : ℕ). GateFits rule (gate_with gate.moment gate.tripped n gate.mercy)) (sym (is.grace ∙ same_grace))
+    (subst (λ (n : ℕ). GateFits rule (gate_with gate.moment gate.tripped grace n)) (sym (is.mercy ∙ same_mercy)) (fit gate.moment gate.tripped since (word_shown new gate is)))
 
 module _ {V B C R F FTask GTask H HTask K KTask N : Type 0} (rel : Relations V B C R F FTask GTask H HTask K KTask) (first : Beginning V B C) (tables : SeenTables F H K N V) where
   -- one that was Pending goes on
-  pub goes_on : (waits : Gate → B → B → Type 0) (gate : Gate) (phase : Option (SeenPhase V B C R F FTask GTask H HTask K KTask N)) → ExchangeGives rel first tables waits gate phase Pending → StandsFor rel first tables phase
+  pub goes_on : (waits : Gate → B → B → Type 0) (gate : Gate) (phase : Option (SeenPhase V B C R F FTask GTask H HTask K KTask N)) → ExchangeGives rel first tables waits gate phase Pending → InvariantFor rel first tables phase
   goes_on waits gate None gives = absurd gives
   goes_on waits gate (Some now) gives = gives.0
 
@@ -98,13 +101,12 @@ pub run_amid : {C R : Type 0} (old new : ClockMeaning) (ended : EndedOf C R Hand
 run_amid old new (Finished run response handle) within between = record { from = between.0; to = between.1; within = within_window old.window run.moment within }
 run_amid old new (Starved handle) within between = tt
 
-module _ {V S C R F FTask GTask H HTask K KTask N : Type 0} (requests : Calling F (Unit {0}) (RequestAt V (Body (Cancellable S)) C) (Unit {0}) FTask) (responses : Calling F (Seen V) (ResponseAt R C) (Unit {0}) GTask)
-    (handlers : Calling H (Handed V (Body (Cancellable S))) (Kept C) (Reply R (Body (Cancellable S))) HTask) (catchers : Calling K (Refused V) (Kept C) (Result (ResponseOf R) Status) KTask)
+module _ {V S C R F FTask GTask H HTask K KTask N : Type 0} (callbacks : GateRule → Relations V (Body (Cancellable S)) C R F FTask GTask H HTask K KTask)
     (rule : GateRule) (tables : SeenTables F H K N V) (sources : S → Meaning) where
   pub ended_lifecycle : (asked : Asked) (head : Head) (source : S) (handle : Handle) (exchange : SeenExchange V (Body (Cancellable S)) C R F FTask GTask H HTask K KTask N) (ended : EndedOf C R Handle)
-      → asked.head ≡ head → IsUntouched (sources source) → GivesBody asked (sources source) → (begun : IsBegun sources requests responses handlers catchers tables head source handle exchange)
-      → EndsSo (callbacks_with sources requests responses handlers catchers rule) (beginning begun.request begun.jar begun.faults (body_from source) handle) tables ended
-      → IfFinished ended (Lifecycle (callbacks_with sources requests responses handlers catchers rule) tables sources asked)
+      → asked.head ≡ head → IsUntouched (sources source) → GivesBody asked (sources source) → (begun : IsBegun callbacks tables head source handle exchange)
+      → EndsSo (callbacks rule) (beginning begun.request begun.jar begun.faults (body_from source) handle) tables ended
+      → IfFinished ended (Lifecycle (callbacks rule) tables sources asked)
   ended_lifecycle asked head source handle exchange (Starved back) same untouched gives begun ends = tt
   ended_lifecycle asked head source handle exchange (Finished run response back) same untouched gives begun ends = record {
     request = begun.request;

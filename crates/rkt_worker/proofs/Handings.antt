@@ -5,13 +5,13 @@ use Rattle.std.proofs.lemmas.Bool.{leb-true}
 use Rattle.std.specs.Fn.{Once, FnOnceReturnsAtMut}
 use Rattle.rkt_base.specs.declared.poll.Poll.{Poll}
 use Rattle.rkt_base.specs.declared.poll.Poll.TheVariants.{Ready, Pending}
-use Rattle.rkt_cancel.specs.Cancel.{Cancellable, Cancels, ClosedAt, Ending, advanced, granted, is_open, late, noticed, run_out, withheld}
-use Rattle.rkt_cancel.specs.declared.stage.Refused.{Refused}
-use Rattle.rkt_cancel.specs.declared.stage.Stage.{Stage}
-use Rattle.rkt_cancel.specs.declared.stage.Stage.TheVariants.{Active, Grace, Mercy, Gone}
+use Rattle.rkt_source.specs.Cancel.{Cancellable, Cancels, ClosedAt, Ending, advanced, granted, is_open, late, noticed, run_out, withheld}
+use Rattle.rkt_source.specs.declared.stage.Refused.{Refused}
+use Rattle.rkt_source.specs.declared.stage.Stage.{Stage}
+use Rattle.rkt_source.specs.declared.stage.Stage.TheVariants.{Active, Grace, Mercy, Gone}
 use Rattle.rkt_link.specs.Clock.{IsWithin}
 use Rattle.rkt_link.specs.Link.{LinkMeaning, AfterHand, ComesBack}
-use Rattle.rkt_link.specs.declared.link.Handed.{Handed}
+use Rattle.rkt_link.specs.declared.link.Delivery.{Delivery}
 use Rattle.rkt_message.specs.declared.piece.Piece.{Piece}
 use Rattle.rkt_source.specs.declared.source.Gate.{Gate}
 use Rattle.rkt_worker.specs.Gates.{IsCut, IsGateOf, IsSeen, MayStand, Watched, WatchedOn}
@@ -93,17 +93,17 @@ module _ {K : Type 0} (links : K → LinkMeaning) (shuts : K → Poll (Unit {0})
       subst (λ (r : Poll Refused). HandsOver links gate old piece new (withheld r)) (sym closed.1) (saw, cut, inr at, ap (λ (c : Cancellable K). c.stage) closed.0, ap (λ (c : Cancellable K). links c.io) closed.0)
 
   -- the machine hands a piece over, or the link is past its grace
-  pub hands_over : {F : Type 0} (call : Once F (MutBor K × Unit {0}) (Poll Handed × (MutBor K × Unit {0}))) (f : F)
-      → (answer : Poll (Result Handed Refused)) → Cancels shuts (FnOnceReturnsAtMut call f) gate old new answer
-      → ((r : Poll Handed) (p q : MutBor K) → call.post f (p, tt) (r, (q, tt)) → (handed : Handed) × (r ≡ Ready handed) × AfterHand handed (links p.now) piece (links q.now) × ComesBack handed piece)
+  pub hands_over : {F : Type 0} (call : Once F (MutBor K × Unit {0}) (Poll Delivery × (MutBor K × Unit {0}))) (f : F)
+      → (answer : Poll (Result Delivery Refused)) → Cancels shuts (FnOnceReturnsAtMut call f) gate old new answer
+      → ((r : Poll Delivery) (p q : MutBor K) → call.post f (p, tt) (r, (q, tt)) → (handed : Delivery) × (r ≡ Ready handed) × AfterHand handed (links p.now) piece (links q.now) × ComesBack handed piece)
       → HandsOver links gate old piece new answer
   hands_over call f answer (inl (open_at, stage, made)) hands =
       let called = made.1 in
       let handed = hands made.0 called.shown called.left called.met in
       let link : AfterHand handed.0 (links old.io) piece (links new.io) =
       subst (λ (k : K). AfterHand handed.0 (links k) piece (links new.io)) called.shows (subst (λ (k : K). AfterHand handed.0 (links called.shown.now) piece (links k)) called.leaves handed.2) in
-      subst (λ (a : Poll (Result Handed Refused)). HandsOver links gate old piece new a) (sym (made.2 ∙ ap granted handed.1)) (open_at, stage, link, handed.3)
-  hands_over call f answer (inr (refusal, closed, is)) hands = subst (λ (a : Poll (Result Handed Refused)). HandsOver links gate old piece new a) (sym is) (refused_by (advanced gate old.stage) refusal refl closed)
+      subst (λ (a : Poll (Result Delivery Refused)). HandsOver links gate old piece new a) (sym (made.2 ∙ ap granted handed.1)) (open_at, stage, link, handed.3)
+  hands_over call f answer (inr (refusal, closed, is)) hands = subst (λ (a : Poll (Result Delivery Refused)). HandsOver links gate old piece new a) (sym is) (refused_by (advanced gate old.stage) refusal refl closed)
 
 module _ {K : Type 0} (links : K → LinkMeaning) (shuts : K → Poll (Unit {0}) → K → Type 0) (keeps : (k l : K) (answer : Poll (Unit {0})) → shuts k answer l → links l ≡ links k) (gate : Gate) (old new : Cancellable K) where
   shut_by : (saw cut : ℕ) (t : Bool) (refusal : Poll Refused) → Ending shuts t saw cut old.io new refusal → ShutsAs links saw cut old new (withheld refusal)

@@ -11,3 +11,4 @@ pub mod Outcomes
 pub mod Pieces
 pub mod Resting
 pub mod Sendings
+pub mod Taken

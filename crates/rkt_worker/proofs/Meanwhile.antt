@@ -1,16 +1,16 @@
 -- What is entered on a board while a link is served.
-use Rattle.std.proofs.Common.{inl, inr, ◌≡◌, ◌<◌, ◌≤◌, ◌+◌, ◌⊎◌, ◌++◌, ℕ, true, false, List, [], ◌∷◌, None, refl, ap, ◌∙◌, sym, subst, arith}
+use Rattle.std.proofs.Common.{inl, inr, ◌≡◌, ◌<◌, ◌≤◌, ◌+◌, ◌⊎◌, ◌++◌, ℕ, true, false, List, [], ◌∷◌, ap, ◌∙◌, sym, subst, arith}
 use Rattle.std.proofs.lemmas.Grind.{common_steps}
 use Rattle.std.specs.List.{list_any}
 use Rattle.rkt_turn.specs.HandsBack.{HandsBack}
 use Rattle.rkt_turn.specs.Shutdown.{Handle}
 use Rattle.rkt_board.proofs.Pushes.{after_last, any_push, map_push}
-use Rattle.rkt_board.specs.Events.{is_trip, is_close, trip_of, InOrder, Ordered}
-use Rattle.rkt_board.specs.Marks.{events}
-use Rattle.rkt_board.specs.Turns.{mark, TripsAs}
+use Rattle.rkt_board.specs.Events.{is_trip, is_close, InOrder, Ordered}
+use Rattle.rkt_board.specs.Records.{events}
+use Rattle.rkt_board.specs.Turns.{logged, TripsAs}
 use Rattle.rkt_board.specs.declared.history.EventOf.{EventOf}
-use Rattle.rkt_board.specs.declared.history.EventOf.TheVariants.{Lift, Trip, Admit, End, Down, Close}
-use Rattle.rkt_board.specs.declared.mark.MarkOf.{MarkOf}
+use Rattle.rkt_board.specs.declared.history.EventOf.TheVariants.{Trip}
+use Rattle.rkt_board.specs.declared.log_record.RecordOf.{RecordOf}
 
 -- a handle has looked at the wire, or it has seen no word
 abbrev pub Looks : Handle → Handle → Type 0
@@ -22,28 +22,18 @@ looks_again old mid new (inl none) load back = omega (arith, none.1, load none.0
 looks_again old mid new (inr looked) load back = omega (arith, looked, back.looked)
 
 module _ {C R L : Type 0} where
-  pub with_trip : (by word moment : ℕ) (old new : List (MarkOf C R L)) → new ≡ old ++ mark by (Trip word moment) ∷ [] → events new ≡ events old ++ Trip word moment ∷ []
-  with_trip by word moment old new is = ap (λ ms. events ms) is ∙ map_push (λ m. m.event) old (mark by (Trip word moment))
+  pub with_trip : (by word moment : ℕ) (old new : List (RecordOf C R L)) → new ≡ old ++ logged by (Trip word moment) ∷ [] → events new ≡ events old ++ Trip word moment ∷ []
+  with_trip by word moment old new is = ap (λ ms. events ms) is ∙ map_push (λ m. m.event) old (logged by (Trip word moment))
 
   -- a Trip closes nothing
-  pub still_unclosed : (by : ℕ) (old new : List (MarkOf C R L)) → TripsAs by old new → list_any is_close (events old) ≡ false → list_any is_close (events new) ≡ false
+  pub still_unclosed : (by : ℕ) (old new : List (RecordOf C R L)) → TripsAs by old new → list_any is_close (events old) ≡ false → list_any is_close (events new) ≡ false
   still_unclosed by old new (inl same) unclosed = subst (λ ms. list_any is_close (events ms) ≡ false) (sym same) unclosed
   still_unclosed by old new (inr (word, moment, is)) unclosed =
       let e : EventOf C R L = Trip word moment in
       ap (list_any is_close) (with_trip by word moment old new is) ∙ (any_push is_close (events old) e ∙ grind (arith, common_steps, unclosed))
 
-  -- where there is no Trip, none is found
-  pub no_trip : (es : List (EventOf C R L)) → list_any is_trip es ≡ false → trip_of es ≡ None
-  no_trip [] none = refl
-  no_trip (Trip w m ∷ es) none = absurd (cc none)
-  no_trip (Lift calls ∷ es) none = no_trip es none
-  no_trip (Admit n m b ∷ es) none = no_trip es none
-  no_trip (End n x m b ∷ es) none = no_trip es none
-  no_trip (Down calls ∷ es) none = no_trip es none
-  no_trip (Close m ∷ es) none = no_trip es none
-
   -- there is no second Trip
-  trips_once : (by : ℕ) (old mid new : List (MarkOf C R L)) (word moment again later : ℕ) → Ordered (events new) → mid ≡ old ++ mark by (Trip word moment) ∷ [] → new ≡ mid ++ mark by (Trip again later) ∷ [] → ⊥
+  trips_once : (by : ℕ) (old mid new : List (RecordOf C R L)) (word moment again later : ℕ) → Ordered (events new) → mid ≡ old ++ logged by (Trip word moment) ∷ [] → new ≡ mid ++ logged by (Trip again later) ∷ [] → ⊥
   trips_once by old mid new word moment again later ordered first second =
       let e : EventOf C R L = Trip word moment in
       let tripped : list_any is_trip (events mid) ≡ true = ap (list_any is_trip) (with_trip by word moment old mid first) ∙ (any_push is_trip (events old) e ∙ grind (arith, common_steps)) in
@@ -51,7 +41,7 @@ module _ {C R L : Type 0} where
       absurd (cc (tripped, last.1.1.1))
 
   -- so what enters a Trip at most, and then again, enters one at most
-  pub trips_then : (by : ℕ) (old mid new : List (MarkOf C R L)) → Ordered (events new) → TripsAs by old mid → TripsAs by mid new → TripsAs by old new
+  pub trips_then : (by : ℕ) (old mid new : List (RecordOf C R L)) → Ordered (events new) → TripsAs by old mid → TripsAs by mid new → TripsAs by old new
   trips_then by old mid new ordered (inl same) second = subst (λ ms. TripsAs by ms new) same second
   trips_then by old mid new ordered (inr (word, moment, is)) (inl same) = inr (word, moment, same ∙ is)
   trips_then by old mid new ordered (inr (word, moment, is)) (inr (again, later, then)) = absurd (trips_once by old mid new word moment again later ordered is then)

@@ -4,7 +4,7 @@ use Rattle.std.specs.Option.{ForSome}
 use Rattle.std.specs.Prelude.{IsNone}
 use Rattle.rkt_board.specs.declared.history.End.{End as Ending}
 use Rattle.rkt_board.specs.declared.history.End.TheVariants.{Answered, Lost, Cut, Failed, Abandoned, Starved}
-use Rattle.rkt_cancel.specs.Cancel.{Cancellable}
+use Rattle.rkt_source.specs.Cancel.{Cancellable}
 use Rattle.rkt_link.specs.Link.{LinkMeaning}
 use Rattle.rkt_message.specs.declared.piece.Piece.{Piece}
 use Rattle.rkt_worker.specs.Gates.{IsCutOff, Watched}

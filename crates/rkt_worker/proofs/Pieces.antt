@@ -1,11 +1,12 @@
 -- What a link holds, piece by piece.
-use Rattle.std.proofs.Common.{◌≡◌, ◌≤◌, ◌+◌, ◌++◌, ℕ, Bool, false, IsSome, IsTrue, arith, subst, List, [], Option, Some, None, option_map, inl, inr, ap, ◌∙◌, sym, refl, append_assoc, append-nil}
+use Rattle.std.proofs.Common.{◌≡◌, ◌≤◌, ◌+◌, ◌++◌, ℕ, Bool, false, true, IsSome, IsTrue, arith, subst, List, [], Option, Some, None, option_map, inl, inr, ap, ◌∙◌, sym, refl, append_assoc, append-nil}
 use Rattle.std.proofs.lemmas.Grind.{common_steps}
 use Rattle.std.specs.Option.{ForSome}
 use Rattle.rkt_source.specs.Source.{Meaning}
-use Rattle.rkt_cancel.specs.Cancel.{Cancellable, cut_of, saw_of}
-use Rattle.rkt_lifecycle.specs.Tables.{SeenTables, table_of}
-use Rattle.rkt_lifecycle.specs.declared.ended.RunOf.{RunOf}
+use Rattle.rkt_source.specs.Cancel.{Cancellable, cut_of, saw_of}
+use Rattle.rkt_source.specs.declared.stage.Stage.TheVariants.{Active}
+use Rattle.rkt_exchange.specs.Tables.{SeenTables, table_of}
+use Rattle.rkt_exchange.specs.declared.ended.RunOf.{RunOf}
 use Rattle.rkt_message.specs.Reading.{ReadsOn}
 use Rattle.rkt_message.specs.Response.{ResponseOf}
 use Rattle.rkt_message.specs.Sending.{ReadOn}
@@ -18,6 +19,7 @@ use Rattle.rkt_worker.specs.Lifecycle.{Lifecycle}
 use Rattle.rkt_link.specs.Link.{LinkMeaning, with_taken}
 use Rattle.rkt_worker.specs.Sent.{IsSentAs, LeftBy, fault_count}
 use Rattle.rkt_worker.specs.Serving.{Serving, callbacks_of}
+use Rattle.rkt_worker.specs.Waiting.{MayBePending}
 use Rattle.rkt_board.specs.declared.history.End.{End as Ending}
 use Rattle.rkt_board.specs.declared.history.End.TheVariants.{Answered, Lost, Cut, Failed, Abandoned, Starved}
 use Rattle.rkt_board.specs.declared.history.EntryOf.{EntryOf}
@@ -118,11 +120,17 @@ module _ {V S C R F FTask GTask H HTask K KTask L N : Type 0} (served : Serving 
   caused_sent ended taken is shown behind lifecycle fresh none on reads sent left watched word grace cut =
       subst (CausedAs served tables seen entry) (sym (ap (λ (e : EntryOf _ _ _). e.end) is)) (caused_at ended taken (ran_sent ended taken is shown behind lifecycle fresh none on reads sent left) sent left watched word grace cut)
 
--- nothing was sent on a link that held nothing, of an exchange for which there was no memory
-pub starved_unsent : {V S C R F FTask GTask H HTask K KTask L N : Type 0} (served : Serving V S C R F FTask GTask H HTask K KTask L) (tables : SeenTables F H K N V) (seen : Option ℕ) (entry : EntryOf C R L) (io : Cancellable L) (link : L)
-    → entry ≡ record { link = io; run = None; response = None; end = Starved } → io.io ≡ link → ForSome (served.links link).held (λ held. held ≡ []) → Caused served tables seen entry
-starved_unsent served tables seen entry io link is same fresh =
-    subst (Caused served tables seen) (sym is) (inl (record { run = refl; response = refl; held = subst (λ k. ForSome (served.links k).held (λ held. held ≡ [])) (sym same) fresh }))
+-- nothing was sent on a link that held nothing and had not failed
+module _ {V S C R F FTask GTask H HTask K KTask L N : Type 0} (served : Serving V S C R F FTask GTask H HTask K KTask L) (tables : SeenTables F H K N V) (seen : Option ℕ)
+    (entry : EntryOf C R L) (io : Cancellable L) (active : io.stage ≡ Active) (fresh : ForSome (served.links io.io).held (λ held. held ≡ [])) (none : (served.links io.io).faults ≡ 0) where
+  -- of an exchange for which there was no memory
+  pub starved_unsent : entry ≡ record { link = io; run = None; response = None; end = Starved } → Caused served tables seen entry
+  starved_unsent is = subst (Caused served tables seen) (sym is) (inl (record { run = refl; response = refl; held = fresh; faults = none; stage = active }))
+
+  -- of one that was left alone behind a Trip, where one may be Pending
+  pub abandoned_unsent : entry ≡ record { link = io; run = None; response = None; end = Abandoned } → IsSome seen → MayBePending (callbacks_of served tables true) served.sources tables
+      → Caused served tables seen entry
+  abandoned_unsent is tripped waits = subst (Caused served tables seen) (sym is) (tripped, record { run = refl; response = refl; held = fresh; faults = none; stage = active }, waits)
 
 -- how a sending ended, said of equal values
 pub ended_as : {S : Type 0} (stream : S → Meaning) (answer : Ending) (turns n : ℕ) (begun first last left : ResponseOf S) (old new : LinkMeaning) → turns ≡ n → begun ≡ first → last ≡ left

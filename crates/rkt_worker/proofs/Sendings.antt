@@ -15,7 +15,7 @@ use Rattle.rkt_message.specs.declared.content.Content.TheVariants as content
 use Rattle.rkt_message.specs.declared.piece.Piece.{Piece}
 use Rattle.rkt_message.specs.declared.piece.Piece.TheVariants.{Head, Chunk, End}
 use Rattle.rkt_message.specs.declared.piece.PieceError.{PieceError}
-use Rattle.rkt_cancel.specs.Cancel.{Cancellable}
+use Rattle.rkt_source.specs.Cancel.{Cancellable}
 use Rattle.rkt_link.specs.Link.{LinkMeaning, Faults, with_taken}
 use Rattle.rkt_board.specs.declared.history.End.{End as Ending}
 use Rattle.rkt_board.specs.declared.history.End.TheVariants.{Answered, Lost, Cut, Failed, Abandoned, Starved}

@@ -2,15 +2,14 @@
 use Rattle.std.specs.Prelude.{◌≡◌, ◌<◌, ◌⊎◌, ℕ, true, false, List, IsSome, Option, Some, slice_get}
 use Rattle.std.specs.List.{AllByRecursion, list_any}
 use Rattle.std.specs.Option.{ForSome}
-use Rattle.rkt_lifecycle.specs.Tables.{SeenTables}
+use Rattle.rkt_exchange.specs.Tables.{SeenTables}
 use Rattle.rkt_link.specs.Asked.{Asked}
 use Rattle.rkt_worker.specs.Causes.{Caused, AllCaused}
 use Rattle.rkt_link.specs.Listener.{ListenerMeaning}
 use Rattle.rkt_board.specs.Board.{TimedIn}
 use Rattle.rkt_board.specs.Closed.{AllAdmitted}
 use Rattle.rkt_board.specs.Events.{is_trip, admitted, end_of, Ordered, IsClosed, EachEndsOnce}
-use Rattle.rkt_orbit.specs.Calls.{CallingAtShutdown}
-use Rattle.rkt_worker.specs.Serving.{Serving}
+use Rattle.rkt_worker.specs.Serving.{Launching, Serving}
 use Rattle.rkt_board.specs.declared.history.EntryOf.{EntryOf}
 use Rattle.rkt_board.specs.declared.history.EventOf.{EventOf}
 use Rattle.rkt_board.specs.declared.history.EventOf.TheVariants.{Lift, Trip, Admit, End, Down, Close}
@@ -37,7 +36,8 @@ module _ {C R L : Type 0} where
   IsCallers (Down calls) = Unit {0}
   IsCallers (Close moment) = Unit {0}
 
-module _ {V S C R F FTask GTask H HTask K KTask L N : Type 0} (served : Serving V S C R F FTask GTask H HTask K KTask L) (tables : SeenTables F H K N V) where
+module _ {V S C R F FTask GTask H HTask K KTask L N : Type 0} (served : Serving V S C R F FTask GTask H HTask K KTask L)
+    (tables : SeenTables F H K N V) where
   -- the number k has an entry with its cause, and its link asks what was given as the k-th
   pub record HasEntry (given : Option (List Asked)) (events : List (EventOf C R L)) (k : ℕ) : Type 0 where
     pub entry : EntryOf C R L
@@ -48,14 +48,19 @@ module _ {V S C R F FTask GTask H HTask K KTask L N : Type 0} (served : Serving 
     pub caused : Caused served tables seen entry
     pub asks : ForSome given (λ asks. (served.links entry.link.io).asked ≡ slice_get asks k)
 
-module _ {V S C R F FTask GTask STask H HTask K KTask L N : Type 0} (allowed : ℕ → Type 0) (shuts : CallingAtShutdown H K N V F STask) (served : Serving V S C R F FTask GTask H HTask K KTask L) (tables : SeenTables F H K N V) where
+  -- each number that was admitted has its entry
+  abbrev pub HasEntries : Option (List Asked) → List (EventOf C R L) → Type 0
+  HasEntries given events = (k : ℕ) → k < admitted events → HasEntry given events k
+
+module _ {V S C R F FTask GTask STask H HTask K KTask N L : Type 0}
+    (launch : Launching V S C R F FTask GTask STask H HTask K KTask N L) (tables : SeenTables F H K N V) where
   -- a history that is legal and closed, with what the listener has given
   pub record IsLegal (given : Option (List Asked)) (events : List (EventOf C R L)) : Type 0 where
     pub ordered : Ordered events
     pub closed : IsClosed events
-    pub caused : AllCaused allowed shuts served tables events
+    pub caused : AllCaused launch tables events
     pub once : EachEndsOnce events
-    pub entries : (k : ℕ) → k < admitted events → HasEntry served tables given events k
+    pub entries : HasEntries launch.serving tables given events
     pub all_admitted : AllAdmitted given events
-    pub timed : AllTimed served.window events
+    pub timed : AllTimed launch.serving.window events
     pub callers : AllByRecursion IsCallers events

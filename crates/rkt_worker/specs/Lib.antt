@@ -11,4 +11,5 @@ pub mod Progress
 pub mod Rest
 pub mod Sent
 pub mod Serving
+pub mod Taking
 pub mod Waiting

@@ -18,16 +18,18 @@ IsProperFront Whole pieces = (rest : List Piece) × (rest ≢ []) × Whole (piec
 
 -- why the body of a response failed that was `first` and is `last` now: its source refused, or may be Pending so often
 abbrev pub BodyFails : {S : Type 0} → (S → Meaning) → ℕ → ResponseOf S → ResponseOf S → Type 0
-BodyFails stream turns first last = ((e : SourceError) × StreamErrs stream e first.body.content last.body.content) ⊎ MayWait stream turns first.body.content
+BodyFails stream turns first last =
+    ((e : SourceError) × StreamErrs stream e first.body.content last.body.content) ⊎ MayWait stream turns first.body.content
 
--- a response that was `first` and is `last` now was sent as these pieces, and that ended so; a body fails only once the head was sent,
--- and where there was no memory to go on, nothing was sent or a part
+-- a response that was `first` and is `last` now was sent as these pieces, and that ended so; a body fails only once the
+-- head was sent, and where there was no memory to go on, nothing was sent or a part
 abbrev pub IsSentAs : {S : Type 0} → (S → Meaning) → ℕ → ResponseOf S → ResponseOf S → Ending → List Piece → Type 0
 IsSentAs stream turns first last Answered pieces = Sent stream first pieces
 IsSentAs stream turns first last Lost pieces = IsProperFront (Sent stream first) pieces
 IsSentAs stream turns first last (Cut saw cut) pieces = IsProperFront (Sent stream first) pieces
 IsSentAs stream turns first last (Failed BadHead) pieces = (has_head first ≡ false) × (pieces ≡ [])
-IsSentAs stream turns first last (Failed BodyFault) pieces = BodyFails stream turns first last × IsProperFront (Sent stream first) pieces × (pieces ≢ [])
+IsSentAs stream turns first last (Failed BodyFault) pieces =
+    BodyFails stream turns first last × IsProperFront (Sent stream first) pieces × (pieces ≢ [])
 IsSentAs stream turns first last Abandoned pieces = ⊥
 IsSentAs stream turns first last Starved pieces = (pieces ≡ []) ⊎ IsProperFront (Sent stream first) pieces
 

@@ -1,15 +1,16 @@
 -- What an application, and what it is served over, mean.
 use Rattle.std.specs.Prelude.{ℕ, Bool, Option, None, Some, Result}
-use Rattle.rkt_cancel.specs.Cancel.{Cancellable}
+use Rattle.rkt_source.specs.Cancel.{Cancellable}
 use Rattle.rkt_data.specs.Body.{Body}
 use Rattle.rkt_fairing.specs.Callbacks.{ResponseAt}
 use Rattle.rkt_fairing.specs.InSlot.{slot_request, slot_response}
 use Rattle.rkt_fairing.specs.declared.slot.Slot.{Slot}
 use Rattle.rkt_http.specs.declared.status.Status.{Status}
-use Rattle.rkt_lifecycle.specs.Peeks.{peeks_of}
-use Rattle.rkt_lifecycle.specs.Relations.{Relations, relations}
-use Rattle.rkt_lifecycle.specs.Tables.{SeenTables}
+use Rattle.rkt_exchange.specs.Peeks.{peeks_of}
+use Rattle.rkt_exchange.specs.Relations.{Relations, relations}
+use Rattle.rkt_exchange.specs.Tables.{SeenTables}
 use Rattle.rkt_message.specs.Response.{ResponseOf}
+use Rattle.rkt_fairing.specs.Calls.{CallingAtShutdown}
 use Rattle.rkt_request.specs.Lent.{Kept}
 use Rattle.rkt_request.specs.Seen.{Seen}
 use Rattle.rkt_router.specs.Callbacks.{Handed, Refused, Reply, RequestAt}
@@ -33,28 +34,52 @@ pub record Serving (V S C R F FTask GTask H HTask K KTask L : Type 0) : Type 1 w
   pub window : Option (ℕ × ℕ)
 
 -- what is attached is called as its slot says: the shield, or a fairing that means this
-abbrev pub serving : {V S C R F FTask GTask H HTask K KTask L : Type 0} → Calling F (Unit {0}) (RequestAt V (Body (Cancellable S)) C) (Unit {0}) FTask
-    → Calling F (Seen V) (ResponseAt R C) (Unit {0}) GTask → Calling H (Handed V (Body (Cancellable S))) (Kept C) (Reply R (Body (Cancellable S))) HTask
-    → Calling K (Refused V) (Kept C) (Result (ResponseOf R) Status) KTask → (S → Meaning) → (R → Meaning) → (L → LinkMeaning) → Option (ℕ × ℕ)
+abbrev pub serving : {V S C R F FTask GTask H HTask K KTask L : Type 0}
+    → Calling F (Unit {0}) (RequestAt V (Body (Cancellable S)) C) (Unit {0}) FTask
+    → Calling F (Seen V) (ResponseAt R C) (Unit {0}) GTask
+    → Calling H (Handed V (Body (Cancellable S))) (Kept C) (Reply R (Body (Cancellable S))) HTask
+    → Calling K (Refused V) (Kept C) (Result (ResponseOf R) Status) KTask
+    → (S → Meaning) → (R → Meaning) → (L → LinkMeaning) → Option (ℕ × ℕ)
     → Serving V S C R F FTask GTask H HTask K KTask L
 serving requests responses handlers catchers sources streams links window =
-    record { requests = slot_request requests; responses = slot_response responses; handlers = handlers; catchers = catchers; sources = sources; streams = streams; links = links; window = window }
+    record {
+      requests = slot_request requests;
+      responses = slot_response responses;
+      handlers = handlers;
+      catchers = catchers;
+      sources = sources;
+      streams = streams;
+      links = links;
+      window = window;
+    }
 
--- what the sources of bodies and the callbacks mean, these in their slots, under the Gates of a rule
-abbrev pub callbacks_with : {V S C R F FTask GTask H HTask K KTask : Type 0} → (S → Meaning) → Calling F (Unit {0}) (RequestAt V (Body (Cancellable S)) C) (Unit {0}) FTask
-    → Calling F (Seen V) (ResponseAt R C) (Unit {0}) GTask → Calling H (Handed V (Body (Cancellable S))) (Kept C) (Reply R (Body (Cancellable S))) HTask
-    → Calling K (Refused V) (Kept C) (Result (ResponseOf R) Status) KTask → GateRule → Relations V (Body (Cancellable S)) C R F FTask GTask H HTask K KTask
-callbacks_with sources requests responses handlers catchers rule = relations (peeks_of sources) (slot_request requests) (slot_response responses) handlers catchers rule
+-- STask is the type of the tasks of fairings at a shutdown, N that of what sentries ask
+
+-- what stands behind a history: the words that may be told, how fairings are called at a shutdown, and what its entries go by
+pub record Launching (V S C R F FTask GTask STask H HTask K KTask N L : Type 0) : Type 1 where
+  pub allowed : ℕ → Type 0
+  pub shuts : CallingAtShutdown H K N V F STask
+  pub serving : Serving V S C R F FTask GTask H HTask K KTask L
+
+abbrev pub launching : {V S C R F FTask GTask STask H HTask K KTask N L : Type 0}
+    → (ℕ → Type 0) → CallingAtShutdown H K N V F STask
+    → Serving V S C R F FTask GTask H HTask K KTask L → Launching V S C R F FTask GTask STask H HTask K KTask N L
+launching allowed shuts serving = record { allowed = allowed; shuts = shuts; serving = serving }
 
 -- Gates of a clock's moments, with these delays, which may show a trip or not
 abbrev pub gates_with : Option (ℕ × ℕ) → ℕ → ℕ → Bool → GateRule
-gates_with window grace mercy may_trip = record { window = window; delays = Some (grace, mercy); may_trip = may_trip; shown = None }
+gates_with window grace mercy may_trip =
+    record { window = window; delays = Some (grace, mercy); may_trip = may_trip; shown = None }
 
 -- the Gates that callbacks are polled under: the delays are the configuration's
 abbrev pub gates_of : {F H K N V : Type 0} → Option (ℕ × ℕ) → SeenTables F H K N V → Bool → GateRule
 gates_of window tables may_trip = gates_with window tables.config.grace tables.config.mercy may_trip
 
 -- what the callbacks mean under those
-abbrev pub callbacks_of : {V S C R F FTask GTask H HTask K KTask L N : Type 0} → Serving V S C R F FTask GTask H HTask K KTask L → SeenTables F H K N V → Bool
+abbrev pub callbacks_of : {V S C R F FTask GTask H HTask K KTask L N : Type 0}
+    → Serving V S C R F FTask GTask H HTask K KTask L
+    → SeenTables F H K N V
+    → Bool
     → Relations V (Body (Cancellable S)) C R F FTask GTask H HTask K KTask
-callbacks_of of_ tables may_trip = relations (peeks_of of_.sources) of_.requests of_.responses of_.handlers of_.catchers (gates_of of_.window tables may_trip)
+callbacks_of of_ tables may_trip =
+    relations (peeks_of of_.sources) of_.requests of_.responses of_.handlers of_.catchers (gates_of of_.window tables may_trip)

@@ -1,9 +1,10 @@
 //! What stands behind the events of a launch.
 ghost use Rattle.rkt_worker.specs.Lent.{IsLent};
 
+use crate::serves::Serves;
 use rkt_board::Served;
+use rkt_exchange::Tables;
 use rkt_fairing::App;
-use rkt_lifecycle::Tables;
 use rkt_link::Link;
 use std::marker::PhantomData;
 use std::snapshot::Snapshot;
@@ -35,7 +36,7 @@ pub(crate) fn lend<A: App>(tables: &Tables<A>) -> LentBy<A>
 impl<A: App, K: Link> Served<A, K> for Lent<A, Tables<A>> {
     ghost use Rattle.rkt_worker.specs.Lent.{cause_of, cause_free};
 
-    ghost cause = { cause_of A.Reason.allowed A.Fairing.Shuts.calling A.Fairing.Requests.calling A.Fairing.Responses.calling A.Handler.calling A.Catch.calling A.Source.meaning A.Stream.meaning K.meaning };
+    ghost cause = { cause_of ⟦<A as Serves<K>>⟧.launching };
 
-    ghost free = { cause_free A.Reason.allowed A.Fairing.Shuts.calling A.Fairing.Requests.calling A.Fairing.Responses.calling A.Handler.calling A.Catch.calling A.Source.meaning A.Stream.meaning K.meaning };
+    ghost free = { cause_free A.Reason.allowed ⟦<A as Serves<K>>⟧.launching (λ window word says. says) };
 }

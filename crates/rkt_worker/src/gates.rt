@@ -1,9 +1,10 @@
 //! Under which Gates a response is sent.
+ghost use Rattle.std.specs.Prelude.{◌≡◌};
 ghost use Rattle.rkt_worker.specs.Gates.{IsGateOf, Watched, WatchedOn};
 
 use rkt_data::Gate;
 
-/// Where the Gates come from under which a response is sent: one for each poll of its source and of its link.
+/// Where the Gates come from under which an exchange is polled and its response sent: one for each poll.
 pub trait Gates {
     /// It may be asked.
     ghost keeps: { Self → Type 0 };
@@ -20,6 +21,11 @@ pub trait Gates {
         ensures keeps { keeps self.new }
         ensures leads { leads self.old self.new }
         ensures gate { IsGateOf (watched self.new) result };
+
+    /// The word and the moment of the Trip, where there is one.
+    fn trip(&self) -> Option<(u64, u64)>
+        requires keeps { keeps self.now }
+        ensures trip { result ≡ (watched self.now).trip };
 
     /// One that was not asked is as it was.
     ghost stays: { (g : Self) → leads g g };

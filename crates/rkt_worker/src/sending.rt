@@ -1,15 +1,15 @@
 //! How a response is sent.
 ghost use Rattle.std.specs.Prelude.{◌≡◌, ◌≢◌, ◌↔◌, ℕ, Err, List, [], IfOk, IsTrue, true, false, max};
 ghost use Rattle.rkt_base.specs.declared.poll.Poll.{Poll};
-ghost use Rattle.rkt_cancel.specs.Cancel.{is_gone};
-ghost use Rattle.rkt_cancel.specs.declared.stage.Stage.{Stage};
+ghost use Rattle.rkt_source.specs.Cancel.{is_gone};
+ghost use Rattle.rkt_source.specs.declared.stage.Stage.{Stage};
 ghost use Rattle.rkt_message.specs.Reading.{ReadsOn};
 ghost use Rattle.rkt_message.specs.Sending.{ReadOn};
 ghost use Rattle.rkt_message.specs.Sent.{has_head};
 ghost use Rattle.rkt_message.specs.declared.piece.Piece.{Piece};
 ghost use Rattle.rkt_message.specs.declared.piece.PieceError.{PieceError};
 ghost use Rattle.rkt_link.specs.Link.{AfterHand, ComesBack};
-ghost use Rattle.rkt_link.specs.declared.link.Handed.{Handed};
+ghost use Rattle.rkt_link.specs.declared.link.Delivery.{Delivery};
 ghost use Rattle.rkt_board.specs.declared.history.End.TheVariants.{Cut};
 ghost use Rattle.rkt_worker.specs.Gates.{IsCutOff, MayStand, word_in};
 ghost use Rattle.rkt_worker.specs.Handing.{HandsOver, PutAs, ShutsAs};
@@ -20,14 +20,17 @@ use crate::Gates;
 use rkt_base::Poll;
 use rkt_board::{End, Failure};
 use rkt_data::{CancellableIo, Gate, Refused, Source};
-use rkt_link::{Handed, Link, SendError};
+use rkt_link::{Delivery, Link, SendError};
 use rkt_message::{Piece, PieceError, Pieces, Response};
 use std::alloc::Global;
 use std::sync::Wait;
 
 // Hands a piece to a link, which answers at once.
-fn hand<K: Link>(link: &mut K, piece: Piece) -> Poll<Handed>
-    ensures { (handed : Handed) × (result ≡ Poll.Ready handed) × AfterHand handed (K.meaning link.old) piece (K.meaning link.new) × ComesBack handed piece }
+fn hand<K: Link>(link: &mut K, piece: Piece) -> Poll<Delivery>
+    ensures { (handed : Delivery)
+        × (result ≡ Poll.Ready handed)
+        × AfterHand handed (K.meaning link.old) piece (K.meaning link.new)
+        × ComesBack handed piece }
 {
     Poll::Ready(link.poll_hand(piece))
 }
@@ -38,7 +41,7 @@ fn hand_over<K: Link>(
     io: &mut CancellableIo<K>,
     gate: Gate,
     piece: Piece,
-) -> Poll<Result<Handed, Refused>>
+) -> Poll<Result<Delivery, Refused>>
     ensures { HandsOver K.meaning gate io.old piece io.new result }
 {
     io.poll_with(gate, |link| hand(link, piece))
@@ -68,7 +71,9 @@ fn shut_down<R: Wait, G: Gates, K: Link>(rt: &R, gates: &mut G, io: &mut Cancell
     requires past { (saw : ℕ) × (cut : ℕ) × (io.old.stage ≡ Stage.Mercy saw cut) }
     ensures keeps { G.keeps gates.new }
     ensures leads { G.leads gates.old gates.new }
-    ensures ended { (saw : ℕ) → (cut : ℕ) → io.old.stage ≡ Stage.Mercy saw cut → (result ≡ Cut saw cut) × (io.new.stage ≡ Stage.Gone saw cut) × (K.meaning io.new.io ≡ K.meaning io.old.io) }
+    ensures ended { (saw : ℕ) → (cut : ℕ)
+        → io.old.stage ≡ Stage.Mercy saw cut
+        → (result ≡ Cut saw cut) × (io.new.stage ≡ Stage.Gone saw cut) × (K.meaning io.new.io ≡ K.meaning io.old.io) }
 {
     for _ in rt.forever() {
         let gate = gates.next_gate();
@@ -97,10 +102,10 @@ fn put<R: Wait, G: Gates, K: Link>(
     for _ in rt.forever() {
         let gate = gates.next_gate();
         match hand_over(io, gate, piece) {
-            Poll::Ready(Ok(Handed::Back(back))) => piece = back,
-            Poll::Ready(Ok(Handed::Taken)) => return None,
-            Poll::Ready(Ok(Handed::Refused(SendError::Fault))) => return Some(End::Lost),
-            Poll::Ready(Ok(Handed::Refused(SendError::NoMemory))) => return Some(End::Starved),
+            Poll::Ready(Ok(Delivery::Back(back))) => piece = back,
+            Poll::Ready(Ok(Delivery::Taken)) => return None,
+            Poll::Ready(Ok(Delivery::Refused(SendError::Fault))) => return Some(End::Lost),
+            Poll::Ready(Ok(Delivery::Refused(SendError::NoMemory))) => return Some(End::Starved),
             Poll::Ready(Err(_)) => return Some(cut_off(io)),
             Poll::Pending => return Some(shut_down(rt, gates, io)),
         }
@@ -129,10 +134,12 @@ fn next_piece<R: Wait, G: Gates, S: Source>(
     ensures begun { pieces.new.begun ≡ pieces.old.begun }
     ensures turns { pieces.new.turns ≡ pieces.old.turns }
     ensures read_on { ReadOn S.meaning pieces.new.begun pieces.new.response }
-    ensures reads { ReadsOn S.meaning (word_in (G.watched gates.new).trip) pieces.old.response.body.content pieces.new.response.body.content }
+    ensures reads { ReadsOn S.meaning
+        (word_in (G.watched gates.new).trip) pieces.old.response.body.content pieces.new.response.body.content }
     ensures piece { IfOk result (λ piece. Advances S.meaning pieces.old piece pieces.new) }
     ensures bad_head { result ≡ Err PieceError.BadHead → (pieces.old.given ≡ []) × (has_head pieces.old.begun ≡ false) }
-    ensures body_fault { result ≡ Err PieceError.BodyFault → (pieces.old.given ≢ []) × BodyFails S.meaning pieces.old.turns pieces.old.begun pieces.new.response }
+    ensures body_fault { result ≡ Err PieceError.BodyFault
+        → (pieces.old.given ≢ []) × BodyFails S.meaning pieces.old.turns pieces.old.begun pieces.new.response }
 {
     for _ in rt.forever() {
         let gate = gates.next_gate();
@@ -159,8 +166,11 @@ fn put_all<R: Wait, G: Gates, K: Link, S: Source>(
     ensures keeps { G.keeps gates.new }
     ensures leads { G.leads gates.old gates.new }
     ensures begun { pieces.new.begun ≡ pieces.old.begun }
-    ensures reads { ReadsOn S.meaning (word_in (G.watched gates.new).trip) pieces.old.response.body.content pieces.new.response.body.content }
-    ensures ended { (taken : List Piece) × IsSentAs S.meaning pieces.old.turns pieces.old.begun pieces.new.response result taken × LeftBy result (K.meaning io.old.io) taken (K.meaning io.new.io) }
+    ensures reads { ReadsOn S.meaning
+        (word_in (G.watched gates.new).trip) pieces.old.response.body.content pieces.new.response.body.content }
+    ensures ended { (taken : List Piece)
+        × IsSentAs S.meaning pieces.old.turns pieces.old.begun pieces.new.response result taken
+        × LeftBy result (K.meaning io.old.io) taken (K.meaning io.new.io) }
     ensures cut { IsCutOff (G.watched gates.new) io.new.stage result }
     ensures asked { (K.meaning io.new.io).asked ≡ (K.meaning io.old.io).asked }
 {
@@ -199,7 +209,9 @@ pub fn send<R: Wait, G: Gates, K: Link, S: Source>(
     ensures leads { G.leads gates.old gates.new }
     ensures read_on { ReadOn S.meaning response result.0 }
     ensures reads { ReadsOn S.meaning (word_in (G.watched gates.new).trip) response.body.content result.0.body.content }
-    ensures ended { (taken : List Piece) × IsSentAs S.meaning (max turns 1) response result.0 result.1 taken × LeftBy result.1 (K.meaning io.old.io) taken (K.meaning io.new.io) }
+    ensures ended { (taken : List Piece)
+        × IsSentAs S.meaning (max turns 1) response result.0 result.1 taken
+        × LeftBy result.1 (K.meaning io.old.io) taken (K.meaning io.new.io) }
     ensures cut { IsCutOff (G.watched gates.new) io.new.stage result.1 }
     ensures asked { (K.meaning io.new.io).asked ≡ (K.meaning io.old.io).asked }
 {

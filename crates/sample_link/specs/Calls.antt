@@ -23,6 +23,14 @@ pub record UsesUp (number : ℕ) (old new : List ℕ) : Type 0 where
 
 -- a call is Pending where its number is listed so, else it fails where it is listed so, else it is made
 abbrev pub Turns : Counted → Turn → Counted → Type 0
-Turns old Waits new = UsesUp old.next old.pends new.pends × (new ≡ record old { pends = new.pends; next = counted old.next; pended = old.pended + 1 })
-Turns old Fails new = (is_listed old.pends old.next ≡ false) × (is_listed old.fails old.next ≡ true) × (new ≡ record old { next = counted old.next; faults = counted old.faults })
-Turns old Goes new = (is_listed old.pends old.next ≡ false) × (is_listed old.fails old.next ≡ false) × (new ≡ record old { next = counted old.next })
+Turns old Waits new =
+    UsesUp old.next old.pends new.pends
+    × (new ≡ record old { pends = new.pends; next = counted old.next; pended = old.pended + 1 })
+Turns old Fails new =
+    (is_listed old.pends old.next ≡ false)
+    × (is_listed old.fails old.next ≡ true)
+    × (new ≡ record old { next = counted old.next; faults = counted old.faults })
+Turns old Goes new =
+    (is_listed old.pends old.next ≡ false)
+    × (is_listed old.fails old.next ≡ false)
+    × (new ≡ record old { next = counted old.next })

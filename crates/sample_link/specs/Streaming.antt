@@ -27,13 +27,22 @@ pub record Streaming (S K : Type 0) : Type 0 where
 
 -- what is asked over a source and a sink
 abbrev pub asked_over : Head → Meaning → SinkMeaning → Asked
-asked_over head source sink = record { head = head; body = source.whole; body_never_faults = source.never_faults; never_faults = sink.never_faults }
+asked_over head source sink =
+    record { head = head; body = source.whole; body_never_faults = source.never_faults; never_faults = sink.never_faults }
 
 -- it tells what it asks, and not what it has taken
 abbrev pub stream_meaning : {S K : Type 0} → (S → Meaning) → (K → SinkMeaning) → Streaming S K → LinkMeaning
-stream_meaning source sink link = record { asked = Some (asked_over link.head (source link.given) (sink link.sink)); source_taken = link.source_taken; held = None; faults = link.faults; never_faults = (sink link.sink).never_faults }
+stream_meaning source sink link = record {
+  asked = Some (asked_over link.head (source link.given) (sink link.sink));
+  source_taken = link.source_taken;
+  held = None;
+  faults = link.faults;
+  never_faults = (sink link.sink).never_faults;
+}
 
-pub says_so : {S K : Type 0} (source : S → Meaning) (sink : K → SinkMeaning) (link : Streaming S K) (asked : Asked) → (stream_meaning source sink link).asked ≡ Some asked → asked.never_faults ≡ (stream_meaning source sink link).never_faults
+pub says_so : {S K : Type 0} (source : S → Meaning) (sink : K → SinkMeaning) (link : Streaming S K) (asked : Asked)
+    → (stream_meaning source sink link).asked ≡ Some asked
+    → asked.never_faults ≡ (stream_meaning source sink link).never_faults
 says_so source sink link asked told = ap (λ (o : Option Asked). option_map_or (λ a. a.never_faults) o true) (sym told)
 
 -- the source stands by, as it was given and untouched, until it is taken
@@ -53,7 +62,16 @@ SendErrs NoMemory old new = Unit {0}
 
 -- a send that was taken has written all; one that is Pending waits for the sink, and keeps the rest; after an error the rest
 -- is let go
-abbrev pub SendsBytes : {S K : Type 0} → (K → SinkMeaning) → Poll (Result (Unit {0}) SendError) → Streaming S K → Piece → Streaming S K → Type 0
-SendsBytes meaning Pending old piece new = NoneLost (meaning old.sink) (to_send old.left piece) (meaning new.sink) new.left × (0 < length new.left) × SinkWaits (meaning old.sink) (meaning new.sink)
-SendsBytes meaning (Ready (Ok taken)) old piece new = NoneLost (meaning old.sink) (to_send old.left piece) (meaning new.sink) [] × (new.left ≡ [])
-SendsBytes meaning (Ready (Err e)) old piece new = (rest : List ℕ) × NoneLost (meaning old.sink) (to_send old.left piece) (meaning new.sink) rest × (new.left ≡ []) × SendErrs e (meaning old.sink) (meaning new.sink)
+abbrev pub SendsBytes : {S K : Type 0} → (K → SinkMeaning) → Poll (Result (Unit {0}) SendError) → Streaming S K → Piece
+    → Streaming S K → Type 0
+SendsBytes meaning Pending old piece new =
+    NoneLost (meaning old.sink) (to_send old.left piece) (meaning new.sink) new.left
+    × (0 < length new.left)
+    × SinkWaits (meaning old.sink) (meaning new.sink)
+SendsBytes meaning (Ready (Ok taken)) old piece new =
+    NoneLost (meaning old.sink) (to_send old.left piece) (meaning new.sink) [] × (new.left ≡ [])
+SendsBytes meaning (Ready (Err e)) old piece new =
+    (rest : List ℕ)
+    × NoneLost (meaning old.sink) (to_send old.left piece) (meaning new.sink) rest
+    × (new.left ≡ [])
+    × SendErrs e (meaning old.sink) (meaning new.sink)

@@ -14,7 +14,8 @@ abbrev pub NoneLost : SinkMeaning → List ℕ → SinkMeaning → List ℕ → 
 NoneLost old before new after = followed new after ≡ followed old before
 
 -- writes that have ended so took a front of what was to be written, and the rest is left
-abbrev pub FeedsFront : {K : Type 0} → (K → List ℕ → Poll (Result ℕ SinkError) → K → Type 0) → FeedEnding → K → List ℕ → K → List ℕ → Type 0
+abbrev pub FeedsFront : {K : Type 0} → (K → List ℕ → Poll (Result ℕ SinkError) → K → Type 0) → FeedEnding → K → List ℕ → K
+    → List ℕ → Type 0
 FeedsFront written how k before l after = (bytes : List ℕ) × (before ≡ bytes ++ after) × FeedsTo written how k bytes l
 
 -- one write: some of the bytes were taken, or the sink has answered otherwise

@@ -32,7 +32,8 @@ impl Model for Calls {
 
     ghost Value = { Counted };
 
-    ghost view = { λ c. record { pends = c.pends.items; fails = c.fails.items; next = c.next; pended = c.pended; faults = c.faults } };
+    ghost view = { λ c.
+        record { pends = c.pends.items; fails = c.fails.items; next = c.next; pended = c.pended; faults = c.faults } };
 
     ghost invariant = { λ c. c.pended + vec_len c.pends < 2 ^ 64 };
 }

@@ -1,5 +1,5 @@
 //! The end of a pipe that gives bytes.
-ghost use Rattle.std.specs.Prelude.{◌≡◌, ◌+◌, ◌≤◌, ◌<◌, length, max};
+ghost use Rattle.std.specs.Prelude.{◌≡◌, ◌+◌, ◌-◌, ◌≤◌, ◌<◌, length, max, min};
 ghost use Rattle.rkt_source.specs.Source.{Gives};
 ghost use Rattle.sample_link.specs.Pipes.{giving_meaning};
 
@@ -44,7 +44,8 @@ impl PipeSource {
     // Gives the next bytes.
     fn read(&mut self, buf: &mut [u8]) -> usize
         ensures fits { result ≤ length buf.old }
-        ensures chunk { result ≤ self.old.chunk }
+        // As many as a read gives, as there is room for, and as are left.
+        ensures count { result ≡ min (min self.old.chunk (length buf.old)) (length self.old.bytes - self.old.at) }
         ensures given { self.new ≡ record self.old { at = self.old.at + result } }
         ensures bytes { 0 < length buf.old → Gives self.old.bytes self.old.at result buf.new }
     {
@@ -73,7 +74,7 @@ impl Source for PipeSource {
 
     ghost meaning = { giving_meaning };
 
-    ghost polled = { λ s _ _ answer t. ReadsMore s answer t };
+    ghost polled = { λ s _ room answer t. ReadsMore s room answer t };
 
     fn poll_read(&mut self, _gate: Gate, buf: &mut [u8]) -> Poll<Result<usize, SourceError>> {
         if buf.is_empty() {

@@ -34,7 +34,14 @@ impl<S: Source, K: Sink> Model for StreamLink<S, K> {
 
     ghost Value = { Streaming S K };
 
-    ghost view = { λ k. record { head = k.head; given = k.given.value; source_taken = is_none k.source; sink = k.sink; left = k.outbox; faults = k.faults } };
+    ghost view = { λ k. record {
+      head = k.head;
+      given = k.given.value;
+      source_taken = is_none k.source;
+      sink = k.sink;
+      left = k.outbox;
+      faults = k.faults;
+    } };
 
     ghost invariant = { λ k. StandsBy S.meaning k.source k.given.value };
 }
@@ -124,7 +131,8 @@ impl<S: Source, K: Sink> Link for StreamLink<S, K> {
     }
 
     fn poll_send(&mut self, piece: &Piece) -> Poll<Result<(), SendError>>
-        ensures link { AfterSend result (stream_meaning S.meaning K.meaning self.old) piece.now (stream_meaning S.meaning K.meaning self.new) }
+        ensures link { AfterSend result (stream_meaning S.meaning K.meaning self.old) piece.now
+            (stream_meaning S.meaning K.meaning self.new) }
         ensures bytes { SendsBytes K.meaning result self.old piece.now self.new }
     {
         if self.begin(piece).is_err() {

@@ -36,7 +36,16 @@ impl<R: Read + Drop> Source for ReaderSource<R> {
     ghost use Rattle.std.proofs.Common.{le_refl};
     ghost use Rattle.std.specs.Prelude.{None, false, refl};
 
-    ghost meaning = { λ s. record { whole = None; taken = s.taken; faults = s.faults; never_faults = false; warned = false; shut = false; pended = 0; pendings = 0 } };
+    ghost meaning = { λ s. record {
+      whole = None;
+      taken = s.taken;
+      faults = s.faults;
+      never_faults = false;
+      warned = false;
+      shut = false;
+      pended = 0;
+      pendings = 0;
+    } };
 
     ghost polled = { λ _ _ _ _ _. Unit {0} };
 

@@ -17,7 +17,8 @@ impl<T: Types> FromData<T> for Capped<Vec<u8>> {
 
     type Reading = IntoBytes<CancellableIo<T::Source>>;
 
-    ghost guarding = { bytes_guard ⟦<CancellableIo<T::Source> as Source>⟧.meaning ⟦<CancellableIo<T::Source> as Source>⟧.polled };
+    ghost guarding = { bytes_guard ⟦<CancellableIo<T::Source> as Source>⟧.meaning
+        ⟦<CancellableIo<T::Source> as Source>⟧.polled };
 
     fn from_data(request: &Request<'_, T>, body: Body0<T>) -> IntoBytes<CancellableIo<T::Source>> {
         let limit = request.limits().get("bytes").unwrap_or(Limits::BYTES);

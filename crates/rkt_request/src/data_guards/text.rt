@@ -17,7 +17,8 @@ impl<T: Types> FromData<T> for Capped<String> {
 
     type Reading = IntoString<CancellableIo<T::Source>>;
 
-    ghost guarding = { text_guard ⟦<CancellableIo<T::Source> as Source>⟧.meaning ⟦<CancellableIo<T::Source> as Source>⟧.polled };
+    ghost guarding = { text_guard ⟦<CancellableIo<T::Source> as Source>⟧.meaning
+        ⟦<CancellableIo<T::Source> as Source>⟧.polled };
 
     fn from_data(request: &Request<'_, T>, body: Body0<T>) -> IntoString<CancellableIo<T::Source>> {
         let limit = request.limits().get("string").unwrap_or(Limits::STRING);

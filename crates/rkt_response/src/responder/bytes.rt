@@ -18,7 +18,8 @@ use std::boxed::BoxedSlice;
 use std::sync::ArcSlice;
 
 impl<T: Types> Responder<T> for Vec<u8> {
-    ghost may = { λ bytes _ before answer after. Answers answer (Ok (typed_bytes (known_text Binary) (bytes.items))) before after };
+    ghost may = { λ bytes _ before answer after.
+        Answers answer (Ok (typed_bytes (known_text Binary) (bytes.items))) before after };
 
     fn respond_to(
         self,
@@ -31,7 +32,8 @@ impl<T: Types> Responder<T> for Vec<u8> {
 }
 
 impl<'a, T: Types> Responder<T> for &'a [u8] {
-    ghost may = { λ bytes _ before answer after. Answers answer (Ok (typed_bytes (known_text Binary) (bytes.now))) before after };
+    ghost may = { λ bytes _ before answer after.
+        Answers answer (Ok (typed_bytes (known_text Binary) (bytes.now))) before after };
 
     fn respond_to(
         self,
@@ -44,7 +46,8 @@ impl<'a, T: Types> Responder<T> for &'a [u8] {
 }
 
 impl<T: Types> Responder<T> for BoxedSlice<u8> {
-    ghost may = { λ bytes _ before answer after. Answers answer (Ok (typed_bytes (known_text Binary) (boxed_slice_items bytes))) before after };
+    ghost may = { λ bytes _ before answer after.
+        Answers answer (Ok (typed_bytes (known_text Binary) (boxed_slice_items bytes))) before after };
 
     fn respond_to(
         self,
@@ -57,7 +60,8 @@ impl<T: Types> Responder<T> for BoxedSlice<u8> {
 }
 
 impl<T: Types> Responder<T> for ArcSlice<u8> {
-    ghost may = { λ bytes _ before answer after. Answers answer (Ok (typed_bytes (known_text Binary) (arc_slice_items bytes))) before after };
+    ghost may = { λ bytes _ before answer after.
+        Answers answer (Ok (typed_bytes (known_text Binary) (arc_slice_items bytes))) before after };
 
     fn respond_to(
         self,
@@ -70,7 +74,8 @@ impl<T: Types> Responder<T> for ArcSlice<u8> {
 }
 
 impl<'a, T: Types> Responder<T> for CowSlice<'a, u8> {
-    ghost may = { λ bytes _ before answer after. Answers answer (Ok (typed_bytes (known_text Binary) (cow_slice_items bytes))) before after };
+    ghost may = { λ bytes _ before answer after.
+        Answers answer (Ok (typed_bytes (known_text Binary) (cow_slice_items bytes))) before after };
 
     fn respond_to(
         self,

@@ -27,9 +27,11 @@ fn set_content_type<S: Source>(
 }
 
 impl<T: Types, R: Responder<T>> Responder<T> for (ContentType, R) {
-    ghost may = { λ value seen before answer after. Changes (with_type (media_text value.0)) (R.may value.1 seen before) answer after };
+    ghost may = { λ value seen before answer after.
+        Changes (with_type (media_text value.0)) (R.may value.1 seen before) answer after };
 
-    ghost starves = { λ value seen before after. StarvesWithin (R.may value.1 seen before) (R.starves value.1 seen before) after };
+    ghost starves = { λ value seen before after.
+        StarvesWithin (R.may value.1 seen before) (R.starves value.1 seen before) after };
 
     fn respond_to(
         self,
@@ -49,9 +51,11 @@ impl<T: Types, R: Responder<T>> Responder<T> for (ContentType, R) {
 pub struct RawJson<R>(pub R);
 
 impl<T: Types, R: Responder<T>> Responder<T> for RawJson<R> {
-    ghost may = { λ value seen before answer after. Changes (with_type (known_text JSON)) (R.may value.0 seen before) answer after };
+    ghost may = { λ value seen before answer after.
+        Changes (with_type (known_text JSON)) (R.may value.0 seen before) answer after };
 
-    ghost starves = { λ value seen before after. StarvesWithin (R.may value.0 seen before) (R.starves value.0 seen before) after };
+    ghost starves = { λ value seen before after.
+        StarvesWithin (R.may value.0 seen before) (R.starves value.0 seen before) after };
 
     fn respond_to(
         self,
@@ -68,9 +72,11 @@ impl<T: Types, R: Responder<T>> Responder<T> for RawJson<R> {
 pub struct RawXml<R>(pub R);
 
 impl<T: Types, R: Responder<T>> Responder<T> for RawXml<R> {
-    ghost may = { λ value seen before answer after. Changes (with_type (known_text XML)) (R.may value.0 seen before) answer after };
+    ghost may = { λ value seen before answer after.
+        Changes (with_type (known_text XML)) (R.may value.0 seen before) answer after };
 
-    ghost starves = { λ value seen before after. StarvesWithin (R.may value.0 seen before) (R.starves value.0 seen before) after };
+    ghost starves = { λ value seen before after.
+        StarvesWithin (R.may value.0 seen before) (R.starves value.0 seen before) after };
 
     fn respond_to(
         self,
@@ -87,9 +93,11 @@ impl<T: Types, R: Responder<T>> Responder<T> for RawXml<R> {
 pub struct RawMsgPack<R>(pub R);
 
 impl<T: Types, R: Responder<T>> Responder<T> for RawMsgPack<R> {
-    ghost may = { λ value seen before answer after. Changes (with_type (known_text MsgPack)) (R.may value.0 seen before) answer after };
+    ghost may = { λ value seen before answer after.
+        Changes (with_type (known_text MsgPack)) (R.may value.0 seen before) answer after };
 
-    ghost starves = { λ value seen before after. StarvesWithin (R.may value.0 seen before) (R.starves value.0 seen before) after };
+    ghost starves = { λ value seen before after.
+        StarvesWithin (R.may value.0 seen before) (R.starves value.0 seen before) after };
 
     fn respond_to(
         self,
@@ -106,9 +114,11 @@ impl<T: Types, R: Responder<T>> Responder<T> for RawMsgPack<R> {
 pub struct RawHtml<R>(pub R);
 
 impl<T: Types, R: Responder<T>> Responder<T> for RawHtml<R> {
-    ghost may = { λ value seen before answer after. Changes (with_type (known_text HTML)) (R.may value.0 seen before) answer after };
+    ghost may = { λ value seen before answer after.
+        Changes (with_type (known_text HTML)) (R.may value.0 seen before) answer after };
 
-    ghost starves = { λ value seen before after. StarvesWithin (R.may value.0 seen before) (R.starves value.0 seen before) after };
+    ghost starves = { λ value seen before after.
+        StarvesWithin (R.may value.0 seen before) (R.starves value.0 seen before) after };
 
     fn respond_to(
         self,
@@ -125,9 +135,11 @@ impl<T: Types, R: Responder<T>> Responder<T> for RawHtml<R> {
 pub struct RawText<R>(pub R);
 
 impl<T: Types, R: Responder<T>> Responder<T> for RawText<R> {
-    ghost may = { λ value seen before answer after. Changes (with_type (known_text Text)) (R.may value.0 seen before) answer after };
+    ghost may = { λ value seen before answer after.
+        Changes (with_type (known_text Text)) (R.may value.0 seen before) answer after };
 
-    ghost starves = { λ value seen before after. StarvesWithin (R.may value.0 seen before) (R.starves value.0 seen before) after };
+    ghost starves = { λ value seen before after.
+        StarvesWithin (R.may value.0 seen before) (R.starves value.0 seen before) after };
 
     fn respond_to(
         self,
@@ -144,9 +156,11 @@ impl<T: Types, R: Responder<T>> Responder<T> for RawText<R> {
 pub struct RawCss<R>(pub R);
 
 impl<T: Types, R: Responder<T>> Responder<T> for RawCss<R> {
-    ghost may = { λ value seen before answer after. Changes (with_type (known_text CSS)) (R.may value.0 seen before) answer after };
+    ghost may = { λ value seen before answer after.
+        Changes (with_type (known_text CSS)) (R.may value.0 seen before) answer after };
 
-    ghost starves = { λ value seen before after. StarvesWithin (R.may value.0 seen before) (R.starves value.0 seen before) after };
+    ghost starves = { λ value seen before after.
+        StarvesWithin (R.may value.0 seen before) (R.starves value.0 seen before) after };
 
     fn respond_to(
         self,
@@ -163,9 +177,11 @@ impl<T: Types, R: Responder<T>> Responder<T> for RawCss<R> {
 pub struct RawJavaScript<R>(pub R);
 
 impl<T: Types, R: Responder<T>> Responder<T> for RawJavaScript<R> {
-    ghost may = { λ value seen before answer after. Changes (with_type (known_text JavaScript)) (R.may value.0 seen before) answer after };
+    ghost may = { λ value seen before answer after.
+        Changes (with_type (known_text JavaScript)) (R.may value.0 seen before) answer after };
 
-    ghost starves = { λ value seen before after. StarvesWithin (R.may value.0 seen before) (R.starves value.0 seen before) after };
+    ghost starves = { λ value seen before after.
+        StarvesWithin (R.may value.0 seen before) (R.starves value.0 seen before) after };
 
     fn respond_to(
         self,

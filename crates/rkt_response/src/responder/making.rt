@@ -35,7 +35,8 @@ pub fn with_status<T: Types, R: Responder<T>>(
     request: &Request<'_, T>,
     ctx: &mut Ctx<T>,
 ) -> ResponseResult<T::Stream>
-    ensures answers { IfAnswered result (λ answer. Changes (with_status status.code) (R.may responder request.now ctx.old) answer ctx.new) }
+    ensures answers { IfAnswered result (λ answer.
+        Changes (with_status status.code) (R.may responder request.now ctx.old) answer ctx.new) }
     ensures starves { IfStarved result (R.starves responder request.now ctx.old ctx.new) }
     ensures grows { MayGrow ctx.old ctx.new }
 {
@@ -52,8 +53,10 @@ pub fn with_known<T: Types, R: Responder<T>>(
     request: &Request<'_, T>,
     ctx: &mut Ctx<T>,
 ) -> ResponseResult<T::Stream>
-    ensures answers { IfAnswered result (λ answer. Changes (with_type (known_text known)) (R.may responder request.now ctx.old) answer ctx.new) }
-    ensures starves { IfStarved result (StarvesWithin (R.may responder request.now ctx.old) (R.starves responder request.now ctx.old) ctx.new) }
+    ensures answers { IfAnswered result (λ answer.
+        Changes (with_type (known_text known)) (R.may responder request.now ctx.old) answer ctx.new) }
+    ensures starves { IfStarved result
+        (StarvesWithin (R.may responder request.now ctx.old) (R.starves responder request.now ctx.old) ctx.new) }
     ensures grows { MayGrow ctx.old ctx.new }
 {
     let mut response = responder.respond_to(alloc, request, ctx)?;
@@ -81,7 +84,8 @@ pub fn located<S: Source>(
     location: &str,
     mut response: Response<S>,
 ) -> Result<Response<S>, NoMemory>
-    ensures { IfOk result (λ located. located ≡ with_header (codes "Location") location.now (with_status status.code response)) }
+    ensures { IfOk result (λ located.
+        located ≡ with_header (codes "Location") location.now (with_status status.code response)) }
 {
     response.set_status(status);
     response.set_raw_header("Location", location)?;

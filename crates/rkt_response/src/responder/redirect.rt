@@ -29,7 +29,8 @@ impl Model for Redirect {
 
 impl Redirect {
     fn new(alloc: Global, status: Status, uri: &str) -> Result<Redirect, NoMemory>
-        ensures reference { IsReference uri.now → IfOk result (λ redirect. redirect ≡ record { code = status.code; uri = Some uri.now }) }
+        ensures reference { IsReference uri.now
+            → IfOk result (λ redirect. redirect ≡ record { code = status.code; uri = Some uri.now }) }
         ensures other { ¬ IsReference uri.now → IfOk result (λ redirect. redirect ≡ record { code = status.code; uri = None }) }
     {
         match Reference::parse(alloc, uri) {
@@ -44,7 +45,8 @@ impl Redirect {
 
     /// To be asked by GET.
     pub fn to(alloc: Global, uri: &str) -> Result<Redirect, NoMemory>
-        ensures reference { IsReference uri.now → IfOk result (λ redirect. redirect ≡ record { code = 303; uri = Some uri.now }) }
+        ensures reference { IsReference uri.now
+            → IfOk result (λ redirect. redirect ≡ record { code = 303; uri = Some uri.now }) }
         ensures other { ¬ IsReference uri.now → IfOk result (λ redirect. redirect ≡ record { code = 303; uri = None }) }
     {
         Redirect::new(alloc, Status::SeeOther, uri)
@@ -52,7 +54,8 @@ impl Redirect {
 
     /// To be asked by the same method, this time.
     pub fn temporary(alloc: Global, uri: &str) -> Result<Redirect, NoMemory>
-        ensures reference { IsReference uri.now → IfOk result (λ redirect. redirect ≡ record { code = 307; uri = Some uri.now }) }
+        ensures reference { IsReference uri.now
+            → IfOk result (λ redirect. redirect ≡ record { code = 307; uri = Some uri.now }) }
         ensures other { ¬ IsReference uri.now → IfOk result (λ redirect. redirect ≡ record { code = 307; uri = None }) }
     {
         Redirect::new(alloc, Status::TemporaryRedirect, uri)
@@ -60,7 +63,8 @@ impl Redirect {
 
     /// To be asked by the same method, from now on.
     pub fn permanent(alloc: Global, uri: &str) -> Result<Redirect, NoMemory>
-        ensures reference { IsReference uri.now → IfOk result (λ redirect. redirect ≡ record { code = 308; uri = Some uri.now }) }
+        ensures reference { IsReference uri.now
+            → IfOk result (λ redirect. redirect ≡ record { code = 308; uri = Some uri.now }) }
         ensures other { ¬ IsReference uri.now → IfOk result (λ redirect. redirect ≡ record { code = 308; uri = None }) }
     {
         Redirect::new(alloc, Status::PermanentRedirect, uri)
@@ -68,7 +72,8 @@ impl Redirect {
 
     /// This time, by a method that the client chooses.
     pub fn found(alloc: Global, uri: &str) -> Result<Redirect, NoMemory>
-        ensures reference { IsReference uri.now → IfOk result (λ redirect. redirect ≡ record { code = 302; uri = Some uri.now }) }
+        ensures reference { IsReference uri.now
+            → IfOk result (λ redirect. redirect ≡ record { code = 302; uri = Some uri.now }) }
         ensures other { ¬ IsReference uri.now → IfOk result (λ redirect. redirect ≡ record { code = 302; uri = None }) }
     {
         Redirect::new(alloc, Status::Found, uri)
@@ -76,7 +81,8 @@ impl Redirect {
 
     /// From now on, by a method that the client chooses.
     pub fn moved(alloc: Global, uri: &str) -> Result<Redirect, NoMemory>
-        ensures reference { IsReference uri.now → IfOk result (λ redirect. redirect ≡ record { code = 301; uri = Some uri.now }) }
+        ensures reference { IsReference uri.now
+            → IfOk result (λ redirect. redirect ≡ record { code = 301; uri = Some uri.now }) }
         ensures other { ¬ IsReference uri.now → IfOk result (λ redirect. redirect ≡ record { code = 301; uri = None }) }
     {
         Redirect::new(alloc, Status::MovedPermanently, uri)

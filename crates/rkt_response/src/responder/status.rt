@@ -12,7 +12,8 @@ use rkt_request::{Ctx, Request, Types};
 use std::alloc::Global;
 
 impl<T: Types, R: Responder<T>> Responder<T> for (Status, R) {
-    ghost may = { λ value seen before answer after. Changes (with_status value.0.code) (R.may value.1 seen before) answer after };
+    ghost may = { λ value seen before answer after.
+        Changes (with_status value.0.code) (R.may value.1 seen before) answer after };
 
     ghost starves = { λ value seen before after. R.starves value.1 seen before after };
 
@@ -31,7 +32,8 @@ impl<T: Types, R: Responder<T>> Responder<T> for (Status, R) {
 pub struct Custom<R>(pub Status, pub R);
 
 impl<T: Types, R: Responder<T>> Responder<T> for Custom<R> {
-    ghost may = { λ value seen before answer after. Changes (with_status value.0.code) (R.may value.1 seen before) answer after };
+    ghost may = { λ value seen before answer after.
+        Changes (with_status value.0.code) (R.may value.1 seen before) answer after };
 
     ghost starves = { λ value seen before after. R.starves value.1 seen before after };
 

@@ -43,7 +43,9 @@ impl<T: Types, S> Responder<T> for ByteStream<S>
 where
     T::Stream: From<S>,
 {
-    ghost may = { λ value _ before answer after. (stream : T.Stream) × T.Stream.from_gives value.0 stream × Answers answer (Ok (with_type (known_text Binary) (streamed stream))) before after };
+    ghost may = { λ value _ before answer after. (stream : T.Stream)
+        × T.Stream.from_gives value.0 stream
+        × Answers answer (Ok (with_type (known_text Binary) (streamed stream))) before after };
 
     fn respond_to(
         self,
@@ -59,7 +61,9 @@ impl<T: Types, S> Responder<T> for TextStream<S>
 where
     T::Stream: From<S>,
 {
-    ghost may = { λ value _ before answer after. (stream : T.Stream) × T.Stream.from_gives value.0 stream × Answers answer (Ok (with_type (known_text Plain) (streamed stream))) before after };
+    ghost may = { λ value _ before answer after. (stream : T.Stream)
+        × T.Stream.from_gives value.0 stream
+        × Answers answer (Ok (with_type (known_text Plain) (streamed stream))) before after };
 
     fn respond_to(
         self,
@@ -76,7 +80,8 @@ where
     S::Item: Source,
     T::Stream: From<ReaderStream<S>>,
 {
-    ghost may = { λ value _ before answer after. (stream : T.Stream) × T.Stream.from_gives value stream × Answers answer (Ok (streamed stream)) before after };
+    ghost may = { λ value _ before answer after.
+        (stream : T.Stream) × T.Stream.from_gives value stream × Answers answer (Ok (streamed stream)) before after };
 
     fn respond_to(
         self,

@@ -18,7 +18,8 @@ use std::boxed::BoxedStr;
 use std::sync::ArcStr;
 
 impl<T: Types> Responder<T> for String {
-    ghost may = { λ text _ before answer after. Answers answer (Ok (typed_bytes (known_text Plain) (string_bytes text))) before after };
+    ghost may = { λ text _ before answer after.
+        Answers answer (Ok (typed_bytes (known_text Plain) (string_bytes text))) before after };
 
     fn respond_to(
         self,
@@ -44,7 +45,8 @@ impl<'a, T: Types> Responder<T> for &'a str {
 }
 
 impl<T: Types> Responder<T> for BoxedStr {
-    ghost may = { λ text _ before answer after. Answers answer (Ok (typed_bytes (known_text Plain) (boxed_str_bytes text))) before after };
+    ghost may = { λ text _ before answer after.
+        Answers answer (Ok (typed_bytes (known_text Plain) (boxed_str_bytes text))) before after };
 
     fn respond_to(
         self,
@@ -57,7 +59,8 @@ impl<T: Types> Responder<T> for BoxedStr {
 }
 
 impl<T: Types> Responder<T> for ArcStr {
-    ghost may = { λ text _ before answer after. Answers answer (Ok (typed_bytes (known_text Plain) (arc_str_bytes text))) before after };
+    ghost may = { λ text _ before answer after.
+        Answers answer (Ok (typed_bytes (known_text Plain) (arc_str_bytes text))) before after };
 
     fn respond_to(
         self,
@@ -70,7 +73,8 @@ impl<T: Types> Responder<T> for ArcStr {
 }
 
 impl<'a, T: Types> Responder<T> for CowStr<'a> {
-    ghost may = { λ text _ before answer after. Answers answer (Ok (typed_bytes (known_text Plain) (cow_str_bytes text))) before after };
+    ghost may = { λ text _ before answer after.
+        Answers answer (Ok (typed_bytes (known_text Plain) (cow_str_bytes text))) before after };
 
     fn respond_to(
         self,

@@ -15,7 +15,8 @@ use rkt_request::{Ctx, Request, Types};
 use std::alloc::Global;
 
 impl<T: Types, R: Responder<T>> Responder<T> for Option<R> {
-    ghost may = { λ value seen before answer after. MatchOption value (Answers answer (refusal 404) before after) (λ inner. R.may inner seen before answer after) };
+    ghost may = { λ value seen before answer after.
+        MatchOption value (Answers answer (refusal 404) before after) (λ inner. R.may inner seen before answer after) };
 
     ghost starves = { λ value seen before after. MatchOption value ⊥ (λ inner. R.starves inner seen before after) };
 
@@ -33,9 +34,11 @@ impl<T: Types, R: Responder<T>> Responder<T> for Option<R> {
 }
 
 impl<T: Types, R: Responder<T>, E: Responder<T>> Responder<T> for Result<R, E> {
-    ghost may = { λ value seen before answer after. MatchResult value (λ inner. R.may inner seen before answer after) (λ inner. E.may inner seen before answer after) };
+    ghost may = { λ value seen before answer after.
+        MatchResult value (λ inner. R.may inner seen before answer after) (λ inner. E.may inner seen before answer after) };
 
-    ghost starves = { λ value seen before after. MatchResult value (λ inner. R.starves inner seen before after) (λ inner. E.starves inner seen before after) };
+    ghost starves = { λ value seen before after.
+        MatchResult value (λ inner. R.starves inner seen before after) (λ inner. E.starves inner seen before after) };
 
     fn respond_to(
         self,
@@ -51,9 +54,11 @@ impl<T: Types, R: Responder<T>, E: Responder<T>> Responder<T> for Result<R, E> {
 }
 
 impl<T: Types, L: Responder<T>, R: Responder<T>> Responder<T> for Either<L, R> {
-    ghost may = { λ value seen before answer after. MatchEither value (λ inner. L.may inner seen before answer after) (λ inner. R.may inner seen before answer after) };
+    ghost may = { λ value seen before answer after.
+        MatchEither value (λ inner. L.may inner seen before answer after) (λ inner. R.may inner seen before answer after) };
 
-    ghost starves = { λ value seen before after. MatchEither value (λ inner. L.starves inner seen before after) (λ inner. R.starves inner seen before after) };
+    ghost starves = { λ value seen before after.
+        MatchEither value (λ inner. L.starves inner seen before after) (λ inner. R.starves inner seen before after) };
 
     fn respond_to(
         self,

@@ -33,9 +33,23 @@ where
 
     ghost Value = { Flat S S.Item };
 
-    ghost view = { λ r. record { running = record { stream = r.stream; item = r.item }; begun = r.begun.value; taken = r.taken; faults = r.faults; warned = r.warned; refused = r.refused } };
+    ghost view = { λ r. record {
+      running = record { stream = r.stream; item = r.item };
+      begun = r.begun.value;
+      taken = r.taken;
+      faults = r.faults;
+      warned = r.warned;
+      refused = r.refused;
+    } };
 
-    ghost invariant = { λ r. IsFlat S.flow S.Item.meaning S.may_give record { running = record { stream = r.stream; item = r.item }; begun = r.begun.value; taken = r.taken; faults = r.faults; warned = r.warned; refused = r.refused } };
+    ghost invariant = { λ r. IsFlat S.flow S.Item.meaning S.may_give record {
+      running = record { stream = r.stream; item = r.item };
+      begun = r.begun.value;
+      taken = r.taken;
+      faults = r.faults;
+      warned = r.warned;
+      refused = r.refused;
+    } };
 }
 
 impl<S: Stream> ReaderStream<S>
@@ -47,8 +61,18 @@ where
     pub fn from(stream: S) -> ReaderStream<S>
         requires fresh { (x : S.Item) → S.may_give stream x → IsFresh (S.Item.meaning x) }
         // Where the stream does not tell its sources, none is Pending more often than the stream.
-        requires waits { (S.flow stream).rest ≡ None → (x : S.Item) → S.may_give stream x → (S.Item.meaning x).pendings ≤ (S.flow stream).pendings }
-        ensures { result ≡ record { running = record { stream = stream; item = None }; begun = stream; taken = 0; faults = 0; warned = false; refused = false } }
+        requires waits { (S.flow stream).rest ≡ None
+            → (x : S.Item)
+            → S.may_give stream x
+            → (S.Item.meaning x).pendings ≤ (S.flow stream).pendings }
+        ensures { result ≡ record {
+          running = record { stream = stream; item = None };
+          begun = stream;
+          taken = 0;
+          faults = 0;
+          warned = false;
+          refused = false;
+        } }
     {
         ReaderStream {
             begun: Snapshot::of(&stream),
@@ -68,7 +92,14 @@ impl<R: Source> ReaderStream<One<R>> {
     /// The bytes of one source.
     pub fn one(reader: R) -> ReaderStream<One<R>>
         requires { IsFresh (R.meaning reader) }
-        ensures { result ≡ record { running = record { stream = record { value = Some reader; ended = false }; item = None }; begun = record { value = Some reader; ended = false }; taken = 0; faults = 0; warned = false; refused = false } }
+        ensures { result ≡ record {
+          running = record { stream = record { value = Some reader; ended = false }; item = None };
+          begun = record { value = Some reader; ended = false };
+          taken = 0;
+          faults = 0;
+          warned = false;
+          refused = false;
+        } }
     {
         ReaderStream::from(One::from(reader))
     }
@@ -85,13 +116,16 @@ where
     S::Item: Source,
     requires room { 0 < length buf.old }
     requires fresh { GivesFresh S.flow S.Item.meaning S.may_give stream.old }
-    ensures goes { Goes S.flow S.Item.meaning S.may_give gate.tripped (record { stream = stream.old; item = item.old }) (record { stream = stream.new; item = item.new }) }
+    ensures goes { Goes S.flow S.Item.meaning S.may_give gate.tripped (record { stream = stream.old; item = item.old })
+        (record { stream = stream.new; item = item.new }) }
     ensures in_turn { ReadsInTurn S.polled S.Item.polled gate (length buf.old)
         (record { stream = stream.old; item = item.old })
         result
         (record { stream = stream.new; item = item.new }) }
-    ensures item { ReadsItem S.Item.polled S.may_give gate (length buf.old) result (record { stream = stream.old; item = item.old }) item.new }
-    ensures answer { Advances S.flow S.Item.meaning (record { stream = stream.old; item = item.old }) (record { stream = stream.new; item = item.new }) buf.old buf.new result }
+    ensures item { ReadsItem S.Item.polled S.may_give gate (length buf.old) result
+        (record { stream = stream.old; item = item.old }) item.new }
+    ensures answer { Advances S.flow S.Item.meaning (record { stream = stream.old; item = item.old })
+        (record { stream = stream.new; item = item.new }) buf.old buf.new result }
     ensures refuses { IfReadyErr result (Refuses S.Item.meaning S.Item.polled gate (length buf.old) item.new) }
 {
     loop {
@@ -124,7 +158,8 @@ where
 {
     ghost use Rattle.rkt_stream.specs.Flat.{ShutsItem, waits_left, stream_waits};
 
-    ghost shuts = { λ a answer b. ShutsItem S.Item.shuts a.running.item a answer b × (waits_left S.flow S.Item.meaning a.running ≤ stream_waits S.flow S.Item.meaning a.begun) };
+    ghost shuts = { λ a answer b. ShutsItem S.Item.shuts a.running.item a answer b
+        × (waits_left S.flow S.Item.meaning a.running ≤ stream_waits S.flow S.Item.meaning a.begun) };
 
     // Sources that are still to come are not there to be shut down.
     fn poll_shutdown(&mut self) -> Poll<()> {

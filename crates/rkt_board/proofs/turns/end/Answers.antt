@@ -7,7 +7,7 @@ pub push_reserved-requires : goal.push_reserved-requires
 push_reserved-requires g c =
     let some = opens_one _ _ _ _ c.args.board.now c.args.by c.args.number _ c.requires.keeps c.requires.opened in
     let room = room_some _ _ _ _ c.args.board.now c.requires.keeps some in
-    omega (arith, room, c.args.board.now.book.marks.ok.0)
+    omega (arith, room, c.args.board.now.log.records.ok.0)
 
 pub overflow_sub-board : goal.overflow_sub-board
 overflow_sub-board g c = let some = opens_one _ _ _ _ c.args.board.now c.args.by c.args.number _ c.requires.keeps c.requires.opened in omega (arith, some)

@@ -1,12 +1,5 @@
-use Rattle.rkt_board.proofs.Holding.{tells_this}
-use Rattle.rkt_board.proofs.Keeping.{keeps_join, keeps_clock, with_handle}
-use Rattle.rkt_board.proofs.Tripping.{stays_open}
+use Rattle.rkt_board.proofs.Keeping.{keeps_join}
 use Rattle.rkt_board.proofs.turns.rejoin.Goals as goal
 
-pub note_trip-requires-clause-keeps : goal.note_trip-requires-clause-keeps
-note_trip-requires-clause-keeps g c =
-    let joined = keeps_join _ _ _ _ c.args.board.now c.args.handle c.rejoin.new.self c.requires.keeps c.rejoin.ensures.wire c.rejoin.ensures.looked c.rejoin.ensures.again in
-    keeps_clock _ _ _ _ (with_handle c.args.board.now c.rejoin.new.self) c.now-moment.new.self joined (tells_this _ _ _ c.now-moment.ensures.rises c.now-moment.ensures.last)
-
-pub returns-clause-stays : goal.returns-clause-stays
-returns-clause-stays g c = stays_open g.L.Link.Link.meaning _ _ c.args.by c.note_trip.ensures.adds
+pub returns-clause-keeps : goal.returns-clause-keeps
+returns-clause-keeps g c = keeps_join _ _ _ _ c.args.board.now c.args.handle c.rejoin.new.self c.requires.keeps c.rejoin.ensures.wire c.rejoin.ensures.looked c.rejoin.ensures.again

@@ -11,8 +11,8 @@ trip-requires-clause-keeps g c = keeps_look _ _ _ _ c.args.board.now c.now-momen
 
 pub returns-in-Some-clause-handle : goal.returns-in-Some-clause-handle
 returns-in-Some-clause-handle g c =
-    subst (λ h. HandsBack c.args.board.now.near.handle h) (sym c.trip.ensures.same.1) (looked_back _ _ c.tripped.ensures.wire c.tripped.ensures.again c.tripped.ensures.load)
+    subst (λ h. HandsBack c.args.board.now.outside.handle h) (sym c.trip.ensures.same.1) (looked_back _ _ c.tripped.ensures.wire c.tripped.ensures.again c.tripped.ensures.load)
 
 pub returns-in-None-clause-handle : goal.returns-in-None-clause-handle
 returns-in-None-clause-handle g c =
-    subst (λ h. HandsBack c.args.board.now.near.handle h) (sym c.admit.ensures.same.1) (looked_back _ _ c.tripped.ensures.wire c.tripped.ensures.again c.tripped.ensures.load)
+    subst (λ h. HandsBack c.args.board.now.outside.handle h) (sym c.admit.ensures.same.1) (looked_back _ _ c.tripped.ensures.wire c.tripped.ensures.again c.tripped.ensures.load)

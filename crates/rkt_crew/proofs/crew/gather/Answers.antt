@@ -1,3 +1,4 @@
+use Rattle.std.specs.Prelude.{IfSome, Some}
 use Rattle.std.proofs.Common.{rules, ◌≡◌, ◌++◌, ◌∷◌, [], option_to_list, map, append_assoc, sym, ap, ◌∙◌}
 use Rattle.std.proofs.lemmas.List.{map-append, nil_from_length}
 use Rattle.std.proofs.lemmas.List.Elements.{All-nil, All-pop, All-push, All-same}
@@ -24,12 +25,12 @@ loop-post-preserved g c =
       search rules,
       hands_back_more _ _ _ kept.6 took.handle,
       λ last hands all. kept.7 last (hands_back_more _ _ _ took.handle hands)
-          (All-same (HasSeenOf last) _ _ items (All-push (HasSeenOf last) left post all (λ some. seen_still c.take_back.new.handle last post.handle.seen took.word hands some))),
+          (All-same (HasSeenOf (Some last)) _ _ items (All-push (HasSeenOf (Some last)) left post all (seen_still c.take_back.new.handle last post.handle took.word hands))),
       (All-pop (λ p. IsPassOf c.args.lock.now p.pass × IsIdle p.pass) c.loop-post.posts.items left c.pop.result c.pop.ensures.items kept.8).0,
-      (All-pop (λ p. p.handle.wire ≡ c.args.handle.now.wire) c.loop-post.posts.items left c.pop.result c.pop.ensures.items kept.9).0,
+      (All-pop (λ p. IfSome p.handle (λ theirs. theirs.wire ≡ c.args.handle.now.wire)) c.loop-post.posts.items left c.pop.result c.pop.ensures.items kept.9).0,
     )
 
 pub returns-clause-words : goal.returns-clause-words
 returns-clause-words g c =
     let none : c.loop-post.posts.items ≡ [] = nil_from_length c.loop-post.posts.items (search rules) in
-    c.loop-post.invariant.7 c.loop-post.handle (hands_back_same c.loop-post.handle) (All-same (HasSeenOf c.loop-post.handle) c.loop-post.posts.items [] none (All-nil (HasSeenOf c.loop-post.handle)))
+    c.loop-post.invariant.7 c.loop-post.handle (hands_back_same c.loop-post.handle) (All-same (HasSeenOf (Some c.loop-post.handle)) c.loop-post.posts.items [] none (All-nil (HasSeenOf (Some c.loop-post.handle))))

@@ -1,6 +1,8 @@
+use Rattle.std.specs.Prelude.{None, Some}
 use Rattle.std.proofs.Common.{rules, arith, ◌≡◌, ◌≤◌, ◌<◌, ◌+◌, ℕ, vec_len, sym, refl, ap, ◌∙◌, subst}
 use Rattle.std.proofs.lemmas.List.Elements.{All-push, All-same}
 use Rattle.rkt_crew.specs.Crew.{IsMade, IsPostNumber}
+use Rattle.rkt_turn.specs.Known.{last_number}
 use Rattle.rkt_turn.specs.Pass.{known}
 use Rattle.rkt_crew.specs.declared.post.Post.{Post}
 use Rattle.rkt_crew.proofs.Crews.{post_number, drew_some, drew_most}
@@ -12,7 +14,7 @@ loop-posts-preserved g c =
     let begun = known c.args.first.now in
     let drawn = c.split-pass.ensures in
     let Made : Post g.row.S.Denot g.row.W.Denot g.row.R.Denot g.row.S-Name.Denot g.row.S-Entry.Denot → Type 0 = IsMade c.args.lock.now c.args.handle.now c.args.count begun in
-    let post : Post g.row.S.Denot g.row.W.Denot g.row.R.Denot g.row.S-Name.Denot g.row.S-Entry.Denot = record { rt = c.args.rt; lock = c.args.lock; pass = c.split-pass.result; handle = c.in-Ok.handle } in
+    let post : Post g.row.S.Denot g.row.W.Denot g.row.R.Denot g.row.S-Name.Denot g.row.S-Entry.Denot = record { rt = c.args.rt; lock = c.args.lock; pass = c.split-pass.result; handle = Some c.in-Ok.handle; moment = 0; trip = None } in
     let n : ℕ = vec_len c.loop-posts.posts in
     let m : ℕ = vec_len c.push_reserved.new.self in
     let next : ℕ = (known c.loop-posts.first).next in
@@ -35,8 +37,11 @@ loop-posts-preserved g c =
             new = (drawn.own.1 ∙ kept.0.0, (ap (λ v. v.turn) drawn.another, ap (λ v. v.opened) drawn.another ∙ kept.0.2.1), ap (λ v. v.mine) drawn.another);
             name = ap (λ v. v.name) drawn.another ∙ kept.1;
             seen = ap (λ v. v.seen) drawn.another ∙ kept.3;
-            handle_is = c.in-Ok.ensures.copy ∙ kept.6;
+            handle_is = ap (λ h. Some h) (c.in-Ok.ensures.copy ∙ kept.6);
+            moment = refl;
+            trip = refl;
             number = subst (IsPostNumber c.args.count) (sym (ap (λ v. v.number) drawn.another)) (post_number c.args.count n next kept.8 before less);
+            small = subst (λ (k : ℕ). k < last_number) (sym (ap (λ v. v.number) drawn.another)) (let x : ℕ = c.args.count in let f : x < last_number = c.requires.few in let q : next < last_number = omega (arith, before, less, f) in q);
           })),
       subst (λ (k : ℕ). 0 < k) (sym (ap (λ v. v.next) drawn.view)) (drew_some (known c.loop-posts.first)),
       most,

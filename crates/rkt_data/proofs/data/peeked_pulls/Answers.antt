@@ -1,4 +1,4 @@
-use Rattle.rkt_data.proofs.Taps.{peeked_pulls}
+use Rattle.rkt_data.proofs.CountedSources.{peeked_pulls}
 use Rattle.rkt_data.proofs.data.peeked_pulls.Goals as goal
 
 pub returns : goal.returns

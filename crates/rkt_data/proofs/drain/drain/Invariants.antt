@@ -1,5 +1,5 @@
 use Rattle.std.proofs.Common.{take, vec_len, ◌+◌, ◌≡◌, ◌≤◌}
-use Rattle.rkt_data.specs.Tap.{gave}
+use Rattle.rkt_data.specs.CountedSource.{gave}
 use Rattle.rkt_data.specs.Gathering.{Draws}
 use Rattle.rkt_data.proofs.drain.drain.Given as goal
 

@@ -1,7 +1,7 @@
 use Rattle.std.proofs.Common.{Ok, Err}
 use Rattle.rkt_base.specs.declared.poll.Poll.TheVariants.{Ready, Pending}
 use Rattle.rkt_data.proofs.Drains.{Draws-closed, Follows-trans}
-use Rattle.rkt_data.proofs.Taps.{ByGate-caused}
+use Rattle.rkt_data.proofs.CountedSources.{ByGate-caused}
 use Rattle.rkt_data.proofs.into_bytes.finish.Goals as goal
 
 pub returns-in-Failed-clause-by_gate : goal.returns-in-Failed-clause-by_gate

@@ -17,10 +17,10 @@ pub returns-in-Err-NoMemory-clause-memory_usage : goal.returns-in-Err-NoMemory-c
 returns-in-Err-NoMemory-clause-memory_usage g c six none = inl refl
 
 pub returns-in-Err-Refused-clause-reads_on : goal.returns-in-Err-Refused-clause-reads_on
-returns-in-Err-Refused-clause-reads_on g c other = ReadsOn.none
+returns-in-Err-Refused-clause-reads_on g c other = inl ReadsOn.none
 
 pub returns-in-Err-NoMemory-clause-reads_on : goal.returns-in-Err-NoMemory-clause-reads_on
-returns-in-Err-NoMemory-clause-reads_on g c other = ReadsOn.none
+returns-in-Err-NoMemory-clause-reads_on g c other = inl ReadsOn.none
 
 pub returns-in-Err-NoMemory-clause-memory_text : goal.returns-in-Err-NoMemory-clause-memory_text
 returns-in-Err-NoMemory-clause-memory_text g c six command = inl refl

@@ -35,4 +35,4 @@ returns-in-Ok-launch-clause-window g c = rw c.into_served.ensures.clock c.in-Ok-
 pub want_of-requires : goal.want_of-requires
 want_of-requires g c =
     let failed = c.in-Err.ensures.complete tt c.in-Ok.ensures.sound in
-    is_want _ _ g.Q.StopReason.stop_word (g.C.Clock.meaning c.args.clock).window failed.0 failed.1
+    is_want _ _ _ g.Q.StopReason.stop_word (g.C.Clock.meaning c.args.clock).window failed.0 failed.1

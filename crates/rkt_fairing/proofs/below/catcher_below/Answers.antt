@@ -3,7 +3,7 @@ use Rattle.std.specs.Prelude.{string_bytes}
 use Rattle.rkt_uri.specs.Origin.{IsOrigin}
 use Rattle.rkt_uri.specs.declared.origin_place.Profile.TheVariants.{Request}
 use Rattle.rkt_fairing.proofs.Moved.{moved_catcher, was_refused}
-use Rattle.rkt_fairing.proofs.Stands.{stands_behind}
+use Rattle.rkt_fairing.proofs.Invariant.{stands_behind}
 use Rattle.rkt_fairing.proofs.below.catcher_below.Goals as goal
 
 pub returns-in-Ok : goal.returns-in-Ok

@@ -1,7 +1,7 @@
 use Rattle.std.proofs.Common.{inl, ◌<◌, ◌∙◌, length, sym, arith}
 use Rattle.std.proofs.lemmas.Bool.{eqb-false}
-use Rattle.rkt_data.specs.Tap.{Polls}
-use Rattle.rkt_data.proofs.Taps.{PollsTo-read}
+use Rattle.rkt_data.specs.CountedSource.{Polls}
+use Rattle.rkt_data.proofs.CountedSources.{PollsTo-read}
 use Rattle.rkt_message.proofs.content.poll_stream.Goals as goal
 
 pub returns-then-is_empty-clause-by_gate : goal.returns-then-is_empty-clause-by_gate

@@ -1,5 +1,5 @@
 use Rattle.std.proofs.Common.{length, take, ◌-◌, ◌≤◌}
-use Rattle.rkt_data.specs.Tap.{gave}
+use Rattle.rkt_data.specs.CountedSource.{gave}
 use Rattle.rkt_message.specs.Whole.{Draws}
 use Rattle.rkt_message.proofs.drain.pour.Given as goal
 

@@ -21,7 +21,7 @@ loop-block-preserved g c =
     let given = take c.in_ok-count.count c.read_block.new.block in
     let items : c.extend_from_slice.new.self.items ≡ c.loop-block.all.items ++ given = c.in_ok-extend_from_slice.ensures.items in
     let within : length (c.loop-block.all.items ++ given) ≤ c.args.most = grind (arith, common_steps, c.in_ok-count.ensures.within, c.min-room.ensures, c.read_block.auto.block) in
-    (rw items (reads_more before (g.S.Source.meaning c.loop-block.source) after c.loop-block.all.items given c.loop-block.invariant.0 c.in_ok-count.ensures.reads), rw items within, c.loop-block.invariant.2, ReadsOn.more c.loop-block.invariant.3 c.in_ok-count.ensures.polled)
+    (rw items (reads_more before (g.S.Source.meaning c.loop-block.source) after c.loop-block.all.items given c.loop-block.invariant.0 c.in_ok-count.ensures.reads), rw items within, c.loop-block.invariant.2, ReadsOn.more c.loop-block.invariant.3 (omega (arith, c.if-count-eq0.false)) c.in_ok-count.ensures.polled)
 
 pub loop-block-init : goal.loop-block-init
 loop-block-init g c = rw c.new-all.ensures.items (record { whole = refl; next = λ w is. refl; taken = omega arith; faults = omega arith; unwarned = c.requires }, omega arith, c.in_ok-block.ensures, ReadsOn.none)
@@ -30,11 +30,14 @@ pub returns-in_err-block-clause-polled : goal.returns-in_err-block-clause-polled
 returns-in_err-block-clause-polled g c = no_memory_reads g.S.Source.polled GATE c.from_residual.result _ _ c.from_residual.ensures.1 ReadsOn.none
 
 pub returns-then-count-eq0-clause-polled : goal.returns-then-count-eq0-clause-polled
-returns-then-count-eq0-clause-polled g c = ReadsOn.more c.loop-block.invariant.3 c.in_ok-count.ensures.polled
+returns-then-count-eq0-clause-polled g c = inr (_, c.loop-block.invariant.3, rw c.if-count-eq0.true at c.in_ok-count.ensures.polled)
+
+pub returns-clause-polled : goal.returns-clause-polled
+returns-clause-polled g c = inl c.loop-block.invariant.3
 
 pub returns-in_err-extend_from_slice-clause-polled : goal.returns-in_err-extend_from_slice-clause-polled
 returns-in_err-extend_from_slice-clause-polled g c =
-    no_memory_reads g.S.Source.polled GATE c.from_residual-in_err-extend_from_slice.result _ _ c.from_residual-in_err-extend_from_slice.ensures.1 (ReadsOn.more c.loop-block.invariant.3 c.in_ok-count.ensures.polled)
+    no_memory_reads g.S.Source.polled GATE c.from_residual-in_err-extend_from_slice.result _ _ c.from_residual-in_err-extend_from_slice.ensures.1 (ReadsOn.more c.loop-block.invariant.3 (omega (arith, c.if-count-eq0.false)) c.in_ok-count.ensures.polled)
 
 pub returns-in_err-extend_from_slice-clause-bound : goal.returns-in_err-extend_from_slice-clause-bound
 returns-in_err-extend_from_slice-clause-bound g c =

@@ -2,8 +2,8 @@ use Rattle.std.proofs.Common.{ap}
 use Rattle.rkt_serve.proofs.Lighting.{if_failed}
 use Rattle.rkt_serve.proofs.launch.begin.Goals as goal
 
-pub returns-in_err-book : goal.returns-in_err-book
-returns-in_err-book g c =
+pub returns-in_err-log : goal.returns-in_err-log
+returns-in_err-log g c =
     let answer = c.from_residual.result in
     let failed = c.from_residual.ensures.0 in
     record {
@@ -59,7 +59,7 @@ returns-in_err-calls g c =
     }
 
 pub returns-clause-blank : goal.returns-clause-blank
-returns-clause-blank g c = c.in_ok-book.ensures
+returns-clause-blank g c = c.in_ok-log.ensures
 
 pub returns-clause-empty : goal.returns-clause-empty
 returns-clause-empty g c = c.in_ok-room.ensures.empty

@@ -22,4 +22,4 @@ pub returns-then-board-clause-trips : goal.returns-then-board-clause-trips
 returns-then-board-clause-trips g c = down_same _ c.shut_down-calls.result _ _ c.down.result c.down.ensures.adds
 
 pub returns-then-board-clause-handle : goal.returns-then-board-clause-handle
-returns-then-board-clause-handle g c = ap (λ n. n.handle) c.down.ensures.near
+returns-then-board-clause-handle g c = ap (λ n. n.handle) c.down.ensures.outside

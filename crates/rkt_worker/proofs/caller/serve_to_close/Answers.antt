@@ -1,9 +1,9 @@
-use Rattle.std.proofs.Common.{◌≡◌, ◌<◌, ◌≤◌, ◌+◌, ◌∙◌, Some, true, ap, sym, subst}
+use Rattle.std.proofs.Common.{◌≡◌, ◌<◌, ◌≤◌, ◌+◌, ◌∙◌, ℕ, Option, Some, true, ap, sym, subst}
 use Rattle.std.specs.Prelude.{IfSome}
 use Rattle.std.specs.List.{list_any}
 use Rattle.rkt_board.specs.Events.{admitted, is_trip}
 use Rattle.rkt_worker.specs.Headline.{IsLegal}
-use Rattle.rkt_worker.specs.Serving.{serving}
+use Rattle.rkt_worker.specs.Serving.{launching, serving}
 use Rattle.rkt_worker.proofs.Closing.{legal_of}
 use Rattle.rkt_worker.proofs.Resting.{rest_lift}
 use Rattle.rkt_worker.proofs.caller.serve_to_close.Goals as goal
@@ -25,9 +25,11 @@ returns-clause-legal g c =
     let over = c.finish-closed.ensures in
     let given = (g.L.Listener.meaning c.finish-closed.result.listener).given in
     let events = c.finish-closed.result.history.events in
-    subst (λ q. IsLegal g.A.Reason.Reason.allowed g.A.Fairing.Shuts.ShutdownCallback.calling (serving g.A-Fairing-Requests-RequestCallback.calling g.A.Fairing.Responses.ResponseCallback.calling g.A-Handler-Handler.calling g.A.Catch.CatchHandler.calling g.A.Source.Source.meaning g.A.Stream.Source.meaning g.L.Link.Link.meaning (g.C.Clock.meaning q).window) c.args.tables.now given events) clock
-    (subst (λ ts. IsLegal g.A.Reason.Reason.allowed g.A.Fairing.Shuts.ShutdownCallback.calling (serving g.A-Fairing-Requests-RequestCallback.calling g.A.Fairing.Responses.ResponseCallback.calling g.A-Handler-Handler.calling g.A.Catch.CatchHandler.calling g.A.Source.Source.meaning g.A.Stream.Source.meaning g.L.Link.Link.meaning (g.C.Clock.meaning c.bring_to_close.new.board.name.clock.value).window) ts given events) tables
-    (legal_of g.A.Reason.Reason.allowed g.A.Fairing.Shuts.ShutdownCallback.calling (serving g.A-Fairing-Requests-RequestCallback.calling g.A.Fairing.Responses.ResponseCallback.calling g.A-Handler-Handler.calling g.A.Catch.CatchHandler.calling g.A.Source.Source.meaning g.A.Stream.Source.meaning g.L.Link.Link.meaning (g.C.Clock.meaning c.bring_to_close.new.board.name.clock.value).window) c.bring_to_close.new.board.name.served.tables.value given events _
+    let launches = λ (w : Option (ℕ × ℕ)). launching g.A.Reason.Reason.allowed g.A.Fairing.Shuts.ShutdownCallback.calling
+    (serving g.A-Fairing-Requests-RequestCallback.calling g.A.Fairing.Responses.ResponseCallback.calling g.A-Handler-Handler.calling g.A.Catch.CatchHandler.calling g.A.Source.Source.meaning g.A.Stream.Source.meaning g.L.Link.Link.meaning w) in
+    subst (λ q. IsLegal (launches (g.C.Clock.meaning q).window) c.args.tables.now given events) clock
+    (subst (λ ts. IsLegal (launches (g.C.Clock.meaning c.bring_to_close.new.board.name.clock.value).window) ts given events) tables
+    (legal_of (launches (g.C.Clock.meaning c.bring_to_close.new.board.name.clock.value).window) c.bring_to_close.new.board.name.served.tables.value given events _
     over.ordered over.closed over.caused over.ends over.entries over.requests over.moments c.bring_to_close.ensures.callers over.history))
 
 pub returns-clause-still : goal.returns-clause-still
@@ -62,7 +64,7 @@ returns-clause-looked g c =
 pub returns-clause-tripped : goal.returns-clause-tripped
 returns-clause-tripped g c some =
     let over = c.finish-closed.ensures in
-    let handle = over.near.2 ∙ (c.bring_to_close.ensures.handle ∙ c.bring_down.ensures.handle) in
+    let handle = over.outside.2 ∙ (c.bring_to_close.ensures.handle ∙ c.bring_down.ensures.handle) in
     let trips = ap (list_any is_trip) over.history ∙ (c.bring_to_close.ensures.trips ∙ c.bring_down.ensures.trips) in
     trips ∙ c.work-back.ensures.tripped (subst (λ h. 0 < h.seen) handle some)
 

@@ -1,5 +1,5 @@
 use Rattle.std.proofs.Common.{◌≡◌, ℕ}
-use Rattle.rkt_cancel.specs.declared.stage.Stage.TheVariants.{Mercy}
+use Rattle.rkt_source.specs.declared.stage.Stage.TheVariants.{Mercy}
 use Rattle.rkt_worker.proofs.sending.shut_down.Given as goal
 
 -- it is past its grace still

@@ -7,6 +7,7 @@ returns-clause-gate c = record {
   last = refl;
   within = λ w is. absurd (cc is);
   grace = refl;
+  mercy = refl;
   trip = λ word is.
       let told = c.word_by.ensures word is in (
         ((1, told.0), ap (λ (t : Option ℕ). option_map (λ at. (1, at)) t) told.1, told.2),

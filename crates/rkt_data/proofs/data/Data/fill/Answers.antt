@@ -1,8 +1,8 @@
 use Rattle.std.proofs.Common.{◌≡◌, ◌<◌, false, take, length, length-take, le_of_eq, arith, rules}
 use Rattle.std.proofs.lemmas.List.{with_items_is}
 use Rattle.rkt_data.specs.Body.{EndSeen}
-use Rattle.rkt_data.specs.Tap.{tapped}
-use Rattle.rkt_data.proofs.Taps.{Peeked-topped, PeeksByGate-alone, PeeksByGate-stopped, is_end}
+use Rattle.rkt_data.specs.CountedSource.{tapped}
+use Rattle.rkt_data.proofs.CountedSources.{Peeked-topped, PeeksByGate-alone, PeeksByGate-stopped, is_end}
 use Rattle.rkt_data.proofs.data.Data.fill.Goals as goal
 
 pub returns-then-self-clause-by_gate : goal.returns-then-self-clause-by_gate

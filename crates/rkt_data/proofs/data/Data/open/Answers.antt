@@ -1,4 +1,4 @@
-use Rattle.rkt_data.proofs.Taps.{opened_drawn}
+use Rattle.rkt_data.proofs.CountedSources.{opened_drawn}
 use Rattle.rkt_data.proofs.data.Data.open.Goals as goal
 
 pub new-requires-clause-drawn : goal.new-requires-clause-drawn

@@ -2,7 +2,7 @@ use Rattle.std.proofs.Common.{◌≡◌, ◌≤◌, ◌∙◌, Ok, Err, false, l
 use Rattle.rkt_base.specs.declared.poll.Poll.TheVariants.{Ready, Pending}
 use Rattle.std.specs.Prelude.{string_bytes}
 use Rattle.rkt_data.proofs.Drains.{Draws-closed, Follows-trans, Gathered-drawn, Gathered-same, IsUsedUp-same, Completes-gathered, whole_same}
-use Rattle.rkt_data.proofs.Taps.{ByGate-caused, TapErrs-after}
+use Rattle.rkt_data.proofs.CountedSources.{ByGate-caused, TapErrs-after}
 use Rattle.rkt_data.proofs.TextLemmas.{resumed_bytes, TextErr-failed, TextErr-closed}
 use Rattle.rkt_data.proofs.into_string.IntoString.poll.Goals as goal
 

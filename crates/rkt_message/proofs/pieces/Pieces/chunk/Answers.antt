@@ -3,7 +3,7 @@ use Rattle.rkt_source.specs.Source.{Meaning}
 use Rattle.rkt_message.specs.Body.{preset_of}
 use Rattle.rkt_message.specs.Reading.{Follows}
 use Rattle.rkt_message.specs.Response.{ResponseOf}
-use Rattle.rkt_message.specs.Sending.{ReadsOnUnder, StandsAt, is_done}
+use Rattle.rkt_message.specs.Sending.{ReadsOnUnder, InvariantAt, is_done}
 use Rattle.rkt_message.specs.declared.piece.Piece.{Piece}
 use Rattle.rkt_message.specs.declared.stage.Stage.{Stage}
 use Rattle.rkt_message.specs.declared.stage.Stage.TheVariants as stage
@@ -35,7 +35,7 @@ returns-in-Refused-clause-by_gate g c = let asks = rw c.in-Refused.is at c.in-Ok
 pub invariant_of-self : goal.invariant_of-self
 invariant_of-self g c =
     let r = c.next_chunk.ensures in
-    let stands = subst (λ (p : ResponseOf _). StandsAt g.S.Source.meaning c.self.inside.stage p c.self.inside.begun.value c.self.inside.given) (sym c.in-Err.ensures.err) c.self.invariant.stands in
+    let stands = subst (λ (p : ResponseOf _). InvariantAt g.S.Source.meaning c.self.inside.stage p c.self.inside.begun.value c.self.inside.given) (sym c.in-Err.ensures.err) c.self.invariant.stands in
     sends_on _ _ _ _ _ _ _ _ _ _ _ _ c.self.invariant stands r.status r.headers r.follows r.preset c.self.invariant.below (waited_still _ _ _ _ _ r.follows.content c.self.invariant.waited)
 
 pub invariant_of-self-in-Bytes : goal.invariant_of-self-in-Bytes
@@ -48,8 +48,8 @@ invariant_of-self-in-Bytes g c =
     let reads = rw c.in-Bytes.is at c.in-Ok.ensures.reads in
     let completes = behind_head g.S.Source.meaning c.self.inside.stage c.self.inside.response c.self.inside.begun.value c.self.inside.given c.self.invariant.stands going some in
     let stands = chunk_stands g.S.Source.meaning c.self.inside.response c.next_chunk.new.response c.self.inside.begun.value c.self.inside.given c.in-Bytes.bytes completes r.follows.chunk reads in
-    let stands_now = subst (λ (x : Stage). StandsAt g.S.Source.meaning x c.next_chunk.new.response c.self.inside.begun.value c.give.new.given) (sym at)
-    (subst (λ (ps : List Piece). StandsAt g.S.Source.meaning stage.Body c.next_chunk.new.response c.self.inside.begun.value ps) (sym c.give.ensures.given) stands) in
+    let stands_now = subst (λ (x : Stage). InvariantAt g.S.Source.meaning x c.next_chunk.new.response c.self.inside.begun.value c.give.new.given) (sym at)
+    (subst (λ (ps : List Piece). InvariantAt g.S.Source.meaning stage.Body c.next_chunk.new.response c.self.inside.begun.value ps) (sym c.give.ensures.given) stands) in
     sends_on _ _ _ _ _ _ _ _ _ _ _ _ c.self.invariant stands_now r.status r.headers r.follows r.preset (omega arith) (never_waited g.S.Source.meaning _)
 
 pub invariant_of-self-in-End : goal.invariant_of-self-in-End
@@ -99,7 +99,7 @@ returns-in-Bytes-clause-answer g c =
     let reads = rw c.in-Bytes.is at c.in-Ok.ensures.reads in
     let completes = behind_head g.S.Source.meaning c.self.inside.stage c.self.inside.response c.self.inside.begun.value c.self.inside.given c.self.invariant.stands going some in
     let stands = chunk_stands g.S.Source.meaning c.self.inside.response c.next_chunk.new.response c.self.inside.begun.value c.self.inside.given c.in-Bytes.bytes completes r.follows.chunk reads in
-    let stands_now = subst (λ (ps : List Piece). StandsAt g.S.Source.meaning stage.Body c.next_chunk.new.response c.self.inside.begun.value ps) (sym c.give.ensures.given) stands in
+    let stands_now = subst (λ (ps : List Piece). InvariantAt g.S.Source.meaning stage.Body c.next_chunk.new.response c.self.inside.begun.value ps) (sym c.give.ensures.given) stands in
     rw (c.give.ensures.answer, ← c.self.view_is) (gives_chunk _ _ _ _ some c.give.ensures.given going refl (rw r.follows.chunk c.self.invariant.chunk) reads stands_now)
 
 pub returns-in-End-clause-answer : goal.returns-in-End-clause-answer

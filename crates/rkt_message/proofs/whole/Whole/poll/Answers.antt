@@ -1,4 +1,4 @@
-use Rattle.rkt_data.specs.Tap.{ended}
+use Rattle.rkt_data.specs.CountedSource.{ended}
 use Rattle.rkt_message.proofs.Readings.{ByGate-resized}
 use Rattle.rkt_message.proofs.whole.Whole.poll.Goals as goal
 

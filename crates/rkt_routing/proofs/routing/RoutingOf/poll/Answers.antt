@@ -2,7 +2,7 @@ use Rattle.std.proofs.Common.{◌∙◌, ap, refl}
 use Rattle.rkt_router.specs.CallLaws.{any_gate_fits}
 use Rattle.rkt_router.specs.Calls.{any_gate}
 use Rattle.rkt_routing.specs.Relations.{relations}
-use Rattle.rkt_routing.specs.Stands.{IsStep}
+use Rattle.rkt_routing.specs.Invariant.{IsStep}
 use Rattle.rkt_routing.proofs.Endings.{ends_found, moves_wait, stands_under, waits_stand}
 use Rattle.rkt_routing.proofs.Routes.{trying_makes, trying_turned, trying_within}
 use Rattle.rkt_routing.proofs.Statuses.{catching_makes, catching_turned}

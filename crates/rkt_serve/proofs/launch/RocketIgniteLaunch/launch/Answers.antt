@@ -3,7 +3,7 @@ use Rattle.std.proofs.lemmas.Result.{IfErr-weaker, IfOk-weaker}
 use Rattle.rkt_board.proofs.Core.{tripped_word}
 use Rattle.std.specs.List.{list_any}
 use Rattle.rkt_board.specs.Events.{is_trip, trip_of}
-use Rattle.rkt_worker.specs.Serving.{serving}
+use Rattle.rkt_worker.specs.Serving.{launching, serving}
 use Rattle.rkt_serve.proofs.Handles.{seen_on, seen_tripped}
 use Rattle.rkt_serve.proofs.Lifting.{lifted_off}
 use Rattle.rkt_serve.proofs.Launching.{back_to, if_both, left_abandoned, left_back, left_goes_on, left_legal, left_offers, left_over, left_none_abandoned, left_settled, left_shut, left_sound, left_still, left_window, left_word, never_failed, same_wire, unlit_lit, gives_lit}
@@ -39,6 +39,8 @@ returns g c =
     let shown = subst (λ x. 0 < x.handle.seen → list_any is_trip x.history.events ≡ true) (sym joined.2) shows in
     let tripped = c.answered.ensures.tripped shown in
     let kept_tripped = c.answered.ensures.kept_tripped shown in
+    let launch = launching g.A.Reason.Reason.allowed g.A.Fairing.Shuts.ShutdownCallback.calling
+    (serving g.A-Fairing-Requests-RequestCallback.calling g.A.Fairing.Responses.ResponseCallback.calling g.A-Handler-Handler.calling g.A.Catch.CatchHandler.calling g.A.Source.Source.meaning g.A.Stream.Source.meaning g.L.Link.Link.meaning (g.C.Clock.meaning c.args.clock).window) in
     record {
       tripped = tripped;
       kept_tripped = kept_tripped;
@@ -62,20 +64,20 @@ returns g c =
       kept_word = IfErr-weaker c.answered.result _ _ (if_kept _ _ (λ l is. left_word tables table closed l is above known.word)) kept;
       still = IfOk-weaker c.answered.result _ _ (λ l is. left_still tables table closed l is still) ok;
       kept_still = IfErr-weaker c.answered.result _ _ (if_kept _ _ (λ l is. left_still tables table closed l is still)) kept;
-      ordered = IfOk-weaker c.answered.result _ _ (λ l is. (left_legal g.A.Reason.Reason.allowed g.A.Fairing.Shuts.ShutdownCallback.calling (serving g.A-Fairing-Requests-RequestCallback.calling g.A.Fairing.Responses.ResponseCallback.calling g.A-Handler-Handler.calling g.A.Catch.CatchHandler.calling g.A.Source.Source.meaning g.A.Stream.Source.meaning g.L.Link.Link.meaning (g.C.Clock.meaning c.args.clock).window) g.L.Listener.meaning tables table closed l is known.legal).ordered) ok;
-      caused = IfOk-weaker c.answered.result _ _ (λ l is. (left_legal g.A.Reason.Reason.allowed g.A.Fairing.Shuts.ShutdownCallback.calling (serving g.A-Fairing-Requests-RequestCallback.calling g.A.Fairing.Responses.ResponseCallback.calling g.A-Handler-Handler.calling g.A.Catch.CatchHandler.calling g.A.Source.Source.meaning g.A.Stream.Source.meaning g.L.Link.Link.meaning (g.C.Clock.meaning c.args.clock).window) g.L.Listener.meaning tables table closed l is known.legal).caused) ok;
-      closed = IfOk-weaker c.answered.result _ _ (λ l is. (left_legal g.A.Reason.Reason.allowed g.A.Fairing.Shuts.ShutdownCallback.calling (serving g.A-Fairing-Requests-RequestCallback.calling g.A.Fairing.Responses.ResponseCallback.calling g.A-Handler-Handler.calling g.A.Catch.CatchHandler.calling g.A.Source.Source.meaning g.A.Stream.Source.meaning g.L.Link.Link.meaning (g.C.Clock.meaning c.args.clock).window) g.L.Listener.meaning tables table closed l is known.legal).closed) ok;
-      requests = IfOk-weaker c.answered.result _ _ (λ l is. (left_legal g.A.Reason.Reason.allowed g.A.Fairing.Shuts.ShutdownCallback.calling (serving g.A-Fairing-Requests-RequestCallback.calling g.A.Fairing.Responses.ResponseCallback.calling g.A-Handler-Handler.calling g.A.Catch.CatchHandler.calling g.A.Source.Source.meaning g.A.Stream.Source.meaning g.L.Link.Link.meaning (g.C.Clock.meaning c.args.clock).window) g.L.Listener.meaning tables table closed l is known.legal).all_admitted) ok;
-      ends = IfOk-weaker c.answered.result _ _ (λ l is. (left_legal g.A.Reason.Reason.allowed g.A.Fairing.Shuts.ShutdownCallback.calling (serving g.A-Fairing-Requests-RequestCallback.calling g.A.Fairing.Responses.ResponseCallback.calling g.A-Handler-Handler.calling g.A.Catch.CatchHandler.calling g.A.Source.Source.meaning g.A.Stream.Source.meaning g.L.Link.Link.meaning (g.C.Clock.meaning c.args.clock).window) g.L.Listener.meaning tables table closed l is known.legal).once) ok;
-      entries = IfOk-weaker c.answered.result _ _ (λ l is. (left_legal g.A.Reason.Reason.allowed g.A.Fairing.Shuts.ShutdownCallback.calling (serving g.A-Fairing-Requests-RequestCallback.calling g.A.Fairing.Responses.ResponseCallback.calling g.A-Handler-Handler.calling g.A.Catch.CatchHandler.calling g.A.Source.Source.meaning g.A.Stream.Source.meaning g.L.Link.Link.meaning (g.C.Clock.meaning c.args.clock).window) g.L.Listener.meaning tables table closed l is known.legal).entries) ok;
-      moments = IfOk-weaker c.answered.result _ _ (λ l is. (left_legal g.A.Reason.Reason.allowed g.A.Fairing.Shuts.ShutdownCallback.calling (serving g.A-Fairing-Requests-RequestCallback.calling g.A.Fairing.Responses.ResponseCallback.calling g.A-Handler-Handler.calling g.A.Catch.CatchHandler.calling g.A.Source.Source.meaning g.A.Stream.Source.meaning g.L.Link.Link.meaning (g.C.Clock.meaning c.args.clock).window) g.L.Listener.meaning tables table closed l is known.legal).timed) ok;
-      callers = IfOk-weaker c.answered.result _ _ (λ l is. (left_legal g.A.Reason.Reason.allowed g.A.Fairing.Shuts.ShutdownCallback.calling (serving g.A-Fairing-Requests-RequestCallback.calling g.A.Fairing.Responses.ResponseCallback.calling g.A-Handler-Handler.calling g.A.Catch.CatchHandler.calling g.A.Source.Source.meaning g.A.Stream.Source.meaning g.L.Link.Link.meaning (g.C.Clock.meaning c.args.clock).window) g.L.Listener.meaning tables table closed l is known.legal).callers) ok;
-      kept_legal = IfErr-weaker c.answered.result _ _ (if_kept _ _ (λ l is. left_legal g.A.Reason.Reason.allowed g.A.Fairing.Shuts.ShutdownCallback.calling (serving g.A-Fairing-Requests-RequestCallback.calling g.A.Fairing.Responses.ResponseCallback.calling g.A-Handler-Handler.calling g.A.Catch.CatchHandler.calling g.A.Source.Source.meaning g.A.Stream.Source.meaning g.L.Link.Link.meaning (g.C.Clock.meaning c.args.clock).window) g.L.Listener.meaning tables table closed l is known.legal)) kept;
+      ordered = IfOk-weaker c.answered.result _ _ (λ l is. (left_legal launch g.L.Listener.meaning tables table closed l is known.legal).ordered) ok;
+      caused = IfOk-weaker c.answered.result _ _ (λ l is. (left_legal launch g.L.Listener.meaning tables table closed l is known.legal).caused) ok;
+      closed = IfOk-weaker c.answered.result _ _ (λ l is. (left_legal launch g.L.Listener.meaning tables table closed l is known.legal).closed) ok;
+      requests = IfOk-weaker c.answered.result _ _ (λ l is. (left_legal launch g.L.Listener.meaning tables table closed l is known.legal).all_admitted) ok;
+      ends = IfOk-weaker c.answered.result _ _ (λ l is. (left_legal launch g.L.Listener.meaning tables table closed l is known.legal).once) ok;
+      entries = IfOk-weaker c.answered.result _ _ (λ l is. (left_legal launch g.L.Listener.meaning tables table closed l is known.legal).entries) ok;
+      moments = IfOk-weaker c.answered.result _ _ (λ l is. (left_legal launch g.L.Listener.meaning tables table closed l is known.legal).timed) ok;
+      callers = IfOk-weaker c.answered.result _ _ (λ l is. (left_legal launch g.L.Listener.meaning tables table closed l is known.legal).callers) ok;
+      kept_legal = IfErr-weaker c.answered.result _ _ (if_kept _ _ (λ l is. left_legal launch g.L.Listener.meaning tables table closed l is known.legal)) kept;
       ended = if_both c.answered.result _ _ _ (λ l is over. left_over tables table closed l is g.L.Listener.meaning known.ended over) ok (rw joined.2 at c.answered.ensures.over);
       offers = if_both c.answered.result _ _ _ (λ l is over. left_offers tables table closed l is g.L.Listener.meaning (g.L.Listener.meaning c.args.listener).offers known.offers over) ok (rw joined.2 at c.answered.ensures.over);
       refused = IfErr-weaker c.answered.result _ _ (λ e lit. unlit_lit _ e lit) c.answered.ensures.lit;
       outside = IfErr-weaker c.answered.result _ _ (λ e lit. gives_lit c.args.listener c.args.clock e lit) c.answered.ensures.lit;
-      complete = λ valid never. lit_and _ c.answered.result c.answered.ensures.lit (if_shutdown _ _ _ (λ l is failed. left_abandoned g.A.Reason.Reason.allowed g.A.Fairing.Shuts.ShutdownCallback.calling (serving g.A-Fairing-Requests-RequestCallback.calling g.A.Fairing.Responses.ResponseCallback.calling g.A-Handler-Handler.calling g.A.Catch.CatchHandler.calling g.A.Source.Source.meaning g.A.Stream.Source.meaning g.L.Link.Link.meaning (g.C.Clock.meaning c.args.clock).window) tables table closed l is
+      complete = λ valid never. lit_and _ c.answered.result c.answered.ensures.lit (if_shutdown _ _ _ (λ l is failed. left_abandoned launch tables table closed l is
           (never_failed closed.faulted (g.L.Listener.meaning c.args.listener) (g.L.Listener.meaning closed.listener) known.sound never) known.legal.caused known.legal.timed failed) c.answered.result kept (rw joined.2 at c.answered.ensures.shutdown));
     }
 

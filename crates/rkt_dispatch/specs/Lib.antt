@@ -1,0 +1,2 @@
+pub mod Finalizing
+pub mod Overridden

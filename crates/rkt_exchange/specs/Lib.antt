@@ -1,0 +1,13 @@
+pub mod Answers
+pub mod Asks
+pub mod Beginning
+pub mod Chain
+pub mod Ended
+pub mod Finalized
+pub mod Invariant
+pub mod Lifecycle
+pub mod Peeks
+pub mod Recorded
+pub mod Relations
+pub mod Tables
+pub mod View
