@@ -112,7 +112,8 @@ list_of board = events board.log.records.items
 
 module _ {A C S K P L Q : Type 0} (links : K → LinkMeaning) (listeners : L → ListenerMeaning) (clocks : Q → ClockMeaning) where
   -- the listener, the clock and the handle against what was handed in, with what was entered meanwhile
-  pub record Holds (name : Initial A P L Q Handle) (outside : Outside L Q Handle) (records : List (RecordOf C S K)) : Type 0 where
+  pub record Holds (name : Initial A P L Q Handle) (outside : Outside L Q Handle)
+      (records : List (RecordOf C S K)) : Type 0 where
     pub wire : outside.handle.wire ≡ name.handle.value.wire
     pub word : list_any is_trip (events records) ≡ true → outside.handle.seen ≡ trip_word (events records)
     -- it was looked at the wire before each Admit
