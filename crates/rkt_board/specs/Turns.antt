@@ -23,7 +23,7 @@ use Rattle.rkt_source.specs.declared.source.Gate.{Gate}
 abbrev pub gate_with : ℕ → Option ℕ → ℕ → ℕ → Gate
 gate_with moment tripped grace mercy = record { moment = moment; tripped = tripped; grace = grace; mercy = mercy }
 
--- a link is admitted only where the listener had neither ended nor failed before
+-- a link is admitted only where a listener has neither ended nor failed
 abbrev pub AdmitsAs : {K : Type 0} → Bool → Bool → Stepped K → Type 0
 AdmitsAs over faulted (Given number moment link) = (over ≡ false) × (faulted ≡ false)
 AdmitsAs over faulted Tripped = Unit {0}

@@ -28,8 +28,9 @@ pub fn turn<A: Types, P: Served<A, L::Link>, L: Listener, C: Clock>(
     ensures name { board.new.name ≡ board.old.name }
     ensures turned { SteppedAs by board.old.log.records.items board.new.log.records.items result }
     ensures given { GivesAs L.Link.meaning board.new.log.records.items by (C.meaning board.new.outside.clock).last result }
-    // A link is given only where the listener had neither ended nor failed.
+    // A link is given only where the listener had neither ended nor failed, and has not in this turn.
     ensures admits { AdmitsAs board.old.outside.over board.old.outside.faulted result }
+    ensures faultless { AdmitsAs board.new.outside.over board.new.outside.faulted result }
     // It looks at the wire with one load, unless a word was seen before.
     ensures looked { board.old.outside.handle.seen ≡ 0 → board.new.outside.handle.looked ≡ board.old.outside.handle.looked + 1 }
     ensures handle { HandsBack board.old.outside.handle board.new.outside.handle }
@@ -59,6 +60,7 @@ fn trip<A: Types, P: Served<A, L::Link>, L: Listener, C: Clock>(
     ensures turned { SteppedAs by board.old.log.records.items board.new.log.records.items result }
     ensures given { GivesAs L.Link.meaning board.new.log.records.items by (C.meaning board.new.outside.clock).last result }
     ensures admits { AdmitsAs board.old.outside.over board.old.outside.faulted result }
+    ensures faultless { AdmitsAs board.new.outside.over board.new.outside.faulted result }
     ensures stops { StopsAs board.new.outside.handle.seen board.new.log.records.items result }
     ensures same { (board.new.outside.clock ≡ board.old.outside.clock) × (board.new.outside.handle ≡ board.old.outside.handle) }
     ensures keeps { Keeps L.Link.meaning L.meaning C.meaning P.cause board.new }
@@ -107,6 +109,7 @@ fn admit<A: Types, P: Served<A, L::Link>, L: Listener, C: Clock>(
     ensures turned { SteppedAs by board.old.log.records.items board.new.log.records.items result }
     ensures given { GivesAs L.Link.meaning board.new.log.records.items by (C.meaning board.new.outside.clock).last result }
     ensures admits { AdmitsAs board.old.outside.over board.old.outside.faulted result }
+    ensures faultless { AdmitsAs board.new.outside.over board.new.outside.faulted result }
     ensures stops { StopsAs board.new.outside.handle.seen board.new.log.records.items result }
     ensures same { (board.new.outside.clock ≡ board.old.outside.clock) × (board.new.outside.handle ≡ board.old.outside.handle) }
     ensures keeps { Keeps L.Link.meaning L.meaning C.meaning P.cause board.new }
